@@ -1,0 +1,100 @@
+ghost use Rattle.std.specs.Prelude.{◌≡◌, ◌≤◌, ◌↔◌, ◌⊎◌, [], Some, IsErr, IfOk, OnErr, length};
+ghost use Rattle.ce_io.specs.Memory.{FailsNext, write_len, after_write, after_failed_write};
+
+use crate::{Failed, Sink};
+use ce_model::NoMemory;
+use std::alloc::Global;
+use std::marker::Model;
+
+/// A sink in memory with room for so many bytes, which fails at the calls that it is told to fail at, and takes at
+/// most so many bytes a call.
+#[derive(Debug, Drop)]
+pub struct MemSink {
+    bytes: Vec<u8>,
+    room: usize,
+    fails: Vec<u64>,
+    calls: u64,
+    most: usize,
+    faults: u64,
+}
+
+impl Model for MemSink {
+    ghost use Rattle.std.specs.Prelude.{◌≤◌, vec_len, vec_capacity};
+    ghost use Rattle.ce_io.specs.Memory.{SinkState};
+
+    ghost Value = { SinkState };
+
+    ghost view = { λ sink. record {
+      script = record { fails = sink.fails.items; calls = sink.calls; most = sink.most };
+      written = sink.bytes.items;
+      room = sink.room;
+      faults = sink.faults;
+    } };
+
+    ghost invariant = { λ sink. (vec_len sink.bytes ≤ sink.room)
+        × (sink.room ≤ vec_capacity sink.bytes) × (1 ≤ sink.most) };
+}
+
+impl MemSink {
+    /// A sink with room for `room` bytes, which are reserved here, so that no write takes memory. Its calls of
+    /// `write` are numbered from 0 up to 2^64 - 1, where the number stands still. Those whose number is in `fails`,
+    /// in any order, fail, and so does each that finds no room left. Each other takes as many bytes as `most`, the
+    /// piece and the room left allow. `NoMemory`: the room can't be reserved.
+    pub fn new(
+        alloc: Global,
+        room: usize,
+        fails: Vec<u64>,
+        most: usize,
+    ) -> Result<MemSink, NoMemory>
+        requires { 1 ≤ most }
+        ensures written { IfOk result (λ sink. sink.written ≡ []) }
+        ensures faults { IfOk result (λ sink. sink.faults ≡ 0) }
+        ensures room { IfOk result (λ sink. sink.room ≡ room) }
+        ensures script { IfOk result (λ sink. sink.script
+            ≡ record { fails = fails.items; calls = 0; most = most }) }
+    {
+        let bytes = Vec::with_capacity(alloc, room)?;
+        Ok(MemSink {
+            bytes,
+            room,
+            fails,
+            calls: 0,
+            most,
+            faults: 0,
+        })
+    }
+
+    /// The bytes written so far.
+    pub fn bytes(&self) -> &[u8]
+        ensures { result.now ≡ self.now.written }
+    {
+        &self.bytes
+    }
+}
+
+impl Sink for MemSink {
+    ghost written = { λ sink. Some sink.written };
+
+    ghost faults = { λ sink. sink.faults };
+
+    fn write(&mut self, from: &[u8]) -> Result<usize, Failed>
+        // It fails exactly where its script says so or no room is left, and takes all that it may at each other call.
+        ensures failed { IsErr result
+            ↔ (FailsNext self.old.script ⊎ (self.old.room ≤ length self.old.written)) }
+        ensures err { OnErr result (self.new ≡ after_failed_write self.old) }
+        ensures ok { IfOk result (λ n. (n ≡ write_len self.old from.now)
+            × (self.new ≡ after_write self.old from.now n)) }
+        ensures most { 1 ≤ self.old.script.most }
+    {
+        let call = self.calls;
+        self.calls = call.saturating_add(1);
+        let free = self.room - self.bytes.len();
+        if free == 0 || self.fails.contains(&call) {
+            self.faults = self.faults.saturating_add(1);
+            return Err(Failed);
+        }
+        let count = from.len().min(free).min(self.most);
+        self.bytes.extend_from_slice(&from[..count]).unwrap();
+        Ok(count)
+    }
+}

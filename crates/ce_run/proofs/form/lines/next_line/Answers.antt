@@ -1,0 +1,8 @@
+use Rattle.std.proofs.Common.{arith}
+use Rattle.std.proofs.lemmas.Grind.{common_steps}
+use Rattle.ce_run.proofs.LineCuts.{lines_some}
+use Rattle.ce_run.proofs.form.lines.next_line.Goals as goal
+
+pub returns-in-Some-clause-lines : goal.returns-in-Some-clause-lines
+returns-in-Some-clause-lines c =
+    let cut = lines_some c.args.text.now c.in-Some.end (cc) in grind (arith, common_steps)

@@ -1,0 +1,19 @@
+use Rattle.std.specs.Prelude.{ℕ, List, [], ◌∷◌, ◌++◌, codes}
+use Rattle.ce_run.specs.declared.ended.Fault.{Fault}
+use Rattle.ce_run.specs.declared.ended.Fault.TheVariants.{NotBuilt, Usage, Read, Write, Memory}
+
+-- the exit status of a fault
+abbrev pub status_of : Fault → ℕ
+status_of NotBuilt = 1
+status_of Usage = 2
+status_of Read = 3
+status_of (Memory fault) = 4
+status_of Write = 5
+
+-- what is written about a fault
+abbrev pub line_of : Fault → List ℕ
+line_of NotBuilt = codes "ce: not built" ++ 10 ∷ []
+line_of Usage = codes "ce: usage: ce [--serial] [--load N]" ++ 10 ∷ []
+line_of Read = codes "ce: read fault" ++ 10 ∷ []
+line_of Write = codes "ce: write fault" ++ 10 ∷ []
+line_of (Memory fault) = codes "ce: no memory" ++ 10 ∷ []

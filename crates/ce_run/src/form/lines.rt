@@ -1,0 +1,52 @@
+//! Lines, and what stands in them.
+ghost use Rattle.std.specs.Prelude.{◌≡◌, ◌∷◌, [], MatchOption, ◌<◌, ◌==◌, length, position};
+ghost use Rattle.std.specs.Option.{option_copied};
+ghost use Rattle.ce_run.specs.Lines.{lines_of, words_of, after_prefix, before_suffix};
+
+/// The place of the first `byte`.
+fn position_of(byte: u8, text: &[u8]) -> Option<usize>
+    ensures { result ≡ position (λ b. b == byte) text.now }
+{
+    text.iter().position(|b| *b == byte)
+}
+
+/// The first line of a text, and what follows its line feed; none where the text is empty.
+#[tactic(auto, using(crate::proofs::LineCuts::lines_some, crate::proofs::LineCuts::lines_none))]
+pub(super) fn next_line(text: &[u8]) -> Option<(&[u8], &[u8])>
+    ensures lines { MatchOption result (lines_of text.now ≡ []) (λ found. lines_of text.now ≡ found.0.now ∷ lines_of found.1.now) }
+    ensures shorter { MatchOption result (text.now ≡ []) (λ found. length found.1.now < length text.now) }
+{
+    if text.is_empty() {
+        return None;
+    }
+    match position_of(b'\n', text) {
+        Some(end) => Some((&text[..end], &text[end + 1..])),
+        None => Some((text, &[])),
+    }
+}
+
+/// The first word of a line, and what follows the space behind it, where there is one.
+#[tactic(auto, using(crate::proofs::LineCuts::words_some, crate::proofs::LineCuts::words_none))]
+pub(super) fn next_word(line: &[u8]) -> (&[u8], Option<&[u8]>)
+    ensures words { MatchOption result.1 (words_of line.now ≡ result.0.now ∷ []) (λ rest. words_of line.now ≡ result.0.now ∷ words_of rest.now) }
+    ensures shorter { MatchOption result.1 (result.0.now ≡ line.now) (λ rest. length rest.now < length line.now) }
+{
+    match position_of(b' ', line) {
+        Some(end) => (&line[..end], Some(&line[end + 1..])),
+        None => (line, None),
+    }
+}
+
+/// What follows `prefix` in a line that begins with it.
+pub(super) fn after<'a>(prefix: &[u8], line: &'a [u8]) -> Option<&'a [u8]>
+    ensures { option_copied result ≡ after_prefix prefix.now line.now }
+{
+    line.strip_prefix(prefix)
+}
+
+/// What comes before `suffix` in a line that ends with it.
+pub(super) fn before<'a>(suffix: &[u8], line: &'a [u8]) -> Option<&'a [u8]>
+    ensures { option_copied result ≡ before_suffix suffix.now line.now }
+{
+    line.strip_suffix(suffix)
+}

@@ -1,0 +1,21 @@
+//! Runs a script: from the bytes of a source to the bytes of a report.
+#![tactic(auto)]
+
+mod ended;
+mod form;
+mod input;
+mod machine;
+mod name;
+mod output;
+mod process;
+mod program;
+mod record;
+mod report;
+mod session;
+#[cfg(test)]
+mod tests;
+
+pub use ended::{Ended, Fault, write_fault};
+pub use name::Name;
+pub use program::{serial_call, top};
+pub use record::{Answer, Command, Record, UserRecord};

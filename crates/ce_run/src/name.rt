@@ -1,0 +1,58 @@
+ghost use Rattle.std.specs.Prelude.{◌≡◌, IfOk, true};
+ghost use Rattle.std.specs.String.{string_bytes};
+ghost use Rattle.ce_run.specs.Words.{is_name};
+
+use ce_model::NoMemory;
+use std::alloc::Global;
+use std::marker::Model;
+
+/// A name of a user or an image: a letter and up to 15 letters, digits and `_`. Contracts see it as its bytes.
+#[derive(Debug, Drop)]
+pub struct Name {
+    text: String,
+}
+
+impl Model for Name {
+    ghost use Rattle.std.specs.Prelude.{List, ℕ};
+    ghost use Rattle.std.specs.String.{string_bytes};
+
+    ghost Value = { List ℕ };
+
+    ghost view = { λ name. string_bytes name.text };
+}
+
+impl Name {
+    /// The name of this text.
+    pub fn from_text(text: String) -> Name
+        ensures { result ≡ string_bytes text }
+    {
+        Name { text }
+    }
+
+    /// The name that these bytes spell.
+    pub(crate) fn of_bytes(alloc: Global, bytes: &[u8]) -> Result<Name, NoMemory>
+        requires { is_name bytes.now ≡ true }
+        ensures { IfOk result (λ name. name ≡ bytes.now) }
+    {
+        let mut text = String::with_capacity(alloc, bytes.len())?;
+        for byte in bytes {
+            text.push(char::from(*byte))?;
+        }
+        Ok(Name { text })
+    }
+
+    /// The name as text.
+    pub fn as_str(&self) -> &str
+        ensures { result.now ≡ self.now }
+    {
+        self.text.as_str()
+    }
+
+    /// The same name.
+    pub fn copy(&self, alloc: Global) -> Result<Name, NoMemory>
+        ensures { IfOk result (λ name. name ≡ self.now) }
+    {
+        let text = String::from_str(alloc, self.text.as_str())?;
+        Ok(Name { text })
+    }
+}

@@ -1,0 +1,204 @@
+//! The worked rows, each through `serial_call` over memory.
+ghost use Rattle.std.specs.Prelude.{◌≤◌};
+
+use super::*;
+use ce_gate::Open;
+use ce_io::{MemSink, MemSource};
+use std::alloc::Global;
+use std::test::Fail;
+
+const HELLO: &str =
+    "machine 0\nimage hello hex\n02A00513 00E00893 00000073 00D00893 00000073\nend\n\
+    user alice\ngetcube 0\nspawn hello 0 0\nrun 10\n";
+
+const HELLO_REPORT: &str =
+    "machine 0\nuser alice\ngetcube 0\n= granted mask 0 base 0\nspawn hello 0 0\n= ok\n\
+    run 10\n= quiet\ncube 0 user alice dim 0 mask 0 base 0\nhost spawn 0 hello 0.0 ok\nhost arm 10\n\
+    node 0 take 0 0 - start 0 hello\nnode 0 note 0 42\nnode 0 take 0 1 - idle\nhost look quiet\nend\n";
+
+/// What a line does to a script, over a source and a sink in memory.
+#[derive(Drop)]
+struct Ran {
+    status: u8,
+    written: Vec<u8>,
+}
+
+/// How the memory behaves: which calls fail, and how many bytes a call moves at most.
+#[derive(Clone, Copy)]
+struct Ends<'a> {
+    failing_read: &'a [u64],
+    failing_write: &'a [u64],
+    most: usize,
+}
+
+const SOUND: Ends<'static> = Ends {
+    failing_read: &[],
+    failing_write: &[],
+    most: 4096,
+};
+
+fn run_line(alloc: Global, word: &str, script: &[u8], ends: Ends) -> Result<Ran, Fail>
+    requires { 1 ≤ ends.most }
+{
+    let mut words = Vec::new(alloc);
+    words.push(String::from_str(alloc, word)?)?;
+    let bytes = Vec::from_slice(alloc, script)?;
+    let reads = Vec::from_slice(alloc, ends.failing_read)?;
+    let writes = Vec::from_slice(alloc, ends.failing_write)?;
+    let mut source = MemSource::new(bytes, reads, ends.most);
+    let mut sink = MemSink::new(alloc, 4096, writes, ends.most).map_err(|_| "no memory")?;
+    let ended = serial_call(alloc, words.as_slice(), &mut source, &mut sink);
+    let written = Vec::from_slice(alloc, sink.bytes())?;
+    Ok(Ran {
+        status: ended.status,
+        written,
+    })
+}
+
+fn run_script(alloc: Global, script: &str) -> Result<Ran, Fail> {
+    run_line(alloc, "--serial", script.as_bytes(), SOUND)
+}
+
+fn text(alloc: Global, parts: &[&str]) -> Result<String, Fail> {
+    let mut text = String::new(alloc);
+    for part in parts {
+        text.push_str(part)?;
+    }
+    Ok(text)
+}
+
+#[test]
+fn hello(rt: HostRuntime) -> Result<(), Fail> {
+    let ran = run_script(rt.alloc(), HELLO)?;
+    assert_eq!(rt; ran.status, 0);
+    assert_eq!(rt; ran.written.as_slice(), HELLO_REPORT.as_bytes());
+    Ok(())
+}
+
+#[test]
+fn hello_through_top(rt: HostRuntime) -> Result<(), Fail> {
+    let alloc = rt.alloc();
+    let mut words = Vec::new(alloc);
+    words.push(String::from_str(alloc, "--serial")?)?;
+    let bytes = Vec::from_slice(alloc, HELLO.as_bytes())?;
+    let mut source = MemSource::new(bytes, Vec::new(alloc), 7);
+    let mut sink = MemSink::new(alloc, 4096, Vec::new(alloc), 7).map_err(|_| "no memory")?;
+    let ended = top(&rt, alloc, words.as_slice(), &mut source, &mut sink, &Open);
+    assert_eq!(rt; ended.status, 0);
+    assert_eq!(rt; sink.bytes(), HELLO_REPORT.as_bytes());
+    Ok(())
+}
+
+const HEAD: &str = "machine 0\nimage hello hex\n02A00513 00E00893 00000073 00D00893 00000073\nend\n\
+    user alice\ngetcube 0\nspawn hello 0 0\n";
+
+const HEAD_REPORT: &str =
+    "machine 0\nuser alice\ngetcube 0\n= granted mask 0 base 0\nspawn hello 0 0\n= ok\n";
+
+const CUBE: &str = "cube 0 user alice dim 0 mask 0 base 0\nhost spawn 0 hello 0.0 ok\n";
+
+#[test]
+fn nothing_allowed(rt: HostRuntime) -> Result<(), Fail> {
+    let alloc = rt.alloc();
+    let ran = run_script(alloc, text(alloc, &[HEAD, "run 0\n"])?.as_str())?;
+    let rest = "host arm 0\nnode 0 take 0 0 - spent\nhost look spent\nend\n";
+    let want = text(alloc, &[HEAD_REPORT, "run 0\n= spent\n", CUBE, rest])?;
+    assert_eq!(rt; ran.status, 0);
+    assert_eq!(rt; ran.written.as_slice(), want.as_bytes());
+    Ok(())
+}
+
+#[test]
+fn tie(rt: HostRuntime) -> Result<(), Fail> {
+    let alloc = rt.alloc();
+    let ran = run_script(alloc, text(alloc, &[HEAD, "run 0000000001"])?.as_str())?;
+    let rest = "host arm 1\nnode 0 take 0 0 - start 0 hello\nnode 0 note 0 42\n\
+        node 0 take 0 1 - idle\nhost look quiet\nend\n";
+    let want = text(alloc, &[HEAD_REPORT, "run 1\n= quiet\n", CUBE, rest])?;
+    assert_eq!(rt; ran.status, 0);
+    assert_eq!(rt; ran.written.as_slice(), want.as_bytes());
+    Ok(())
+}
+
+#[test]
+fn no_such_call(rt: HostRuntime) -> Result<(), Fail> {
+    let alloc = rt.alloc();
+    let script =
+        "machine 0\nimage hello hex\n00000073\nend\nuser alice\ngetcube 0\nspawn hello 0 0\nrun 10\n";
+    let ran = run_script(alloc, script)?;
+    let rest =
+        "host arm 10\nnode 0 take 0 0 - start 0 hello\nnode 0 take 0 1 - idle\nhost look quiet\nend\n";
+    let want = text(alloc, &[HEAD_REPORT, "run 10\n= quiet\n", CUBE, rest])?;
+    assert_eq!(rt; ran.status, 0);
+    assert_eq!(rt; ran.written.as_slice(), want.as_bytes());
+    Ok(())
+}
+
+#[test]
+fn faults(rt: HostRuntime) -> Result<(), Fail> {
+    let alloc = rt.alloc();
+    let broken_source = Ends {
+        failing_read: &[0],
+        failing_write: &[],
+        most: 4096,
+    };
+    let ran = run_line(alloc, "--serial", HELLO.as_bytes(), broken_source)?;
+    assert_eq!(rt; ran.status, 3);
+    assert_eq!(rt; ran.written.len(), 0);
+    let broken_sink = Ends {
+        failing_read: &[],
+        failing_write: &[2],
+        most: 8,
+    };
+    let ran = run_line(alloc, "--serial", HELLO.as_bytes(), broken_sink)?;
+    assert_eq!(rt; ran.status, 5);
+    assert_eq!(rt; ran.written.as_slice(), b"machine 0\nuser a".as_slice());
+    Ok(())
+}
+
+#[test]
+fn usage(rt: HostRuntime) -> Result<(), Fail> {
+    let ran = run_line(rt.alloc(), "--fast", HELLO.as_bytes(), SOUND)?;
+    assert_eq!(rt; ran.status, 2);
+    assert_eq!(rt; ran.written.len(), 0);
+    Ok(())
+}
+
+#[test]
+fn not_built(rt: HostRuntime) -> Result<(), Fail> {
+    let alloc = rt.alloc();
+    for script in [
+        "",
+        "machine 1\n",
+        "machine 0\nimage 1x hex\n00000073\nend\nuser a\ngetcube 0\nspawn 1x 0 0\nrun 1\n",
+        "machine 0\nimage x hex\nend\nuser a\ngetcube 0\nspawn x 0 0\nrun 1\n",
+        "machine 0\nimage x hex\n00000033\nend\nuser a\ngetcube 0\nspawn x 0 0\nrun 1\n",
+        "machine 0\nimage x hex\n00000073  00000073\nend\nuser a\ngetcube 0\nspawn x 0 0\nrun 1\n",
+        "machine 0\nimage x hex\n00000073\nuser a\ngetcube 0\nspawn x 0 0\nrun 1\n",
+        "machine 0\nimage x hex\n00000073\nend\nuser a\ngetcube 0\nspawn y 0 0\nrun 1\n",
+        "machine 0\nimage x hex\n00000073\nend\nuser a\ngetcube 0\nspawn x 0 0\nrun 1000001\n",
+        "machine 0\nimage x hex\n00000073\nend\nuser a\ngetcube 0\nspawn x 0 0\nrun 1\n\n",
+    ] {
+        let ran = run_script(alloc, script)?;
+        assert_eq!(rt; ran.status, 1, "{script}");
+        assert_eq!(rt; ran.written.len(), 0, "{script}");
+    }
+    Ok(())
+}
+
+#[test]
+fn fault_lines(rt: HostRuntime) -> Result<(), Fail> {
+    let alloc = rt.alloc();
+    for (fault, line) in [
+        (Fault::NotBuilt, "ce: not built\n"),
+        (Fault::Usage, "ce: usage: ce [--serial] [--load N]\n"),
+        (Fault::Read, "ce: read fault\n"),
+        (Fault::Write, "ce: write fault\n"),
+        (Fault::Memory(ce_model::NoMemory), "ce: no memory\n"),
+    ] {
+        let mut sink = MemSink::new(alloc, 64, Vec::new(alloc), 3).map_err(|_| "no memory")?;
+        assert!(rt; write_fault(&fault, &mut sink).is_ok());
+        assert_eq!(rt; sink.bytes(), line.as_bytes());
+    }
+    Ok(())
+}
