@@ -1,6 +1,7 @@
-ghost use Rattle.std.specs.Prelude.{◌≡◌, ◌≤◌, None, IfOk, length};
+ghost use Rattle.std.specs.Prelude.{◌≡◌, ◌≢◌, ◌≤◌, None, IfOk, IfErr, length};
 ghost use Rattle.std.specs.Io.{ReadsAtMost, WritesAtMost};
 ghost use Rattle.std.specs.Io.KnownBytes.{ReadConsumes, WriteAppends};
+ghost use Rattle.std.specs.IoError.{error_kind};
 ghost use Rattle.ce_io.specs.Faults.{faults_after};
 ghost use Rattle.ce_io.specs.Source.{given_after};
 ghost use Rattle.ce_io.specs.Standard.{reader_left, writer_bytes};
@@ -68,6 +69,7 @@ impl<R: Read> Source for StdSource<R> {
 fn read_retrying<R: Read>(reader: &mut R, into: &mut [u8]) -> io::Result<usize>
     ensures bound { ReadsAtMost result into.new }
     ensures bytes { ReadConsumes (R.remaining reader.old) (R.remaining reader.new) result into.new }
+    ensures retried { IfErr result (λ error. error_kind error ≢ ErrorKind.Interrupted) }
 {
     for _ in 0..u64::MAX {
         match reader.read(into) {
@@ -75,7 +77,7 @@ fn read_retrying<R: Read>(reader: &mut R, into: &mut [u8]) -> io::Result<usize>
             answer => return answer,
         }
     }
-    Err(io::Error::from(ErrorKind::Interrupted))
+    Err(io::Error::from(ErrorKind::TimedOut))
 }
 
 /// The adapter over a writer of `std`, as a file or standard output. Nothing is proved of what a system does with the
@@ -125,6 +127,7 @@ impl<W: Write> Sink for StdSink<W> {
 fn write_retrying<W: Write>(writer: &mut W, from: &[u8]) -> io::Result<usize>
     ensures bound { WritesAtMost result from.now }
     ensures bytes { WriteAppends (W.contents writer.old) (W.contents writer.new) result from.now }
+    ensures retried { IfErr result (λ error. error_kind error ≢ ErrorKind.Interrupted) }
 {
     for _ in 0..u64::MAX {
         match writer.write(from) {
@@ -132,5 +135,5 @@ fn write_retrying<W: Write>(writer: &mut W, from: &[u8]) -> io::Result<usize>
             answer => return answer,
         }
     }
-    Err(io::Error::from(ErrorKind::Interrupted))
+    Err(io::Error::from(ErrorKind::TimedOut))
 }

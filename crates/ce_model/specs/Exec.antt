@@ -1,0 +1,155 @@
+-- What one instruction does: "RV32I Base Integer Instruction Set" of the RISC-V unprivileged specification. The stops and
+-- the order of the tests are this project's own.
+use Rattle.std.specs.Prelude.{◌≡◌, ◌⊎◌, ℕ, ◌*◌, ◌/◌, ◌%◌, ◌^◌, Bool, not, nat_lt, ◌==◌, if◌then◌else◌, List, slice_index, slice_set, bit_and, bit_or, bit_xor, Result, Ok, Err, ok_or, ℤ}
+use Rattle.std.specs.Int.{w8, w16, w32, cast_signed, cast_unsigned}
+use Rattle.ce_model.specs.declared.process.Stop.{Stop}
+use Rattle.ce_model.specs.declared.process.Stop.TheVariants.{Illegal, Target, Break}
+use Rattle.ce_model.specs.declared.inst.Inst.{Inst}
+use Rattle.ce_model.specs.declared.inst.Inst.TheVariants.{Lui, Auipc, Jal, Jalr, Branch, Load, Store, OpImm, Op, Fence, Ecall, Ebreak}
+use Rattle.ce_model.specs.declared.inst.BranchOp.{BranchOp}
+use Rattle.ce_model.specs.declared.inst.BranchOp.TheVariants.{Beq, Bne, Blt, Bge, Bltu, Bgeu}
+use Rattle.ce_model.specs.declared.inst.LoadOp.{LoadOp}
+use Rattle.ce_model.specs.declared.inst.LoadOp.TheVariants.{Lb, Lh, Lw, Lbu, Lhu}
+use Rattle.ce_model.specs.declared.inst.StoreOp.{StoreOp}
+use Rattle.ce_model.specs.declared.inst.StoreOp.TheVariants.{Sb, Sh, Sw}
+use Rattle.ce_model.specs.declared.inst.ImmOp.{ImmOp}
+use Rattle.ce_model.specs.declared.inst.ImmOp.TheVariants.{Addi, Slti, Sltiu, Xori, Ori, Andi, Slli, Srli, Srai}
+use Rattle.ce_model.specs.declared.inst.RegOp.{RegOp}
+use Rattle.ce_model.specs.declared.inst.RegOp.TheVariants.{Add, Sll, Slt, Sltu, Xor, Srl, Or, And, Sub, Sra}
+use Rattle.ce_model.specs.Words.{dec}
+use Rattle.ce_model.specs.Word.{wrapping_sum, wrapping_difference, is_less_signed, one_if, shifted_left, shifted_right, shifted_right_signed}
+
+-- what a memory answers: the word at a pc, the `size` bytes at an address as a number, and the memory
+-- once the lowest `size` bytes of a number are stored at an address; or why it stops the process instead
+pub record Access (M : Type 0) : Type 0 where
+  pub fetched : M → ℕ → Result ℕ Stop
+  pub loaded : M → ℕ → ℕ → Result ℕ Stop
+  pub stored : M → ℕ → ℕ → ℕ → Result M Stop
+
+-- how many bytes an access can have
+abbrev pub IsAccessSize : ℕ → Type 0
+IsAccessSize size = (size ≡ 1) ⊎ (size ≡ 2) ⊎ (size ≡ 4)
+
+-- how an instruction ends: it is done, with these registers, this pc and this memory; it is a call of the kernel, with the
+-- same; or the process stops, and nothing has changed
+pub data Outcome (M : Type 0) : Type 0 where
+  went : List ℕ → ℕ → M → Outcome M
+  called : List ℕ → ℕ → M → Outcome M
+  stopped : Stop → Outcome M
+
+-- what comes after an answer, where it isn't a stop
+infixl 10 ◌>>=◌
+abbrev pub ◌>>=◌ : {X M : Type 0} → Result X Stop → (X → Outcome M) → Outcome M
+Ok x >>= f = f x
+Err cause >>= f = stopped cause
+
+-- ---- registers: "Programmers' Model for Base Integer ISA"
+
+-- the value of a register; x0 reads 0
+abbrev pub reg : List ℕ → ℕ → ℕ
+reg x r = if r == 0 then 0 else slice_index x r
+
+-- the registers once `value` is written to rd; x0 ignores writes
+abbrev pub with_reg : List ℕ → ℕ → ℕ → List ℕ
+with_reg x rd value = if rd == 0 then x else slice_set x rd value
+
+-- ---- operations: "Integer Computational Instructions", "Conditional Branches", "Load and Store Instructions"
+
+-- whether a branch is taken, from the values of rs1 and rs2
+abbrev pub is_taken : BranchOp → ℕ → ℕ → Bool
+is_taken Beq a b = a == b
+is_taken Bne a b = not (a == b)
+is_taken Blt a b = is_less_signed a b
+is_taken Bge a b = not (is_less_signed a b)
+is_taken Bltu a b = nat_lt a b
+is_taken Bgeu a b = not (nat_lt a b)
+
+-- the result of an operation on a register and an immediate, which stands there as a word
+abbrev pub imm_result : ImmOp → ℕ → ℕ → ℕ
+imm_result Addi a imm = wrapping_sum a imm
+imm_result Slti a imm = one_if (is_less_signed a imm)
+imm_result Sltiu a imm = one_if (nat_lt a imm)
+imm_result Xori a imm = bit_xor a imm
+imm_result Ori a imm = bit_or a imm
+imm_result Andi a imm = bit_and a imm
+imm_result Slli a imm = shifted_left a imm
+imm_result Srli a imm = shifted_right a imm
+imm_result Srai a imm = shifted_right_signed a imm
+
+-- the result of an operation on two registers
+abbrev pub reg_result : RegOp → ℕ → ℕ → ℕ
+reg_result Add a b = wrapping_sum a b
+reg_result Sll a b = shifted_left a b
+reg_result Slt a b = one_if (is_less_signed a b)
+reg_result Sltu a b = one_if (nat_lt a b)
+reg_result Xor a b = bit_xor a b
+reg_result Srl a b = shifted_right a b
+reg_result Or a b = bit_or a b
+reg_result And a b = bit_and a b
+reg_result Sub a b = wrapping_difference a b
+reg_result Sra a b = shifted_right_signed a b
+
+-- how many bytes a load or a store moves
+abbrev pub load_size : LoadOp → ℕ
+load_size Lb = 1
+load_size Lh = 2
+load_size Lw = 4
+load_size Lbu = 1
+load_size Lhu = 2
+
+abbrev pub store_size : StoreOp → ℕ
+store_size Sb = 1
+store_size Sh = 2
+store_size Sw = 4
+
+-- what a load writes to rd, of the number that stood in memory: LB and LH extend its sign
+abbrev pub extended : LoadOp → ℕ → ℕ
+extended Lb n = cast_unsigned w32 (cast_signed w8 n)
+extended Lh n = cast_unsigned w32 (cast_signed w16 n)
+extended Lw n = n
+extended Lbu n = n
+extended Lhu n = n
+
+-- ---- instructions
+
+-- the address of the next instruction
+abbrev pub next_pc : ℕ → ℕ
+next_pc pc = wrapping_sum pc 4
+
+-- a word and an immediate added: an offset from it
+abbrev pub offset_by : ℕ → ℤ → ℕ
+offset_by a imm = wrapping_sum a (cast_unsigned w32 imm)
+
+-- a jump at `pc` to `target`, which leaves the registers x
+abbrev pub jumped : {M : Type 0} → ℕ → ℕ → List ℕ → M → Outcome M
+jumped pc target x m = if target % 4 == 0 then went x target m else stopped (Target pc)
+
+-- what an instruction at `pc` does to the registers x and the memory m
+unfoldable pub performed : {M : Type 0} → Access M → Inst → List ℕ → ℕ → M → Outcome M
+performed A (Lui rd imm) x pc m = went (with_reg x rd imm) (next_pc pc) m
+performed A (Auipc rd imm) x pc m = went (with_reg x rd (wrapping_sum pc imm)) (next_pc pc) m
+performed A (Jal rd offset) x pc m = jumped pc (offset_by pc offset) (with_reg x rd (next_pc pc)) m
+performed A (Jalr rd rs1 imm) x pc m =
+    jumped pc (offset_by (reg x rs1) imm / 2 * 2) (with_reg x rd (next_pc pc)) m
+performed A (Branch op rs1 rs2 offset) x pc m =
+    if is_taken op (reg x rs1) (reg x rs2) then jumped pc (offset_by pc offset) x m else went x (next_pc pc) m
+performed A (Load op rd rs1 imm) x pc m = do
+  n ← A.loaded m (offset_by (reg x rs1) imm) (load_size op)
+  went (with_reg x rd (extended op n)) (next_pc pc) m
+performed A (Store op rs1 rs2 imm) x pc m = do
+  left ← A.stored m (offset_by (reg x rs1) imm) (store_size op) (reg x rs2 % 256 ^ store_size op)
+  went x (next_pc pc) left
+performed A (OpImm op rd rs1 imm) x pc m =
+    went (with_reg x rd (imm_result op (reg x rs1) (cast_unsigned w32 imm))) (next_pc pc) m
+performed A (Op op rd rs1 rs2) x pc m =
+    went (with_reg x rd (reg_result op (reg x rs1) (reg x rs2))) (next_pc pc) m
+performed A (Fence word) x pc m = went x (next_pc pc) m
+performed A Ecall x pc m = called x (next_pc pc) m
+performed A Ebreak x pc m = stopped (Break pc)
+
+-- one step: the word at `pc` is fetched, decoded, and done
+unfoldable pub exec : {M : Type 0} → Access M → List ℕ → ℕ → M → Outcome M
+exec A x pc m = do
+  word ← A.fetched m pc
+  inst ← ok_or (dec word) (Illegal pc word)
+  performed A inst x pc m

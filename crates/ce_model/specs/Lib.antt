@@ -1,0 +1,10 @@
+pub mod Exec
+pub mod Image
+pub mod LittleEndian
+pub mod Node
+pub mod Private
+pub mod Process
+pub mod Subcubes
+pub mod Views
+pub mod Word
+pub mod Words

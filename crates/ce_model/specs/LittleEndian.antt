@@ -1,0 +1,16 @@
+-- Numbers in memory, the lowest byte first. A byte is a number below 256.
+use Rattle.std.specs.Prelude.{ℕ, ◌+◌, ◌*◌, List, [], ◌∷◌, ◌++◌, take, drop}
+use Rattle.std.specs.Int.{bytes_low_first}
+
+-- the number that these bytes are
+abbrev pub number_of : List ℕ → ℕ
+number_of [] = 0
+number_of (b ∷ bs) = b + 256 * number_of bs
+
+-- the number in the `size` bytes from `offset` on
+unfoldable pub number_at : List ℕ → ℕ → ℕ → ℕ
+number_at bytes offset size = number_of (take size (drop offset bytes))
+
+-- the bytes once the lowest `size` bytes of n are written from `offset` on
+unfoldable pub with_number_at : List ℕ → ℕ → ℕ → ℕ → List ℕ
+with_number_at bytes offset size n = take offset bytes ++ (bytes_low_first 0 size n ++ drop (offset + size) bytes)

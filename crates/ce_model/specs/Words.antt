@@ -1,0 +1,187 @@
+-- The instruction words of RV32I, as the RISC-V unprivileged specification lists them: the fields of a word ("Base
+-- Instruction Formats"), its immediates ("Immediate Encoding Variants"), and a row for each instruction ("RV32I Base
+-- Integer Instruction Set", "RV32/64G Instruction Set Listings"). Words are below 2 ^ 32. That the other fields of a fence
+-- don't matter, and that every other word is no instruction, is this project's own.
+use Rattle.std.specs.Prelude.{ℕ, ◌+◌, ◌-◌, ◌*◌, ◌/◌, ◌%◌, ◌^◌, Bool, ◌==◌, nat_lt, if◌then◌else◌, ℤ, pos, ◌-ℤ◌, List, [], ◌∷◌, find, Option, option_map}
+use Rattle.std.specs.List.{list_all}
+use Rattle.ce_model.specs.declared.inst.Inst.{Inst}
+use Rattle.ce_model.specs.declared.inst.Inst.TheVariants.{Lui, Auipc, Jal, Jalr, Branch, Load, Store, OpImm, Op, Fence, Ecall, Ebreak}
+use Rattle.ce_model.specs.declared.inst.BranchOp.{BranchOp}
+use Rattle.ce_model.specs.declared.inst.BranchOp.TheVariants.{Beq, Bne, Blt, Bge, Bltu, Bgeu}
+use Rattle.ce_model.specs.declared.inst.LoadOp.{LoadOp}
+use Rattle.ce_model.specs.declared.inst.LoadOp.TheVariants.{Lb, Lh, Lw, Lbu, Lhu}
+use Rattle.ce_model.specs.declared.inst.StoreOp.{StoreOp}
+use Rattle.ce_model.specs.declared.inst.StoreOp.TheVariants.{Sb, Sh, Sw}
+use Rattle.ce_model.specs.declared.inst.ImmOp.{ImmOp}
+use Rattle.ce_model.specs.declared.inst.ImmOp.TheVariants.{Addi, Slti, Sltiu, Xori, Ori, Andi, Slli, Srli, Srai}
+use Rattle.ce_model.specs.declared.inst.RegOp.{RegOp}
+use Rattle.ce_model.specs.declared.inst.RegOp.TheVariants.{Add, Sll, Slt, Sltu, Xor, Srl, Or, And, Sub, Sra}
+
+-- ---- fields
+
+-- the `width` bits of a word from bit `low` up, as a number
+abbrev pub cut : (low width word : ℕ) → ℕ
+cut low width word = word / 2 ^ low % 2 ^ width
+
+abbrev pub opcode_of : ℕ → ℕ
+opcode_of = cut 0 7
+
+abbrev pub rd_of : ℕ → ℕ
+rd_of = cut 7 5
+
+abbrev pub funct3_of : ℕ → ℕ
+funct3_of = cut 12 3
+
+abbrev pub rs1_of : ℕ → ℕ
+rs1_of = cut 15 5
+
+-- in a shift by an immediate, the shift amount
+abbrev pub rs2_of : ℕ → ℕ
+rs2_of = cut 20 5
+
+abbrev pub funct7_of : ℕ → ℕ
+funct7_of = cut 25 7
+
+-- ---- immediates
+
+-- the number of which n is the two's complement in `width` bits: its top bit counts as negative
+abbrev pub sign_extended : (width n : ℕ) → ℤ
+sign_extended width n = if nat_lt n (2 ^ (width - 1)) then pos n else pos n -ℤ pos (2 ^ width)
+
+-- I: bits 31..20 are bits 11..0
+abbrev pub i_immediate : ℕ → ℤ
+i_immediate word = sign_extended 12 (cut 20 12 word)
+
+-- S: bits 31..25 are bits 11..5, and bits 11..7 are bits 4..0
+abbrev pub s_immediate : ℕ → ℤ
+s_immediate word = sign_extended 12 (cut 25 7 word * 2 ^ 5 + cut 7 5 word)
+
+-- B: bit 31 is bit 12, bit 7 is bit 11, bits 30..25 are bits 10..5, and bits 11..8 are bits 4..1
+abbrev pub b_immediate : ℕ → ℤ
+b_immediate word = sign_extended 13 (cut 31 1 word * 2 ^ 12 + cut 7 1 word * 2 ^ 11 + cut 25 6 word * 2 ^ 5 + cut 8 4 word * 2)
+
+-- U: bits 31..12 stay where they are
+abbrev pub u_immediate : ℕ → ℕ
+u_immediate word = cut 12 20 word * 2 ^ 12
+
+-- J: bit 31 is bit 20, bits 19..12 stay, bit 20 is bit 11, and bits 30..21 are bits 10..1
+abbrev pub j_immediate : ℕ → ℤ
+j_immediate word = sign_extended 21 (cut 31 1 word * 2 ^ 20 + cut 12 8 word * 2 ^ 12 + cut 20 1 word * 2 ^ 11 + cut 21 10 word * 2)
+
+-- ---- rows
+
+-- the `width` bits from bit `low` up have this value: a part of a row's mask, with the match under it
+pub record Fixed : Type 0 where
+  pub low : ℕ
+  pub width : ℕ
+  pub value : ℕ
+
+abbrev pub opcode_is : ℕ → Fixed
+opcode_is n = record { low = 0; width = 7; value = n }
+
+abbrev pub funct3_is : ℕ → Fixed
+funct3_is n = record { low = 12; width = 3; value = n }
+
+abbrev pub funct7_is : ℕ → Fixed
+funct7_is n = record { low = 25; width = 7; value = n }
+
+-- all that is above the opcode
+abbrev pub rest_is : ℕ → Fixed
+rest_is n = record { low = 7; width = 25; value = n }
+
+-- a row: the fields that it fixes, and the instruction of a word that has them
+pub record Row : Type 0 where
+  pub fixed : List Fixed
+  pub meaning : ℕ → Inst
+
+-- the word has the row's fixed fields
+abbrev pub matches : ℕ → Row → Bool
+matches word row = list_all (λ field. cut field.low field.width word == field.value) row.fixed
+
+-- ---- the table
+
+abbrev pub branch_row : ℕ → BranchOp → Row
+branch_row funct3 op = record {
+  fixed = opcode_is 0b1100011 ∷ funct3_is funct3 ∷ [];
+  meaning = λ word. Branch op (rs1_of word) (rs2_of word) (b_immediate word);
+}
+
+abbrev pub load_row : ℕ → LoadOp → Row
+load_row funct3 op = record {
+  fixed = opcode_is 0b0000011 ∷ funct3_is funct3 ∷ [];
+  meaning = λ word. Load op (rd_of word) (rs1_of word) (i_immediate word);
+}
+
+abbrev pub store_row : ℕ → StoreOp → Row
+store_row funct3 op = record {
+  fixed = opcode_is 0b0100011 ∷ funct3_is funct3 ∷ [];
+  meaning = λ word. Store op (rs1_of word) (rs2_of word) (s_immediate word);
+}
+
+abbrev pub op_imm_row : ℕ → ImmOp → Row
+op_imm_row funct3 op = record {
+  fixed = opcode_is 0b0010011 ∷ funct3_is funct3 ∷ [];
+  meaning = λ word. OpImm op (rd_of word) (rs1_of word) (i_immediate word);
+}
+
+-- a shift by an immediate has the shift amount in the field of rs2
+abbrev pub shift_row : ℕ → ℕ → ImmOp → Row
+shift_row funct3 funct7 op = record {
+  fixed = opcode_is 0b0010011 ∷ funct3_is funct3 ∷ funct7_is funct7 ∷ [];
+  meaning = λ word. OpImm op (rd_of word) (rs1_of word) (pos (rs2_of word));
+}
+
+abbrev pub op_row : ℕ → ℕ → RegOp → Row
+op_row funct3 funct7 op = record {
+  fixed = opcode_is 0b0110011 ∷ funct3_is funct3 ∷ funct7_is funct7 ∷ [];
+  meaning = λ word. Op op (rd_of word) (rs1_of word) (rs2_of word);
+}
+
+-- the row of each instruction of RV32I
+unfoldable pub table : List Row
+table =
+    record { fixed = opcode_is 0b0110111 ∷ []; meaning = λ word. Lui (rd_of word) (u_immediate word) }
+    ∷ record { fixed = opcode_is 0b0010111 ∷ []; meaning = λ word. Auipc (rd_of word) (u_immediate word) }
+    ∷ record { fixed = opcode_is 0b1101111 ∷ []; meaning = λ word. Jal (rd_of word) (j_immediate word) }
+    ∷ record { fixed = opcode_is 0b1100111 ∷ funct3_is 0b000 ∷ []; meaning = λ word. Jalr (rd_of word) (rs1_of word) (i_immediate word) }
+    ∷ branch_row 0b000 Beq
+    ∷ branch_row 0b001 Bne
+    ∷ branch_row 0b100 Blt
+    ∷ branch_row 0b101 Bge
+    ∷ branch_row 0b110 Bltu
+    ∷ branch_row 0b111 Bgeu
+    ∷ load_row 0b000 Lb
+    ∷ load_row 0b001 Lh
+    ∷ load_row 0b010 Lw
+    ∷ load_row 0b100 Lbu
+    ∷ load_row 0b101 Lhu
+    ∷ store_row 0b000 Sb
+    ∷ store_row 0b001 Sh
+    ∷ store_row 0b010 Sw
+    ∷ op_imm_row 0b000 Addi
+    ∷ op_imm_row 0b010 Slti
+    ∷ op_imm_row 0b011 Sltiu
+    ∷ op_imm_row 0b100 Xori
+    ∷ op_imm_row 0b110 Ori
+    ∷ op_imm_row 0b111 Andi
+    ∷ shift_row 0b001 0b0000000 Slli
+    ∷ shift_row 0b101 0b0000000 Srli
+    ∷ shift_row 0b101 0b0100000 Srai
+    ∷ op_row 0b000 0b0000000 Add
+    ∷ op_row 0b001 0b0000000 Sll
+    ∷ op_row 0b010 0b0000000 Slt
+    ∷ op_row 0b011 0b0000000 Sltu
+    ∷ op_row 0b100 0b0000000 Xor
+    ∷ op_row 0b101 0b0000000 Srl
+    ∷ op_row 0b110 0b0000000 Or
+    ∷ op_row 0b111 0b0000000 And
+    ∷ op_row 0b000 0b0100000 Sub
+    ∷ op_row 0b101 0b0100000 Sra
+    ∷ record { fixed = opcode_is 0b0001111 ∷ funct3_is 0b000 ∷ []; meaning = λ word. Fence word }
+    ∷ record { fixed = opcode_is 0b1110011 ∷ rest_is 0 ∷ []; meaning = λ word. Ecall }
+    ∷ record { fixed = opcode_is 0b1110011 ∷ rest_is (2 ^ 13) ∷ []; meaning = λ word. Ebreak }
+    ∷ []
+
+-- the instruction that a word is: that of the row that it matches, of which there is at most one, and none where it matches no row
+unfoldable pub dec : ℕ → Option Inst
+dec word = option_map (λ row. row.meaning word) (find (matches word) table)

@@ -1,0 +1,50 @@
+-- RKI1, the format in which images are kept.
+use Rattle.std.specs.Prelude.{◌≡◌, ℕ, ◌+◌, not, ◌==◌, nat_eq, nat_lt, List, [], ◌∷◌, ◌++◌, length, take, drop, Option}
+use Rattle.std.specs.List.{starts_with}
+use Rattle.std.specs.Int.{w32, to_le_bytes, from_le_bytes}
+use Rattle.rv_image.specs.declared.fault.ImageFault.{ImageFault}
+use Rattle.rv_image.specs.declared.fault.ImageFault.TheVariants.{Short, Magic, TooLarge, Length, Entry}
+use Rattle.ce_model.specs.Image.{ImageParts, IsImage, image_parts}
+use Rattle.rv_image.specs.Fault.{first_fault, is_too_large, is_entry}
+
+-- `RKI1`
+abbrev pub magic_bytes : List ℕ
+magic_bytes = 0x52 ∷ 0x4B ∷ 0x49 ∷ 0x31 ∷ []
+
+-- the magic, three little-endian numbers of four bytes, and the loaded bytes
+abbrev pub spelling : ImageParts → List ℕ
+spelling image =
+    magic_bytes ++ to_le_bytes w32 image.entry ++ to_le_bytes w32 (length image.loaded) ++ to_le_bytes w32 image.zero
+    ++ image.loaded
+
+-- these bytes are RKI1, and spell this image
+pub record IsRki1 (bytes : List ℕ) (image : ImageParts) : Type 0 where
+  pub valid : IsImage image
+  pub spelled : bytes ≡ spelling image
+
+-- the little-endian number in the four bytes from this place on
+abbrev pub number_at : ℕ → List ℕ → ℕ
+number_at place bytes = from_le_bytes w32 (take 4 (drop place bytes))
+
+abbrev pub entry_field : List ℕ → ℕ
+entry_field bytes = number_at 4 bytes
+
+abbrev pub loaded_field : List ℕ → ℕ
+loaded_field bytes = number_at 8 bytes
+
+abbrev pub zero_field : List ℕ → ℕ
+zero_field bytes = number_at 12 bytes
+
+-- what the header says, and the bytes behind it
+abbrev pub fields_of : List ℕ → ImageParts
+fields_of bytes = image_parts (entry_field bytes) (drop 16 bytes) (zero_field bytes)
+
+-- why bytes are no RKI1: the table of refusals, in their order
+abbrev pub fault_of : List ℕ → Option ImageFault
+fault_of bytes =
+    first_fault ((nat_lt (length bytes) 16, Short)
+    ∷ (not (starts_with nat_eq bytes magic_bytes), Magic)
+    ∷ (is_too_large (loaded_field bytes) (zero_field bytes), TooLarge)
+    ∷ (not (length bytes == 16 + loaded_field bytes), Length)
+    ∷ (not (is_entry (entry_field bytes) (loaded_field bytes)), Entry)
+    ∷ [])

@@ -1,0 +1,17 @@
+-- What a step answers and leaves behind, beside what it does.
+use Rattle.std.specs.Prelude.{ℕ, List, ⊤}
+use Rattle.rv_step.specs.declared.event.Event.{Event}
+use Rattle.rv_step.specs.declared.event.Event.TheVariants.{Went, Call, Stopped}
+use Rattle.ce_model.specs.Exec.{Outcome, went, called, stopped}
+
+-- the outcome of a step that answered this event and left these registers, this pc and this memory
+abbrev pub outcome_of : {M : Type 0} → Event → List ℕ → ℕ → M → Outcome M
+outcome_of Went x pc m = went x pc m
+outcome_of Call x pc m = called x pc m
+outcome_of (Stopped cause) x pc m = stopped cause
+
+-- a fact, if the event is a stop
+abbrev pub OnStopped : Event → Type 0 → Type 0
+OnStopped Went P = ⊤
+OnStopped Call P = ⊤
+OnStopped (Stopped cause) P = P

@@ -1,0 +1,147 @@
+//! What one decoded instruction does.
+ghost use Rattle.std.specs.Prelude.{◌≡◌, ◌%◌, ◌==◌, if◌then◌else◌};
+ghost use Rattle.rv_inst.specs.Valid.{IsValid, IsRegister};
+ghost use Rattle.ce_model.specs.Exec.{performed, with_reg, next_pc};
+ghost use Rattle.rv_step.specs.Stepped.{outcome_of, OnStopped};
+
+use crate::compute::{extended, imm_result, is_taken, load_size, reg_result};
+use crate::{Event, Memory, Regs};
+use ce_model::{Inst, LoadOp, Stop, StoreOp};
+
+/// Does the instruction `inst`, which stands at `pc`.
+#[tactic(auto, unfolding(ce_model::specs::Exec::performed))]
+pub(crate) fn execute<M: Memory>(inst: Inst, regs: &mut Regs, pc: &mut u32, memory: &mut M) -> Event
+    requires { IsValid inst }
+    ensures done { outcome_of result regs.new.x pc.new (M.holds memory.new)
+        ≡ performed M.access inst regs.old.x pc.old (M.holds memory.old) }
+    ensures regs_stay { OnStopped result (regs.new.x ≡ regs.old.x) }
+    ensures pc_stays { OnStopped result (pc.new ≡ pc.old) }
+    ensures memory_stays { OnStopped result (M.holds memory.new ≡ M.holds memory.old) }
+{
+    match inst {
+        Inst::Lui { rd, imm } => write(rd, imm, regs, pc),
+        Inst::Auipc { rd, imm } => write(rd, pc.wrapping_add(imm), regs, pc),
+        Inst::Jal { rd, offset } => jump(rd, pc.wrapping_add_signed(offset), regs, pc),
+        Inst::Jalr { rd, rs1, imm } => {
+            let sum = regs.get(rs1).wrapping_add_signed(imm);
+            jump(rd, sum / 2 * 2, regs, pc)
+        }
+        Inst::Branch {
+            op,
+            rs1,
+            rs2,
+            offset,
+        } => {
+            if is_taken(op, regs.get(rs1), regs.get(rs2)) {
+                jump(0, pc.wrapping_add_signed(offset), regs, pc)
+            } else {
+                advance(Event::Went, pc)
+            }
+        }
+        Inst::Load { op, rd, rs1, imm } => load(op, rd, rs1, imm, regs, pc, memory),
+        Inst::Store { op, rs1, rs2, imm } => store(op, rs1, rs2, imm, regs, pc, memory),
+        Inst::OpImm { op, rd, rs1, imm } => {
+            let value = imm_result(op, regs.get(rs1), imm.cast_unsigned());
+            write(rd, value, regs, pc)
+        }
+        Inst::Op { op, rd, rs1, rs2 } => {
+            let value = reg_result(op, regs.get(rs1), regs.get(rs2));
+            write(rd, value, regs, pc)
+        }
+        Inst::Fence { word: _ } => advance(Event::Went, pc),
+        Inst::Ecall => advance(Event::Call, pc),
+        Inst::Ebreak => Event::Stopped(Stop::Break(*pc)),
+    }
+}
+
+/// Goes on to the next instruction, and answers `event`.
+fn advance(event: Event, pc: &mut u32) -> Event
+    ensures event { result ≡ event }
+    ensures pc { pc.new ≡ next_pc pc.old }
+{
+    *pc = pc.wrapping_add(4);
+    event
+}
+
+/// Writes `value` to `rd`, and goes on to the next instruction.
+fn write(rd: u8, value: u32, regs: &mut Regs, pc: &mut u32) -> Event
+    requires { IsRegister rd }
+    ensures event { result ≡ Event.Went }
+    ensures regs { regs.new.x ≡ with_reg regs.old.x rd value }
+    ensures pc { pc.new ≡ next_pc pc.old }
+{
+    regs.set(rd, value);
+    advance(Event::Went, pc)
+}
+
+/// Jumps to `target` and writes the address of the next instruction to `rd`, or stops at a target that isn't a
+/// multiple of 4.
+fn jump(rd: u8, target: u32, regs: &mut Regs, pc: &mut u32) -> Event
+    requires { IsRegister rd }
+    ensures event { result ≡ (if target % 4 == 0 then Event.Went else Event.Stopped (Stop.Target pc.old)) }
+    ensures regs { regs.new.x ≡ (if target % 4 == 0 then with_reg regs.old.x rd (next_pc pc.old) else regs.old.x) }
+    ensures pc { pc.new ≡ (if target % 4 == 0 then target else pc.old) }
+{
+    if target % 4 != 0 {
+        return Event::Stopped(Stop::Target(*pc));
+    }
+    regs.set(rd, pc.wrapping_add(4));
+    *pc = target;
+    Event::Went
+}
+
+/// Does a load.
+#[tactic(auto, unfolding(ce_model::specs::Exec::performed))]
+fn load<M: Memory>(
+    op: LoadOp,
+    rd: u8,
+    rs1: u8,
+    imm: i32,
+    regs: &mut Regs,
+    pc: &mut u32,
+    memory: &M,
+) -> Event
+    requires rd { IsRegister rd }
+    requires rs1 { IsRegister rs1 }
+    ensures done { outcome_of result regs.new.x pc.new (M.holds memory.now)
+        ≡ performed M.access (Inst.Load op rd rs1 imm) regs.old.x pc.old (M.holds memory.now) }
+    ensures regs_stay { OnStopped result (regs.new.x ≡ regs.old.x) }
+    ensures pc_stays { OnStopped result (pc.new ≡ pc.old) }
+{
+    let addr = regs.get(rs1).wrapping_add_signed(imm);
+    match memory.load(addr, load_size(op)) {
+        Ok(n) => write(rd, extended(op, n), regs, pc),
+        Err(cause) => Event::Stopped(cause),
+    }
+}
+
+/// Does a store.
+#[tactic(auto, unfolding(ce_model::specs::Exec::performed))]
+fn store<M: Memory>(
+    op: StoreOp,
+    rs1: u8,
+    rs2: u8,
+    imm: i32,
+    regs: &Regs,
+    pc: &mut u32,
+    memory: &mut M,
+) -> Event
+    requires rs1 { IsRegister rs1 }
+    requires rs2 { IsRegister rs2 }
+    ensures done { outcome_of result regs.now.x pc.new (M.holds memory.new)
+        ≡ performed M.access (Inst.Store op rs1 rs2 imm) regs.now.x pc.old (M.holds memory.old) }
+    ensures pc_stays { OnStopped result (pc.new ≡ pc.old) }
+    ensures memory_stays { OnStopped result (M.holds memory.new ≡ M.holds memory.old) }
+{
+    let addr = regs.get(rs1).wrapping_add_signed(imm);
+    let value = regs.get(rs2);
+    let stored = match op {
+        StoreOp::Sb => memory.store(addr, 1, value % 0x100),
+        StoreOp::Sh => memory.store(addr, 2, value % 0x1_0000),
+        StoreOp::Sw => memory.store(addr, 4, value),
+    };
+    match stored {
+        Ok(()) => advance(Event::Went, pc),
+        Err(cause) => Event::Stopped(cause),
+    }
+}

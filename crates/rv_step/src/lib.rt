@@ -1,0 +1,16 @@
+//! One step of RV32I over any memory, and the private memory of a process.
+#![tactic(auto)]
+
+mod compute;
+mod event;
+mod execute;
+mod memory;
+mod private_memory;
+mod regs;
+mod stepping;
+
+pub use event::Event;
+pub use memory::Memory;
+pub use private_memory::PrivateMemory;
+pub use regs::Regs;
+pub use stepping::step;

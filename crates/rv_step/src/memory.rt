@@ -1,0 +1,34 @@
+ghost use Rattle.std.specs.Prelude.{◌≡◌, ◌<◌, ◌^◌, IfOk, OnOk, IfErr, OnErr, Ok, Err};
+ghost use Rattle.ce_model.specs.Exec.{Access, IsAccessSize};
+
+use ce_model::Stop;
+
+/// The memory of a process, as its instructions see it. Each refusal is the cause for which the process stops, and
+/// changes nothing.
+pub trait Memory {
+    // What memories of this kind are seen as.
+    ghost Space: { Type 0 };
+
+    // What they answer.
+    ghost access: { Access Self.Space };
+
+    // What this memory is seen as.
+    ghost holds: { Self → Self.Space };
+
+    /// The instruction word at `pc`.
+    fn fetch(&self, pc: u32) -> Result<u32, Stop>
+        ensures { result ≡ access.fetched (holds self.now) pc };
+
+    /// The number in the `size` bytes from `addr` on, which are 1, 2 or 4, little-endian.
+    fn load(&self, addr: u32, size: u32) -> Result<u32, Stop>
+        requires { IsAccessSize size }
+        ensures value { result ≡ access.loaded (holds self.now) addr size }
+        ensures fits { IfOk result (λ n. n < 256 ^ size) };
+
+    /// Stores the lowest `size` bytes of `value`, which are 1, 2 or 4, from `addr` on, little-endian.
+    fn store(&mut self, addr: u32, size: u32, value: u32) -> Result<(), Stop>
+        requires { IsAccessSize size }
+        ensures stored { OnOk result (access.stored (holds self.old) addr size value ≡ Ok (holds self.new)) }
+        ensures refused { IfErr result (λ cause. access.stored (holds self.old) addr size value ≡ Err cause) }
+        ensures unchanged { OnErr result (holds self.new ≡ holds self.old) };
+}

@@ -1,0 +1,185 @@
+ghost use Rattle.std.specs.Prelude.{◌≡◌, ◌≤◌, ◌<◌, ◌+◌, ◌-◌, ◌^◌, ◌++◌, take, drop, ℕ, IfOk, length, replicate, Some, None, if◌then◌else◌};
+ghost use Rattle.ce_model.specs.Exec.{IsAccessSize};
+ghost use Rattle.ce_model.specs.Private.{private_size, is_private, checked_access, with_loaded};
+ghost use Rattle.ce_model.specs.LittleEndian.{number_at, with_number_at};
+
+use crate::Memory;
+use ce_model::{NoMemory, Stop};
+use std::alloc::Global;
+use std::marker::Model;
+
+/// The address at which private memory begins.
+const BASE: u32 = 0x1_0000;
+
+/// How many bytes it has.
+const SIZE: usize = 0x2_0000;
+
+/// The private memory of a process that used no window: 131,072 bytes at the addresses 0x0001_0000 to 0x0002_FFFF.
+/// A load or store whose address isn't a multiple of its size is refused as `Misaligned`, and any other one outside these
+/// addresses as `Unmapped`. A fetch outside them, or not at a multiple of 4, is refused as `Fetch`. Contracts see the
+/// memory as the list of its bytes.
+#[derive(Drop)]
+pub struct PrivateMemory {
+    bytes: Vec<u8>,
+}
+
+impl Model for PrivateMemory {
+    ghost use Rattle.std.specs.Prelude.{◌≡◌, List, ℕ, vec_len};
+
+    ghost Value = { List ℕ };
+
+    ghost view = { λ memory. memory.bytes.items };
+
+    ghost invariant = { λ memory. vec_len memory.bytes ≡ 131072 };
+}
+
+impl PrivateMemory {
+    /// Memory of zeros. `NoMemory` may come at any time.
+    #[tactic(auto, using(crate::proofs::Bytes::private_size_lem))]
+    pub fn new(alloc: Global) -> Result<PrivateMemory, NoMemory>
+        ensures { IfOk result (λ memory. memory ≡ replicate private_size 0) }
+    {
+        let bytes = vec![in alloc; 0; size()]?;
+        Ok(PrivateMemory { bytes })
+    }
+
+    /// Makes the first bytes those of `loaded`, which are 122,880 at most, and all others 0. Each byte is written once.
+    #[tactic(auto, unfolding(ce_model::specs::Private::private_size))]
+    pub fn load_image(&mut self, loaded: &[u8])
+        requires { length loaded.now ≤ 122880 }
+        ensures { self.new ≡ with_loaded loaded.now }
+    {
+        overwrite(self.bytes.as_mut_slice(), loaded);
+    }
+
+    /// All the bytes, that at address 0x0001_0000 first.
+    pub fn bytes(&self) -> &[u8]
+        ensures value { result.now ≡ self.now }
+        ensures len { length result.now ≡ 131072 }
+    {
+        self.bytes.as_slice()
+    }
+}
+
+/// How many bytes private memory has, as a number that proofs don't compute with.
+#[tactic(auto, unfolding(ce_model::specs::Private::private_size))]
+fn size() -> usize
+    ensures { result ≡ private_size }
+{
+    SIZE
+}
+
+/// Makes the first bytes those of `front`, and all others 0.
+fn overwrite(bytes: &mut [u8], front: &[u8])
+    requires { length front.now ≤ length bytes.old }
+    ensures { bytes.new ≡ front.now ++ replicate (length bytes.old - length front.now) 0 }
+{
+    let (start, rest) = bytes.split_at_mut(front.len());
+    start.copy_from_slice(front);
+    rest.fill(0);
+}
+
+impl Memory for PrivateMemory {
+    ghost use Rattle.std.specs.Prelude.{List, ℕ};
+    ghost use Rattle.ce_model.specs.Private.{private_access};
+
+    ghost Space = { List ℕ };
+
+    ghost access = { private_access };
+
+    ghost holds = { λ bytes. bytes };
+
+    fn fetch(&self, pc: u32) -> Result<u32, Stop> {
+        match offset_of(pc) {
+            Some(offset) if pc % 4 == 0 => Ok(word_at(self.bytes.as_slice(), offset)),
+            _ => Err(Stop::Fetch(pc)),
+        }
+    }
+
+    fn load(&self, addr: u32, size: u32) -> Result<u32, Stop> {
+        let from = place(addr, size)?;
+        Ok(read(self.bytes.as_slice(), from, size))
+    }
+
+    fn store(&mut self, addr: u32, size: u32, value: u32) -> Result<(), Stop> {
+        let offset = place(addr, size)?;
+        write(self.bytes.as_mut_slice(), offset, size, value);
+        Ok(())
+    }
+}
+
+/// The offset of a private address, and None for another address.
+fn offset_of(addr: u32) -> Option<usize>
+    ensures { result ≡ (if is_private addr then Some (addr - 0x1_0000) else None) }
+{
+    let offset = addr.wrapping_sub(BASE);
+    if (offset as usize) < SIZE {
+        Some(offset as usize)
+    } else {
+        None
+    }
+}
+
+/// The offset at which an access of `size` bytes at `addr` is made, or the cause for which it isn't.
+fn place(addr: u32, size: u32) -> Result<usize, Stop>
+    requires { IsAccessSize size }
+    ensures value { result ≡ checked_access addr size (λ offset. offset) }
+    ensures within { IfOk result (λ offset. offset + size ≤ 131072) }
+{
+    if addr & (size - 1) != 0 {
+        return Err(Stop::Misaligned(addr));
+    }
+    offset_of(addr).ok_or(Stop::Unmapped(addr))
+}
+
+/// The number in the `size` bytes from `offset` on.
+#[tactic(auto, using(crate::proofs::Bytes::number_lemmas))]
+fn read(bytes: &[u8], offset: usize, size: u32) -> u32
+    requires size { IsAccessSize size }
+    requires within { offset + size ≤ length bytes.now }
+    ensures value { result ≡ number_at bytes.now offset size }
+    ensures fits { result < 256 ^ size }
+{
+    match size {
+        1 => u32::from(bytes[offset]),
+        2 => u32::from(bytes[offset]) + u32::from(bytes[offset + 1]) * 0x100,
+        _ => word_at(bytes, offset),
+    }
+}
+
+/// The number in the four bytes from `offset` on.
+#[tactic(auto, using(crate::proofs::Bytes::number_lemmas))]
+fn word_at(bytes: &[u8], offset: usize) -> u32
+    requires { offset + 4 ≤ length bytes.now }
+    ensures { result ≡ number_at bytes.now offset 4 }
+{
+    u32::from_le_bytes([
+        bytes[offset],
+        bytes[offset + 1],
+        bytes[offset + 2],
+        bytes[offset + 3],
+    ])
+}
+
+/// Writes the lowest `size` bytes of `value` from `offset` on.
+#[tactic(auto, unfolding(ce_model::specs::LittleEndian::with_number_at))]
+fn write(bytes: &mut [u8], offset: usize, size: u32, value: u32)
+    requires size { IsAccessSize size }
+    requires within { offset + size ≤ length bytes.old }
+    ensures { bytes.new ≡ with_number_at bytes.old offset size value }
+{
+    let [b0, b1, b2, b3] = value.to_le_bytes();
+    match size {
+        1 => put(bytes, offset, &[b0]),
+        2 => put(bytes, offset, &[b0, b1]),
+        _ => put(bytes, offset, &[b0, b1, b2, b3]),
+    }
+}
+
+/// Writes `part` from `offset` on.
+fn put(bytes: &mut [u8], offset: usize, part: &[u8])
+    requires { offset + length part.now ≤ length bytes.old }
+    ensures { bytes.new ≡ take offset bytes.old ++ (part.now ++ drop (offset + length part.now) bytes.old) }
+{
+    bytes[offset..offset + part.len()].copy_from_slice(part);
+}

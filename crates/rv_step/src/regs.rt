@@ -1,0 +1,38 @@
+ghost use Rattle.std.specs.Prelude.{◌≡◌, ◌<◌, slice_index, replicate};
+
+/// The registers x0 to x31. x0 holds 0 for good ("Programmers' Model for Base Integer ISA").
+#[derive(Clone, Copy, Debug, PartialEq, Eq)]
+pub struct Regs {
+    /// The values, by register number.
+    pub x: [u32; 32],
+    pub ghost zero: { slice_index x 0 ≡ 0 },
+}
+
+impl Regs {
+    ghost use Rattle.ce_model.specs.Exec.{reg, with_reg};
+
+    /// All registers 0.
+    pub fn new() -> Regs
+        ensures { result.x ≡ replicate 32 0 }
+    {
+        Regs { x: [0; 32] }
+    }
+
+    /// The value of register `index`; 0 for x0.
+    pub fn get(&self, index: u8) -> u32
+        requires { index < 32 }
+        ensures { result ≡ reg self.now.x index }
+    {
+        self.x[index as usize]
+    }
+
+    /// Writes `value` to register `index`. A write to x0 does nothing.
+    pub fn set(&mut self, index: u8, value: u32)
+        requires { index < 32 }
+        ensures { self.new.x ≡ with_reg self.old.x index value }
+    {
+        if index != 0 {
+            self.x[index as usize] = value;
+        }
+    }
+}
