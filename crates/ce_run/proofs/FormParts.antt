@@ -26,6 +26,6 @@ unfolding built_form form_of_lines
 whole text head body commands h b w c = rw (h, b, w, c) refl
 
 -- an image of the built form is short
-pub few : (words : List ℕ) → are_built_words words ≡ true → length words ≤ 4096
+pub few : (words : List ℕ) → are_built_words words ≡ true → length words ≤ 30720
 unfolding are_built_words
 few words h = grind (arith, nat_tests)

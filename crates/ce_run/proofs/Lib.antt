@@ -1,6 +1,12 @@
 pub mod Body
 pub mod Digits
 pub mod FormParts
+pub mod HelloRow
+pub mod InnerSteps
 pub mod Known
 pub mod LineCuts
 pub mod NameBytes
+pub mod OneCubeFacts
+pub mod Reaching
+pub mod ReportParts
+pub mod Saying

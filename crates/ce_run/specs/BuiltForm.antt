@@ -1,5 +1,6 @@
-use Rattle.std.specs.Prelude.{ℕ, ◌*◌, ◌%◌, ◌/◌, List, [], ◌∷◌, ◌++◌, Option, Some, None, Bool, ◌&&◌, ◌||◌, if◌then◌else◌, ◌==◌, nat_lt, nat_le, length, codes}
-use Rattle.std.specs.List.{list_all}
+-- The scripts that are accepted today: the lines `machine 0`; `image NAME hex`; lines of instruction words; `end`; `user NAME`;
+-- `getcube 0`; `spawn NAME 0 0`; `run N`.
+use Rattle.std.specs.Prelude.{ℕ, List, [], ◌∷◌, ◌++◌, Option, Some, None, Bool, ◌&&◌, if◌then◌else◌, nat_lt, nat_le, length, codes}
 use Rattle.std.specs.Option.{option_map}
 use Rattle.std.specs.Str.{bytes_eq}
 use Rattle.ce_run.specs.Lines.{◌>>=◌, lines_of, words_of, after_prefix, before_suffix}
@@ -55,13 +56,9 @@ body_of (line ∷ lines) = if bytes_eq line (codes "end") then Some ([], lines) 
   more ← body_of lines
   Some (values ++ more.0, more.1)
 
--- ADDI, or ECALL
-abbrev pub is_built_word : ℕ → Bool
-is_built_word word = (word % 128 == 19 && word / 4096 % 8 == 0) || word == 0x73
-
--- the words that an image of the built form may have
+-- an image has some words, and not more than fit
 unfoldable pub are_built_words : List ℕ → Bool
-are_built_words words = nat_lt 0 (length words) && nat_le (length words) 4096 && list_all is_built_word words
+are_built_words words = nat_lt 0 (length words) && nat_le (length words) 30720
 
 -- the user and the count in the commands of the built form
 unfoldable pub commands_of : List ℕ → List (List ℕ) → Option (List ℕ × ℕ)

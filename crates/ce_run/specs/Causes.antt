@@ -1,8 +1,9 @@
 -- Why a run ended as it did.
-use Rattle.std.specs.Prelude.{◌≡◌, ℕ, ◌-◌, ◌^◌, ◌<◌, ◌≤◌, ◌⊎◌, List, [], ◌∷◌, Option, Some, None, Bool, false, codes}
+use Rattle.std.specs.Prelude.{◌≡◌, ℕ, ◌-◌, ◌^◌, ◌<◌, ◌≤◌, ◌⊎◌, List, [], ◌∷◌, Option, Some, None, Bool, false, codes, take}
 use Rattle.std.specs.Str.{bytes_eq}
+use Rattle.std.specs.Io.KnownBytes.{append_known}
 use Rattle.ce_run.specs.declared.ended.Fault.{Fault}
-use Rattle.ce_run.specs.declared.ended.Fault.TheVariants.{NotBuilt, Usage, Read, Write, Memory}
+use Rattle.ce_run.specs.declared.ended.Fault.TheVariants.{TooLong, NotBuilt, Usage, Read, Write, Memory}
 use Rattle.ce_run.specs.Fault.{status_of}
 
 -- the line is the single word `--serial`
@@ -15,26 +16,35 @@ abbrev pub status_of_end : Option Fault → ℕ
 status_of_end None = 0
 status_of_end (Some fault) = status_of fault
 
--- the whole script was read and run: the report was written, or its writing failed
-abbrev pub IsRead : Option Fault → Type 0
-IsRead None = Unit {0}
-IsRead (Some Write) = Unit {0}
-IsRead (Some other) = ⊥
+-- the script was read and run to its end: there is no fault, or only the writing of the report failed
+abbrev pub RanToEnd : Option Fault → Type 0
+RanToEnd None = Unit {0}
+RanToEnd (Some Write) = Unit {0}
+RanToEnd (Some other) = ⊥
 
 abbrev pub IsMemory : Option Fault → Type 0
 IsMemory (Some (Memory fault)) = Unit {0}
 IsMemory other = ⊥
 
--- a fault that comes while a script is read
-abbrev pub IsReading : Fault → Type 0
-IsReading Usage = ⊥
-IsReading Write = ⊥
-IsReading other = Unit {0}
+-- a fault that ends the reading of a script
+abbrev pub EndsReading : Fault → Type 0
+EndsReading Usage = ⊥
+EndsReading Write = ⊥
+EndsReading other = Unit {0}
 
--- a source gave more bytes than a script may have, by its counts before and after; a count at its end tells nothing
+-- a count of what a source gave tells how much it was, unless it stands at the end of its type
+abbrev pub Tells : ℕ → Type 0
+Tells count = count < 2 ^ 64 - 1
+
+-- by its counts before and after, a source gave more bytes than a script may have, or no more than that
 abbrev pub GaveTooMuch : ℕ → ℕ → Type 0
-GaveTooMuch before now = now < 2 ^ 64 - 1 → 1048576 < now - before
+GaveTooMuch before now = 1048576 < now - before
 
--- it gave no more than that
 abbrev pub GaveFew : ℕ → ℕ → Type 0
-GaveFew before now = now < 2 ^ 64 - 1 → now - before ≤ 1048576
+GaveFew before now = now - before ≤ 1048576
+
+-- what was written at the end: the whole report, or, where the sink failed, a front part of it
+abbrev pub Reports : Option Fault → List ℕ → Option (List ℕ) → Option (List ℕ) → Type 0
+Reports None text before now = now ≡ append_known before text
+Reports (Some Write) text before now = (n : ℕ) × (now ≡ append_known before (take n text))
+Reports (Some other) text before now = ⊥

@@ -1,9 +1,11 @@
+-- The faults: their statuses and their lines.
 use Rattle.std.specs.Prelude.{ℕ, List, [], ◌∷◌, ◌++◌, codes}
 use Rattle.ce_run.specs.declared.ended.Fault.{Fault}
-use Rattle.ce_run.specs.declared.ended.Fault.TheVariants.{NotBuilt, Usage, Read, Write, Memory}
+use Rattle.ce_run.specs.declared.ended.Fault.TheVariants.{TooLong, NotBuilt, Usage, Read, Write, Memory}
 
 -- the exit status of a fault
 abbrev pub status_of : Fault → ℕ
+status_of TooLong = 1
 status_of NotBuilt = 1
 status_of Usage = 2
 status_of Read = 3
@@ -12,6 +14,7 @@ status_of Write = 5
 
 -- what is written about a fault
 abbrev pub line_of : Fault → List ℕ
+line_of TooLong = codes "ce: script too long" ++ 10 ∷ []
 line_of NotBuilt = codes "ce: not built" ++ 10 ∷ []
 line_of Usage = codes "ce: usage: ce [--serial] [--load N]" ++ 10 ∷ []
 line_of Read = codes "ce: read fault" ++ 10 ∷ []

@@ -2,6 +2,11 @@ pub mod BuiltForm
 pub mod Causes
 pub mod Fault
 pub mod FormError
+pub mod Hello
 pub mod InputError
 pub mod Lines
+pub mod OneCube
+pub mod Running
+pub mod Script
+pub mod Text
 pub mod Words

@@ -1,3 +1,4 @@
+-- A text, its lines and their words.
 use Rattle.std.specs.Prelude.{ℕ, ◌-◌, List, [], ◌∷◌, Option, Some, None, if◌then◌else◌, ◌==◌, length, take, drop, option_and_then}
 use Rattle.std.specs.List.{onto_first, slice_split}
 use Rattle.std.specs.Str.{bytes_eq}

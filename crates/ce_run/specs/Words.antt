@@ -1,3 +1,4 @@
+-- Names and numbers in a script.
 use Rattle.std.specs.Prelude.{ℕ, List, [], ◌∷◌, Option, Some, None, Bool, false, ◌&&◌, ◌||◌, if◌then◌else◌, ◌==◌, nat_lt, nat_le, length}
 use Rattle.std.specs.List.{list_all}
 use Rattle.std.specs.Str.Parse.{digits_value}
@@ -13,7 +14,7 @@ unfoldable pub is_name : List ℕ → Bool
 is_name [] = false
 is_name (b ∷ bs) = is_ascii_alphabetic b && nat_lt (length bs) 16 && list_all is_name_byte bs
 
--- the number that digits write in a base, where all are digits of it
+-- the number that digits write in a base, where all are digits of it; no digits write 0
 abbrev pub number_in : ℕ → List ℕ → Option ℕ
 number_in radix digits = if list_all (λ b. nat_lt (digit_value b) radix) digits then Some (digits_value radix digits) else None
 

@@ -24,7 +24,10 @@ pub struct Ended {
 /// Why a report was not written to its end.
 #[derive(Clone, Copy, Debug, PartialEq, Eq, Error)]
 pub enum Fault {
-    /// The script is longer than 1,048,576 bytes, or it is not of the form that is built. Status 1.
+    /// The script is longer than 1,048,576 bytes. Status 1.
+    #[error("script too long")]
+    TooLong,
+    /// The script is not of the form that is built. Status 1.
     #[error("not built")]
     NotBuilt,
     /// The words of the command line are not accepted. Status 2.
@@ -47,7 +50,7 @@ impl Fault {
         ensures { result ≡ status_of self.now }
     {
         match self {
-            Fault::NotBuilt => 1,
+            Fault::TooLong | Fault::NotBuilt => 1,
             Fault::Usage => 2,
             Fault::Read => 3,
             Fault::Memory(_) => 4,
@@ -59,6 +62,7 @@ impl Fault {
         ensures { result.now ≡ line_of self.now }
     {
         match self {
+            Fault::TooLong => b"ce: script too long\n",
             Fault::NotBuilt => b"ce: not built\n",
             Fault::Usage => b"ce: usage: ce [--serial] [--load N]\n",
             Fault::Read => b"ce: read fault\n",

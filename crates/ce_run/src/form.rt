@@ -24,7 +24,7 @@ use std::alloc::{AllocError, Global};
 pub(crate) struct BuiltForm {
     /// The image's name.
     pub(crate) image: Name,
-    /// The image's instruction words, 1 to 4,096.
+    /// The image's instruction words, 1 to 30,720.
     pub(crate) words: Items<u32>,
     /// The user's name.
     pub(crate) user: Name,
@@ -65,7 +65,7 @@ impl From<AllocError> for FormError {
 #[tactic(auto, using(crate::proofs::FormParts::no_head, crate::proofs::FormParts::no_body, crate::proofs::FormParts::bad_words, crate::proofs::FormParts::no_commands, crate::proofs::FormParts::whole, crate::proofs::FormParts::few))]
 pub(crate) fn read_form(alloc: Global, text: &[u8]) -> Result<BuiltForm, FormError>
     ensures ok { IfOk result (λ form. built_form text.now ≡ Some form) }
-    ensures few { IfOk result (λ form. length form.words ≤ 4096) }
+    ensures few { IfOk result (λ form. length form.words ≤ 30720) }
     ensures not_built { IsErrOf result NotBuilt → built_form text.now ≡ None }
 {
     let (image, rest) = head_of(text).ok_or(FormError::NotBuilt)?;

@@ -1,7 +1,7 @@
 //! Reading a source to its end.
-ghost use Rattle.std.specs.Prelude.{◌≡◌, ◌≤◌, IfOk, IfSome, OnOk, IsErrOf, Some, []};
+ghost use Rattle.std.specs.Prelude.{◌≡◌, ◌≤◌, ◌<◌, length, IfOk, IfSome, OnOk, IsErrOf, Some, []};
 ghost use Rattle.ce_io.specs.Faults.{Rose};
-ghost use Rattle.ce_run.specs.Causes.{GaveTooMuch, GaveFew};
+ghost use Rattle.ce_run.specs.Causes.{Tells, GaveTooMuch, GaveFew};
 ghost use Rattle.ce_run.specs.declared.input.InputError.TheVariants.{TooLong, Read};
 
 use ce_io::Source;
@@ -47,11 +47,13 @@ impl From<ce_io::Failed> for InputError {
 }
 
 /// All the bytes of a source, up to its end.
+#[tactic(auto, using(crate::proofs::Known::longer_told))]
 pub(crate) fn read_to_end<S: Source>(alloc: Global, source: &mut S) -> Result<Vec<u8>, InputError>
     ensures whole { IfOk result (λ text. IfSome (S.left source.old) (λ bytes. (text.items ≡ bytes) × (S.left source.new ≡ Some []))) }
-    ensures few { OnOk result (GaveFew (S.given source.old) (S.given source.new)) }
-    ensures too_long { IsErrOf result TooLong → GaveTooMuch (S.given source.old) (S.given source.new) }
-    ensures read { IsErrOf result Read → GaveFew (S.given source.old) (S.given source.new) × Rose (S.faults source.old) (S.faults source.new) }
+    ensures few { OnOk result (Tells (S.given source.new) → GaveFew (S.given source.old) (S.given source.new)) }
+    ensures too_long { IsErrOf result TooLong → Tells (S.given source.new) → GaveTooMuch (S.given source.old) (S.given source.new) }
+    ensures longer { IsErrOf result TooLong → IfSome (S.left source.old) (λ bytes. 1048576 < length bytes) }
+    ensures read { IsErrOf result Read → (Tells (S.given source.new) → GaveFew (S.given source.old) (S.given source.new)) × Rose (S.faults source.old) (S.faults source.new) }
     ensures later { S.faults source.old ≤ S.faults source.new }
 {
     let mut text = Vec::new(alloc);

@@ -1,5 +1,7 @@
 //! The machine of one node and one user: what it was asked, and its answers, step by step.
-ghost use Rattle.std.specs.Prelude.{◌≡◌};
+ghost use Rattle.std.specs.Prelude.{◌≡◌, [], ◌∷◌, ◌++◌, ◌<◌, Some, None, true, IfOk, OnOk};
+ghost use Rattle.ce_model.specs.declared.entry.What.TheVariants.{Arm, Look, Note, Spawn, Take};
+ghost use Rattle.ce_run.specs.OneCube.{IsOneCube, first_entry, the_node, host_entry, node_entry, place_0, found_of, given_of, is_start, after_given};
 
 use ce_model::{Entry, Found, Given, HOST, NoMemory, Place, Subcube, What};
 use sqlite_items::Items;
@@ -23,7 +25,9 @@ pub(crate) struct Machine {
 
 impl Machine {
     /// A machine on which nothing was done.
-    pub(crate) fn new(alloc: Global) -> Machine {
+    pub(crate) fn new(alloc: Global) -> Machine
+        ensures { result ≡ record { history = []; armed = 0; dispatched = 0; waiting = None } }
+    {
         Machine {
             history: Items::new(alloc),
             armed: 0,
@@ -33,11 +37,14 @@ impl Machine {
     }
 
     /// Every step, in order.
-    pub(crate) fn into_history(self) -> Items<Entry> {
+    pub(crate) fn into_history(self) -> Items<Entry>
+        ensures { result ≡ self.history }
+    {
         self.history
     }
 
     fn post(&mut self, actor: u32, what: What) -> Result<(), NoMemory>
+        ensures ok { OnOk result (self.new ≡ record self.old { history = self.old.history ++ (record { user = 0; actor = actor; what = what }) ∷ [] }) }
         ensures armed { self.new.armed ≡ self.old.armed }
         ensures dispatched { self.new.dispatched ≡ self.old.dispatched }
     {
@@ -47,7 +54,11 @@ impl Machine {
     }
 
     /// Grants the one cube that there is.
-    pub(crate) fn getcube(&mut self) -> Result<Subcube, NoMemory> {
+    pub(crate) fn getcube(&mut self) -> Result<Subcube, NoMemory>
+        ensures granted { IfOk result (λ sub. sub ≡ the_node) }
+        ensures posted { OnOk result (self.new ≡ record self.old { history = self.old.history ++ first_entry ∷ [] }) }
+        ensures one { OnOk result (self.old.history ≡ [] → IsOneCube self.new.history) }
+    {
         let granted = Subcube { mask: 0, base: 0 };
         let sub = Some(granted);
         self.post(HOST, What::Getcube { dim: 0, sub })?;
@@ -55,7 +66,13 @@ impl Machine {
     }
 
     /// Has the image of this number started as process 0.
-    pub(crate) fn spawn(&mut self, image: u32) -> Result<(), NoMemory> {
+    pub(crate) fn spawn(&mut self, image: u32) -> Result<(), NoMemory>
+        ensures posted { OnOk result (self.new ≡ record self.old {
+          history = self.old.history ++ host_entry (Spawn 0 image place_0 true) ∷ [];
+          waiting = Some image;
+        }) }
+        ensures one { OnOk result (IsOneCube self.old.history → IsOneCube self.new.history) }
+    {
         let to = Place {
             node: NODE,
             pid: PID,
@@ -75,7 +92,14 @@ impl Machine {
     }
 
     /// Allows this many dispatches from now on.
-    pub(crate) fn arm(&mut self, count: u32) -> Result<(), NoMemory> {
+    pub(crate) fn arm(&mut self, count: u32) -> Result<(), NoMemory>
+        ensures posted { OnOk result (self.new ≡ record self.old {
+          history = self.old.history ++ host_entry (Arm count) ∷ [];
+          armed = count;
+          dispatched = 0;
+        }) }
+        ensures one { OnOk result (IsOneCube self.old.history → IsOneCube self.new.history) }
+    {
         self.post(HOST, What::Arm { count })?;
         self.armed = count;
         self.dispatched = 0;
@@ -83,12 +107,14 @@ impl Machine {
     }
 
     /// Gives the node its next work. `dead` has bit 0 where the process has stopped.
-    pub(crate) fn take(&mut self, dead: u32) -> Result<Given, NoMemory> {
-        let given = match self.waiting {
-            None => Given::Idle,
-            Some(_) if self.dispatched >= self.armed => Given::Spent,
-            Some(image) => Given::Start { pid: PID, image },
-        };
+    pub(crate) fn take(&mut self, dead: u32) -> Result<Given, NoMemory>
+        ensures given { IfOk result (λ given. given ≡ given_of self.old.waiting self.old.armed self.old.dispatched) }
+        ensures posted { IfOk result (λ given. self.new ≡ after_given given (record self.old {
+          history = self.old.history ++ node_entry (Take 0 dead None given) ∷ [];
+        })) }
+        ensures one { OnOk result (IsOneCube self.old.history → IsOneCube self.new.history) }
+    {
+        let given = self.next_given();
         let take = What::Take {
             asking: 0,
             dead,
@@ -96,26 +122,77 @@ impl Machine {
             given,
         };
         self.post(NODE, take)?;
-        if let Given::Start { .. } = given {
+        if is_start(given) {
             self.waiting = None;
             self.dispatched += 1;
         }
         Ok(given)
     }
 
+    /// What a node that asks for work is given.
+    fn next_given(&self) -> Given
+        ensures given { result ≡ given_of self.now.waiting self.now.armed self.now.dispatched }
+        ensures allowed { is_start result ≡ true → self.now.dispatched < self.now.armed }
+    {
+        match self.waiting {
+            None => Given::Idle,
+            Some(image) => {
+                if self.armed <= self.dispatched {
+                    Given::Spent
+                } else {
+                    Given::Start { pid: PID, image }
+                }
+            }
+        }
+    }
+
     /// Keeps a word that the process noted.
-    pub(crate) fn note(&mut self, word: u32) -> Result<(), NoMemory> {
-        self.post(NODE, What::Note { pid: PID, word })
+    pub(crate) fn note(&mut self, word: u32) -> Result<(), NoMemory>
+        ensures posted { OnOk result (self.new ≡ record self.old { history = self.old.history ++ node_entry (Note 0 word) ∷ [] }) }
+        ensures one { OnOk result (IsOneCube self.old.history → IsOneCube self.new.history) }
+    {
+        self.post(NODE, What::Note { pid: PID, word })?;
+        Ok(())
     }
 
     /// Tells whether the node has work.
-    pub(crate) fn look(&mut self) -> Result<Found, NoMemory> {
-        let found = match self.waiting {
-            None => Found::Quiet,
-            Some(_) if self.dispatched >= self.armed => Found::Spent,
-            Some(_) => Found::Busy,
-        };
+    pub(crate) fn look(&mut self) -> Result<Found, NoMemory>
+        ensures found { IfOk result (λ found. found ≡ found_of self.old.waiting self.old.armed self.old.dispatched) }
+        ensures posted { IfOk result (λ found. self.new ≡ record self.old { history = self.old.history ++ host_entry (Look found) ∷ [] }) }
+        ensures one { OnOk result (IsOneCube self.old.history → IsOneCube self.new.history) }
+    {
+        let found = self.next_found();
         self.post(HOST, What::Look { found })?;
         Ok(found)
+    }
+
+    /// What a look finds.
+    fn next_found(&self) -> Found
+        ensures { result ≡ found_of self.now.waiting self.now.armed self.now.dispatched }
+    {
+        match self.waiting {
+            None => Found::Quiet,
+            Some(_) => {
+                if self.armed <= self.dispatched {
+                    Found::Spent
+                } else {
+                    Found::Busy
+                }
+            }
+        }
+    }
+}
+
+/// Whether the node was given a process to start.
+pub(crate) fn is_start(given: Given) -> bool
+    ensures { result ≡ is_start given }
+{
+    match given {
+        Given::Start { .. } => true,
+        Given::Mail { .. } => false,
+        Given::Kill { .. } => false,
+        Given::Poll { .. } => false,
+        Given::Idle => false,
+        Given::Spent => false,
     }
 }

@@ -1,86 +1,101 @@
-//! A process: its registers, and its run from one kernel call to the next.
-ghost use Rattle.std.specs.Prelude.{◌≡◌, ◌<◌, ◌≤◌, OnOk, length};
+//! The one process: its registers, its memory, and its run from one kernel call to the next.
+ghost use Rattle.std.specs.Prelude.{◌≡◌, ◌≤◌, ◌<◌, Ok, None, IfOk, IfErr, MatchOption, length};
+ghost use Rattle.ce_model.specs.Process.{at_call, at_end, ended, reached};
+ghost use Rattle.ce_model.specs.Node.{says, note_word, take_work};
+ghost use Rattle.ce_run.specs.Running.{process_of, running_node, ended_node, IsStart};
 
-use ce_model::Stop;
+use ce_model::{NoMemory, Stop};
+use rv_step::{Event, PrivateMemory, Regs, step};
+use std::alloc::Global;
 
-/// The address at which an image begins.
-const FIRST: u32 = 0x0001_0000;
 /// The first value of the stack pointer: the end of a process's memory.
 const STACK: u32 = 0x0003_0000;
 
 /// The registers of the calling convention: the stack pointer, and those in which a kernel call finds its
 /// argument and its number.
-const SP: usize = 2;
+const SP: u8 = 2;
 
-const A0: usize = 10;
+const A0: u8 = 10;
 
-const A7: usize = 17;
+const A7: u8 = 17;
 
 /// The kernel call that ends the process.
 const EXIT: u32 = 13;
 /// The kernel call that leaves a word in the trace.
 const NOTE: u32 = 14;
 
-/// A process that runs an image's words, of which there are at most 4,096.
+/// How many instructions a turn may run, and how many counted calls it may make.
+const TURN_LENGTH: u32 = 4_000_000;
+
+const TURN_CALLS: u32 = 4_096;
+
+/// A process in its turn, with what the turn has left.
 #[derive(Drop)]
-pub(crate) struct Process<'a> {
-    words: &'a [u32],
-    next: usize,
-    registers: [u32; 32],
-    ghost few: { length words.now ≤ 4096 },
-    ghost within: { next ≤ length words.now },
+pub(crate) struct Process {
+    registers: Regs,
+    pc: u32,
+    memory: PrivateMemory,
+    left: u32,
+    calls: u32,
 }
 
-impl<'a> Process<'a> {
-    /// The process as it starts.
-    pub(crate) fn new(words: &'a [u32]) -> Process<'a>
-        requires { length words.now ≤ 4096 }
+impl Process {
+    /// The process that starts from an image of these bytes, at the image's entry.
+    #[tactic(auto, unfolding(ce_model::specs::Node::hears))]
+    pub(crate) fn start(alloc: Global, entry: u32, loaded: &[u8]) -> Result<Process, NoMemory>
+        requires { length loaded.now ≤ 122880 }
+        ensures { IfOk result (λ process. IsStart (record { entry = entry; loaded = loaded.now; zero = 0 }) process) }
     {
-        let mut registers = [0; 32];
-        registers[SP] = STACK;
-        Process {
-            words,
-            next: 0,
+        let mut memory = PrivateMemory::new(alloc)?;
+        memory.load_image(loaded);
+        let mut registers = Regs::new();
+        registers.set(SP, STACK);
+        Ok(Process {
             registers,
-        }
+            pc: entry,
+            memory,
+            left: TURN_LENGTH,
+            calls: TURN_CALLS,
+        })
     }
 
     /// Runs to the next note, and answers its word, or why the process ended.
     pub(crate) fn run(&mut self) -> Result<u32, Stop>
-        ensures words { self.new.words.now ≡ self.old.words.now }
-        ensures next { OnOk result (self.old.next < self.new.next) }
+        ensures noted { IfOk result (λ word. says (running_node self.old) ≡ record { node = running_node self.new; call = note_word 0 word }) }
+        ensures ended { IfErr result (λ cause. says (running_node self.old) ≡ record { node = ended_node cause self.new; call = take_work 0 1 None }) }
+        ensures fewer { IfOk result (λ word. self.new.calls < self.old.calls) }
     {
-        while self.next < self.words.len() {
-            let word = self.words[self.next];
-            self.next += 1;
-            if word == 0x73 {
-                return self.call();
+        match self.run_to_call() {
+            Some(cause) => return Err(cause),
+            None => {}
+        }
+        let argument = self.registers.get(A0);
+        match self.registers.get(A7) {
+            EXIT => Err(Stop::Exited(argument)),
+            NOTE if self.calls == 0 => Err(Stop::TurnSpent),
+            NOTE => {
+                self.calls -= 1;
+                Ok(argument)
             }
-            self.add_immediate(word);
-        }
-        Err(Stop::Illegal(FIRST + 4 * self.next as u32, 0))
-    }
-
-    /// Does an ADDI: the sum wraps, and register 0 stays 0.
-    fn add_immediate(&mut self, word: u32)
-        ensures words { self.new.words.now ≡ self.old.words.now }
-        ensures next { self.new.next ≡ self.old.next }
-    {
-        let target = (word / 128 % 32) as usize;
-        let source = (word / 32_768 % 32) as usize;
-        let low = word / 1_048_576;
-        let immediate = if low < 2048 { low } else { low + 0xFFFF_F000 };
-        if target != 0 {
-            self.registers[target] = self.registers[source].wrapping_add(immediate);
-        }
-    }
-
-    /// Answers an ECALL.
-    fn call(&self) -> Result<u32, Stop> {
-        match self.registers[A7] {
-            NOTE => Ok(self.registers[A0]),
-            EXIT => Err(Stop::Exited(self.registers[A0])),
             number => Err(Stop::NoCall(number)),
         }
+    }
+
+    /// Runs to the next kernel call, and answers nothing, or why the process ended before it.
+    fn run_to_call(&mut self) -> Option<Stop>
+        ensures reached { MatchOption result
+            (reached self.old.left (process_of self.old) ≡ at_call self.new.left (process_of self.new))
+            (λ cause. reached self.old.left (process_of self.old) ≡ at_end (ended cause (process_of self.new))) }
+        ensures calls { self.new.calls ≡ self.old.calls }
+    {
+        while self.left > 0 {
+            self.left -= 1;
+            match step(&mut self.registers, &mut self.pc, &mut self.memory) {
+                Event::Went => {}
+                Event::Call => return None,
+                Event::Stopped(cause) => return Some(cause),
+            }
+        }
+        Some(Stop::TurnSpent)
     }
 }

@@ -3,8 +3,10 @@ ghost use Rattle.std.specs.Prelude.{◌≡◌, ◌↔◌, ◌⊎◌, ◌≤◌, 
 ghost use Rattle.std.specs.String.{string_bytes};
 ghost use Rattle.ce_io.specs.Faults.{Rose};
 ghost use Rattle.ce_run.specs.BuiltForm.{built_form};
-ghost use Rattle.ce_run.specs.Causes.{is_serial, status_of_end, GaveTooMuch, GaveFew, IsMemory, IsReading, IsRead};
-ghost use Rattle.ce_run.specs.declared.ended.Fault.TheVariants.{NotBuilt, Usage, Read, Write};
+ghost use Rattle.ce_run.specs.Causes.{is_serial, status_of_end, Tells, GaveTooMuch, GaveFew, IsMemory, EndsReading, RanToEnd, Reports};
+ghost use Rattle.ce_run.specs.Script.{script_of, script_of_form};
+ghost use Rattle.ce_run.specs.Text.{report};
+ghost use Rattle.ce_run.specs.declared.ended.Fault.TheVariants.{TooLong, NotBuilt, Usage, Read, Write};
 
 use crate::ended::{Ended, Fault};
 use crate::form::{BuiltForm, FormError, read_form};
@@ -32,16 +34,25 @@ pub fn top<R: Threads + Wait + Sync, S: Source, K: Sink, G: Gate>(
     _gate: &G,
 ) -> Ended
     ensures status { result.status ≡ status_of_end result.fault }
-    ensures kept { IsSome result.kept ↔ IsRead result.fault }
+    ensures kept { IsSome result.kept ↔ RanToEnd result.fault }
     ensures usage { (result.fault ≡ Some Usage) ↔ (is_serial (map string_bytes words.now) ≡ false) }
-    // A script is read to its end; whether it is of the built form decides.
-    ensures built { IsRead result.fault → IfSome (S.left source.old) (λ text. (S.left source.new ≡ Some []) × IsSome (built_form text)) }
-    ensures not_built { result.fault ≡ Some NotBuilt → GaveTooMuch (S.given source.old) (S.given source.new)
-        ⊎ IfSome (S.left source.old) (λ text. (S.left source.new ≡ Some []) × (built_form text ≡ None)) }
-    ensures too_much { GaveTooMuch (S.given source.old) (S.given source.new) → S.given source.new < 2 ^ 64 - 1 → (result.fault ≡ Some NotBuilt) ⊎ IsMemory result.fault }
+    // A script is read to its end, and whether it is of the built form decides.
+    ensures built { RanToEnd result.fault → IfSome (S.left source.old) (λ text. (S.left source.new ≡ Some []) × IsSome (script_of text)) }
+    ensures not_built { result.fault ≡ Some NotBuilt → IfSome (S.left source.old) (λ text. (S.left source.new ≡ Some []) × (script_of text ≡ None)) }
+    ensures too_long { result.fault ≡ Some TooLong → (Tells (S.given source.new) → GaveTooMuch (S.given source.old) (S.given source.new))
+        × IfSome (S.left source.old) (λ text. 1048576 < length text) }
+    ensures too_much { Tells (S.given source.new) → GaveTooMuch (S.given source.old) (S.given source.new) → (result.fault ≡ Some TooLong) ⊎ IsMemory result.fault }
+    ensures unread { result.fault ≡ Some Usage → (S.left source.new ≡ S.left source.old) × (S.given source.new ≡ S.given source.old) }
     ensures read { result.fault ≡ Some Read → Rose (S.faults source.old) (S.faults source.new) }
     ensures write { result.fault ≡ Some Write → Rose (K.faults sink.old) (K.faults sink.new) }
-    ensures unwritten { IsRead result.fault ⊎ (K.written sink.new ≡ K.written sink.old) }
+    // What was written is the report, or with the fault Write a front part of it; with the other faults it is nothing.
+    ensures reported { IfSome result.kept (λ kept. IfSome (S.left source.old) (λ text. IfSome (script_of text) (λ script.
+        Reports result.fault (report script kept) (K.written sink.old) (K.written sink.new)))) }
+    ensures unwritten { RanToEnd result.fault ⊎ (K.written sink.new ≡ K.written sink.old) }
+    // What is accepted is run to its end, unless the source, the sink or memory fails.
+    ensures complete { is_serial (map string_bytes words.now) ≡ true → (text : List ℕ) → S.left source.old ≡ Some text
+        → length text ≤ 1048576 → IsSome (script_of text) → ¬ Rose (S.faults source.old) (S.faults source.new)
+        → ¬ Rose (K.faults sink.old) (K.faults sink.new) → (result.fault ≡ None) ⊎ IsMemory result.fault }
 {
     serial_call(alloc, words, source, sink)
 }
@@ -55,16 +66,25 @@ pub fn serial_call<S: Source, K: Sink>(
     sink: &mut K,
 ) -> Ended
     ensures status { result.status ≡ status_of_end result.fault }
-    ensures kept { IsSome result.kept ↔ IsRead result.fault }
+    ensures kept { IsSome result.kept ↔ RanToEnd result.fault }
     ensures usage { (result.fault ≡ Some Usage) ↔ (is_serial (map string_bytes words.now) ≡ false) }
-    // A script is read to its end; whether it is of the built form decides.
-    ensures built { IsRead result.fault → IfSome (S.left source.old) (λ text. (S.left source.new ≡ Some []) × IsSome (built_form text)) }
-    ensures not_built { result.fault ≡ Some NotBuilt → GaveTooMuch (S.given source.old) (S.given source.new)
-        ⊎ IfSome (S.left source.old) (λ text. (S.left source.new ≡ Some []) × (built_form text ≡ None)) }
-    ensures too_much { GaveTooMuch (S.given source.old) (S.given source.new) → S.given source.new < 2 ^ 64 - 1 → (result.fault ≡ Some NotBuilt) ⊎ IsMemory result.fault }
+    // A script is read to its end, and whether it is of the built form decides.
+    ensures built { RanToEnd result.fault → IfSome (S.left source.old) (λ text. (S.left source.new ≡ Some []) × IsSome (script_of text)) }
+    ensures not_built { result.fault ≡ Some NotBuilt → IfSome (S.left source.old) (λ text. (S.left source.new ≡ Some []) × (script_of text ≡ None)) }
+    ensures too_long { result.fault ≡ Some TooLong → (Tells (S.given source.new) → GaveTooMuch (S.given source.old) (S.given source.new))
+        × IfSome (S.left source.old) (λ text. 1048576 < length text) }
+    ensures too_much { Tells (S.given source.new) → GaveTooMuch (S.given source.old) (S.given source.new) → (result.fault ≡ Some TooLong) ⊎ IsMemory result.fault }
+    ensures unread { result.fault ≡ Some Usage → (S.left source.new ≡ S.left source.old) × (S.given source.new ≡ S.given source.old) }
     ensures read { result.fault ≡ Some Read → Rose (S.faults source.old) (S.faults source.new) }
     ensures write { result.fault ≡ Some Write → Rose (K.faults sink.old) (K.faults sink.new) }
-    ensures unwritten { IsRead result.fault ⊎ (K.written sink.new ≡ K.written sink.old) }
+    // What was written is the report, or with the fault Write a front part of it; with the other faults it is nothing.
+    ensures reported { IfSome result.kept (λ kept. IfSome (S.left source.old) (λ text. IfSome (script_of text) (λ script.
+        Reports result.fault (report script kept) (K.written sink.old) (K.written sink.new)))) }
+    ensures unwritten { RanToEnd result.fault ⊎ (K.written sink.new ≡ K.written sink.old) }
+    // What is accepted is run to its end, unless the source, the sink or memory fails.
+    ensures complete { is_serial (map string_bytes words.now) ≡ true → (text : List ℕ) → S.left source.old ≡ Some text
+        → length text ≤ 1048576 → IsSome (script_of text) → ¬ Rose (S.faults source.old) (S.faults source.new)
+        → ¬ Rose (K.faults sink.old) (K.faults sink.new) → (result.fault ≡ None) ⊎ IsMemory result.fault }
 {
     if !is_serial(words) {
         return refused(Fault::Usage);
@@ -87,7 +107,7 @@ fn is_serial(words: &[String]) -> bool
 
 /// The end of a run that wrote nothing.
 fn refused(fault: Fault) -> Ended
-    requires { IsRead (Some fault) → ⊥ }
+    requires { RanToEnd (Some fault) → ⊥ }
     ensures fault { result.fault ≡ Some fault }
     ensures status { result.status ≡ status_of_end (Some fault) }
     ensures kept { result.kept ≡ None }
@@ -102,16 +122,18 @@ fn refused(fault: Fault) -> Ended
 /// Reads a script of the built form from a source.
 fn read_script<S: Source>(alloc: Global, source: &mut S) -> Result<BuiltForm, Fault>
     ensures form { IfOk result (λ form. IfSome (S.left source.old) (λ text. (S.left source.new ≡ Some []) × (built_form text ≡ Some form))) }
-    ensures few { IfOk result (λ form. length form.words ≤ 4096) }
-    ensures small { OnOk result (GaveFew (S.given source.old) (S.given source.new)) }
-    ensures not_built { IsErrOf result NotBuilt → GaveTooMuch (S.given source.old) (S.given source.new)
-        ⊎ IfSome (S.left source.old) (λ text. (S.left source.new ≡ Some []) × (built_form text ≡ None)) }
-    ensures read { IsErrOf result Read → Rose (S.faults source.old) (S.faults source.new) × GaveFew (S.given source.old) (S.given source.new) }
-    ensures fault { IfErr result IsReading }
+    ensures few { IfOk result (λ form. length form.words ≤ 30720) }
+    ensures small { OnOk result (Tells (S.given source.new) → GaveFew (S.given source.old) (S.given source.new)) }
+    ensures not_built { IsErrOf result NotBuilt → (Tells (S.given source.new) → GaveFew (S.given source.old) (S.given source.new))
+        × IfSome (S.left source.old) (λ text. (S.left source.new ≡ Some []) × (built_form text ≡ None)) }
+    ensures too_long { IsErrOf result TooLong → Tells (S.given source.new) → GaveTooMuch (S.given source.old) (S.given source.new) }
+    ensures longer { IsErrOf result TooLong → IfSome (S.left source.old) (λ text. 1048576 < length text) }
+    ensures read { IsErrOf result Read → Rose (S.faults source.old) (S.faults source.new) × (Tells (S.given source.new) → GaveFew (S.given source.old) (S.given source.new)) }
+    ensures fault { IfErr result EndsReading }
 {
     let text = match read_to_end(alloc, source) {
         Ok(text) => text,
-        Err(InputError::TooLong) => return Err(Fault::NotBuilt),
+        Err(InputError::TooLong) => return Err(Fault::TooLong),
         Err(InputError::Read) => return Err(Fault::Read),
         Err(InputError::Memory(fault)) => return Err(Fault::Memory(fault)),
     };
@@ -124,12 +146,13 @@ fn read_script<S: Source>(alloc: Global, source: &mut S) -> Result<BuiltForm, Fa
 
 /// Runs a script and writes its report.
 fn run_form<K: Sink>(alloc: Global, form: &BuiltForm, sink: &mut K) -> Ended
-    requires { length form.now.words ≤ 4096 }
+    requires { length form.now.words ≤ 30720 }
     ensures status { result.status ≡ status_of_end result.fault }
-    ensures kept { IsSome result.kept ↔ IsRead result.fault }
-    ensures fault { IsRead result.fault ⊎ IsMemory result.fault }
+    ensures kept { IsSome result.kept ↔ RanToEnd result.fault }
+    ensures reported { IfSome result.kept (λ kept. Reports result.fault (report (script_of_form form.now) kept) (K.written sink.old) (K.written sink.new)) }
+    ensures fault { RanToEnd result.fault ⊎ IsMemory result.fault }
     ensures write { result.fault ≡ Some Write → Rose (K.faults sink.old) (K.faults sink.new) }
-    ensures unwritten { IsRead result.fault ⊎ (K.written sink.new ≡ K.written sink.old) }
+    ensures unwritten { RanToEnd result.fault ⊎ (K.written sink.new ≡ K.written sink.old) }
 {
     let record = match run_script(alloc, form) {
         Ok(record) => record,

@@ -1,19 +1,26 @@
 //! The commands of a script, carried out one after another.
-ghost use Rattle.std.specs.Prelude.{◌≤◌, length};
+ghost use Rattle.std.specs.Prelude.{◌≡◌, ◌≤◌, ◌*◌, IfOk, OnOk, length};
+ghost use Rattle.std.specs.List.{flat_map};
+ghost use Rattle.std.specs.Int.{w32, to_le_bytes};
+ghost use Rattle.ce_run.specs.OneCube.{IsOneCube};
 
 use crate::form::BuiltForm;
-use crate::machine::Machine;
-use crate::name::Name;
+use crate::machine::{Machine, is_start};
 use crate::process::Process;
 use crate::record::{Answer, Command, Record, UserRecord};
-use ce_model::{Found, Given, NoMemory, Place};
+use ce_model::{Found, NoMemory, Place};
 use sqlite_items::Items;
 use std::alloc::Global;
 
+/// The address at which images begin, and at which they are entered.
+const ENTRY: u32 = 0x0001_0000;
+
 /// Carries out a script, on a machine of its own.
 pub(crate) fn run_script(alloc: Global, form: &BuiltForm) -> Result<Record, NoMemory>
-    requires { length form.now.words ≤ 4096 }
+    requires { length form.now.words ≤ 30720 }
+    ensures { IfOk result (λ kept. IsOneCube kept.history) }
 {
+    let loaded = image_bytes(alloc, form.words.as_slice())?;
     let mut machine = Machine::new(alloc);
     let mut done = Items::new(alloc);
     let granted = machine.getcube()?;
@@ -21,7 +28,7 @@ pub(crate) fn run_script(alloc: Global, form: &BuiltForm) -> Result<Record, NoMe
     machine.spawn(0)?;
     let place = Place { node: 0, pid: 0 };
     done.push((Command::Spawn(0, place), Answer::Ok))?;
-    let answer = run(&mut machine, form.words.as_slice(), form.count)?;
+    let answer = run(alloc, &mut machine, loaded.as_slice(), form.count)?;
     done.push((Command::Run(form.count), answer))?;
     let name = form.user.copy(alloc)?;
     let mut users = Items::new(alloc);
@@ -30,14 +37,27 @@ pub(crate) fn run_script(alloc: Global, form: &BuiltForm) -> Result<Record, NoMe
     Ok(Record { users, history })
 }
 
+/// The bytes of an image's words, the lowest byte of each first.
+fn image_bytes(alloc: Global, words: &[u32]) -> Result<Vec<u8>, NoMemory>
+    ensures bytes { IfOk result (λ bytes. bytes.items ≡ flat_map (to_le_bytes w32) words.now) }
+    ensures length { IfOk result (λ bytes. length bytes.items ≡ 4 * length words.now) }
+{
+    let mut bytes = Vec::new(alloc);
+    for word in words {
+        bytes.extend_from_slice(word.to_le_bytes().as_slice())?;
+    }
+    Ok(bytes)
+}
+
 /// The command `run`: rounds, up to the first that has no work, and a look.
-fn run(machine: &mut Machine, words: &[u32], count: u32) -> Result<Answer, NoMemory>
-    requires { length words.now ≤ 4096 }
+fn run(alloc: Global, machine: &mut Machine, loaded: &[u8], count: u32) -> Result<Answer, NoMemory>
+    requires { length loaded.now ≤ 122880 }
+    ensures { OnOk result (IsOneCube machine.old.history → IsOneCube machine.new.history) }
 {
     machine.arm(count)?;
     let mut stopped = false;
     for _ in 0..=count {
-        if !round(machine, words, &mut stopped)? {
+        if !round(alloc, machine, loaded, &mut stopped)? {
             break;
         }
     }
@@ -48,25 +68,31 @@ fn run(machine: &mut Machine, words: &[u32], count: u32) -> Result<Answer, NoMem
 }
 
 /// One round: the node takes its work, and does it to its end. Answers whether there was work.
-fn round(machine: &mut Machine, words: &[u32], stopped: &mut bool) -> Result<bool, NoMemory>
-    requires { length words.now ≤ 4096 }
+fn round(
+    alloc: Global,
+    machine: &mut Machine,
+    loaded: &[u8],
+    stopped: &mut bool,
+) -> Result<bool, NoMemory>
+    requires { length loaded.now ≤ 122880 }
+    ensures { OnOk result (IsOneCube machine.old.history → IsOneCube machine.new.history) }
 {
     let dead = if *stopped { 1 } else { 0 };
-    match machine.take(dead)? {
-        Given::Start { .. } => {
-            turn(machine, words)?;
-            *stopped = true;
-            Ok(true)
-        }
-        _ => Ok(false),
+    let given = machine.take(dead)?;
+    if !is_start(given) {
+        return Ok(false);
     }
+    turn(alloc, machine, loaded)?;
+    *stopped = true;
+    Ok(true)
 }
 
 /// The turn of the process, from its start to its end.
-fn turn(machine: &mut Machine, words: &[u32]) -> Result<(), NoMemory>
-    requires { length words.now ≤ 4096 }
+fn turn(alloc: Global, machine: &mut Machine, loaded: &[u8]) -> Result<(), NoMemory>
+    requires { length loaded.now ≤ 122880 }
+    ensures { OnOk result (IsOneCube machine.old.history → IsOneCube machine.new.history) }
 {
-    let mut process = Process::new(words);
+    let mut process = Process::start(alloc, ENTRY, loaded)?;
     while let Ok(word) = process.run() {
         machine.note(word)?;
     }

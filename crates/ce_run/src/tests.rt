@@ -1,5 +1,9 @@
 //! The worked rows, each through `serial_call` over memory.
-ghost use Rattle.std.specs.Prelude.{◌≤◌};
+ghost use Rattle.std.specs.Prelude.{◌≡◌, ◌≤◌, Some};
+ghost use Rattle.ce_run.specs.BuiltForm.{built_form};
+ghost use Rattle.ce_run.specs.Script.{script_of_form};
+ghost use Rattle.ce_run.specs.Text.{report};
+ghost use Rattle.ce_run.specs.Hello.{hello_text, hello_form, hello_record, hello_report};
 
 use super::*;
 use ce_gate::Open;
@@ -37,11 +41,13 @@ const SOUND: Ends<'static> = Ends {
     most: 4096,
 };
 
-fn run_line(alloc: Global, word: &str, script: &[u8], ends: Ends) -> Result<Ran, Fail>
+fn run_line(alloc: Global, line: &[&str], script: &[u8], ends: Ends) -> Result<Ran, Fail>
     requires { 1 ≤ ends.most }
 {
     let mut words = Vec::new(alloc);
-    words.push(String::from_str(alloc, word)?)?;
+    for word in line {
+        words.push(String::from_str(alloc, word)?)?;
+    }
     let bytes = Vec::from_slice(alloc, script)?;
     let reads = Vec::from_slice(alloc, ends.failing_read)?;
     let writes = Vec::from_slice(alloc, ends.failing_write)?;
@@ -56,7 +62,7 @@ fn run_line(alloc: Global, word: &str, script: &[u8], ends: Ends) -> Result<Ran,
 }
 
 fn run_script(alloc: Global, script: &str) -> Result<Ran, Fail> {
-    run_line(alloc, "--serial", script.as_bytes(), SOUND)
+    run_line(alloc, &["--serial"], script.as_bytes(), SOUND)
 }
 
 fn text(alloc: Global, parts: &[&str]) -> Result<String, Fail> {
@@ -67,8 +73,16 @@ fn text(alloc: Global, parts: &[&str]) -> Result<String, Fail> {
     Ok(text)
 }
 
+/// The definitions, computed on this row.
+#[tactic(auto, using(crate::proofs::HelloRow::hello_is_built, crate::proofs::HelloRow::hello_is_reported))]
+fn hello_by_definition()
+    ensures script { built_form hello_text ≡ Some hello_form }
+    ensures report { report (script_of_form hello_form) hello_record ≡ hello_report }
+{}
+
 #[test]
 fn hello(rt: HostRuntime) -> Result<(), Fail> {
+    hello_by_definition();
     let ran = run_script(rt.alloc(), HELLO)?;
     assert_eq!(rt; ran.status, 0);
     assert_eq!(rt; ran.written.as_slice(), HELLO_REPORT.as_bytes());
@@ -120,17 +134,37 @@ fn tie(rt: HostRuntime) -> Result<(), Fail> {
     Ok(())
 }
 
+/// Images that end without a note: by a call that doesn't exist, and by a turn that would never end.
 #[test]
-fn no_such_call(rt: HostRuntime) -> Result<(), Fail> {
+fn images_without_a_note(rt: HostRuntime) -> Result<(), Fail> {
     let alloc = rt.alloc();
-    let script =
-        "machine 0\nimage hello hex\n00000073\nend\nuser alice\ngetcube 0\nspawn hello 0 0\nrun 10\n";
-    let ran = run_script(alloc, script)?;
     let rest =
         "host arm 10\nnode 0 take 0 0 - start 0 hello\nnode 0 take 0 1 - idle\nhost look quiet\nend\n";
     let want = text(alloc, &[HEAD_REPORT, "run 10\n= quiet\n", CUBE, rest])?;
-    assert_eq!(rt; ran.status, 0);
-    assert_eq!(rt; ran.written.as_slice(), want.as_bytes());
+    let head = "machine 0\nimage hello hex\n";
+    let commands = "\nend\nuser alice\ngetcube 0\nspawn hello 0 0\nrun 10\n";
+    for word in ["00000073", "0000006F"] {
+        let ran = run_script(alloc, text(alloc, &[head, word, commands])?.as_str())?;
+        assert_eq!(rt; ran.status, 0, "{word}");
+        assert_eq!(rt; ran.written.as_slice(), want.as_bytes(), "{word}");
+    }
+    Ok(())
+}
+
+#[test]
+fn script_limits(rt: HostRuntime) -> Result<(), Fail> {
+    let alloc = rt.alloc();
+    for (len, fault) in [(1_048_576, Fault::NotBuilt), (1_048_577, Fault::TooLong)] {
+        let script = vec![in alloc; b'#'; len]?;
+        let mut words = Vec::new(alloc);
+        words.push(String::from_str(alloc, "--serial")?)?;
+        let mut source = MemSource::new(script, Vec::new(alloc), 4096);
+        let mut sink = MemSink::new(alloc, 64, Vec::new(alloc), 64).map_err(|_| "no memory")?;
+        let ended = serial_call(alloc, words.as_slice(), &mut source, &mut sink);
+        assert_eq!(rt; ended.status, 1);
+        assert_eq!(rt; ended.fault, Some(fault));
+        assert_eq!(rt; sink.bytes().len(), 0);
+    }
     Ok(())
 }
 
@@ -142,7 +176,7 @@ fn faults(rt: HostRuntime) -> Result<(), Fail> {
         failing_write: &[],
         most: 4096,
     };
-    let ran = run_line(alloc, "--serial", HELLO.as_bytes(), broken_source)?;
+    let ran = run_line(alloc, &["--serial"], HELLO.as_bytes(), broken_source)?;
     assert_eq!(rt; ran.status, 3);
     assert_eq!(rt; ran.written.len(), 0);
     let broken_sink = Ends {
@@ -150,7 +184,7 @@ fn faults(rt: HostRuntime) -> Result<(), Fail> {
         failing_write: &[2],
         most: 8,
     };
-    let ran = run_line(alloc, "--serial", HELLO.as_bytes(), broken_sink)?;
+    let ran = run_line(alloc, &["--serial"], HELLO.as_bytes(), broken_sink)?;
     assert_eq!(rt; ran.status, 5);
     assert_eq!(rt; ran.written.as_slice(), b"machine 0\nuser a".as_slice());
     Ok(())
@@ -158,9 +192,17 @@ fn faults(rt: HostRuntime) -> Result<(), Fail> {
 
 #[test]
 fn usage(rt: HostRuntime) -> Result<(), Fail> {
-    let ran = run_line(rt.alloc(), "--fast", HELLO.as_bytes(), SOUND)?;
-    assert_eq!(rt; ran.status, 2);
-    assert_eq!(rt; ran.written.len(), 0);
+    let lines: [&[&str]; 4] = [
+        &["--fast"],
+        &["--load", "4294967296"],
+        &[],
+        &["--serial", "--serial"],
+    ];
+    for line in lines {
+        let ran = run_line(rt.alloc(), line, HELLO.as_bytes(), SOUND)?;
+        assert_eq!(rt; ran.status, 2);
+        assert_eq!(rt; ran.written.len(), 0);
+    }
     Ok(())
 }
 
@@ -172,7 +214,7 @@ fn not_built(rt: HostRuntime) -> Result<(), Fail> {
         "machine 1\n",
         "machine 0\nimage 1x hex\n00000073\nend\nuser a\ngetcube 0\nspawn 1x 0 0\nrun 1\n",
         "machine 0\nimage x hex\nend\nuser a\ngetcube 0\nspawn x 0 0\nrun 1\n",
-        "machine 0\nimage x hex\n00000033\nend\nuser a\ngetcube 0\nspawn x 0 0\nrun 1\n",
+        "machine 0\nimage x hex\n0000003\nend\nuser a\ngetcube 0\nspawn x 0 0\nrun 1\n",
         "machine 0\nimage x hex\n00000073  00000073\nend\nuser a\ngetcube 0\nspawn x 0 0\nrun 1\n",
         "machine 0\nimage x hex\n00000073\nuser a\ngetcube 0\nspawn x 0 0\nrun 1\n",
         "machine 0\nimage x hex\n00000073\nend\nuser a\ngetcube 0\nspawn y 0 0\nrun 1\n",
@@ -190,6 +232,8 @@ fn not_built(rt: HostRuntime) -> Result<(), Fail> {
 fn fault_lines(rt: HostRuntime) -> Result<(), Fail> {
     let alloc = rt.alloc();
     for (fault, line) in [
+        (Fault::TooLong, "ce: script too long\n"),
+        (Fault::TooLong, "ce: script too long\n"),
         (Fault::NotBuilt, "ce: not built\n"),
         (Fault::Usage, "ce: usage: ce [--serial] [--load N]\n"),
         (Fault::Read, "ce: read fault\n"),

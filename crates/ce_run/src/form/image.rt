@@ -1,10 +1,9 @@
 //! The image of a script: its line, and its body up to `end`.
 ghost use Rattle.std.specs.Prelude.{◌≡◌, Some, None, true, IfSome, ◌<◌, ◌≤◌, IfOk, IsErrOf, OnOk, length, List, ℕ};
 ghost use Rattle.std.specs.Option.{option_copied};
-ghost use Rattle.std.specs.List.{list_all};
 ghost use Rattle.ce_run.specs.Lines.{lines_of, words_of};
 ghost use Rattle.ce_run.specs.Words.{is_name};
-ghost use Rattle.ce_run.specs.BuiltForm.{name_of, image_line, with_front, word_values, body_of, is_built_word, are_built_words};
+ghost use Rattle.ce_run.specs.BuiltForm.{name_of, image_line, with_front, word_values, body_of, are_built_words};
 ghost use Rattle.ce_run.specs.declared.form.FormError.TheVariants.{NotBuilt};
 
 use super::FormError;
@@ -14,7 +13,7 @@ use sqlite_items::Items;
 use std::alloc::Global;
 
 /// The most words that an image may have.
-const MAX_WORDS: usize = 4096;
+const MAX_WORDS: usize = 30_720;
 
 /// A text that is a name, and no other.
 pub(super) fn name_of(text: &[u8]) -> Option<&[u8]>
@@ -71,23 +70,10 @@ pub(super) fn body_of(alloc: Global, text: &[u8]) -> Result<(Items<u32>, &[u8]),
     }
 }
 
-/// Whether a word is an ADDI or an ECALL.
-fn is_built_word(word: u32) -> bool
-    ensures { result ≡ is_built_word word }
-{
-    (word % 128 == 0x13 && word / 4096 % 8 == 0) || word == 0x73
-}
-
 /// Whether an image may have these words.
 #[tactic(auto, unfolding(crate::specs::BuiltForm::are_built_words))]
 pub(super) fn are_built_words(words: &[u32]) -> bool
     ensures { result ≡ are_built_words words.now }
 {
-    !words.is_empty() && words.len() <= MAX_WORDS && all_are_built(words)
-}
-
-fn all_are_built(words: &[u32]) -> bool
-    ensures { result ≡ list_all is_built_word words.now }
-{
-    words.iter().all(|word| is_built_word(*word))
+    !words.is_empty() && words.len() <= MAX_WORDS
 }

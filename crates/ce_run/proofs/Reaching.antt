@@ -1,0 +1,23 @@
+-- One instruction more of a run.
+use Rattle.std.proofs.Common.{◌≡◌, ℕ, suc, List, refl, sym, ap, ◌∙◌}
+use Rattle.ce_model.specs.declared.process.Stop.{Stop}
+use Rattle.ce_model.specs.declared.process.Stop.TheVariants.{TurnSpent}
+use Rattle.ce_model.specs.Exec.{Outcome, went, called, stopped, exec}
+use Rattle.ce_model.specs.Private.{private_access}
+use Rattle.ce_model.specs.Process.{Process, Reached, at_end, ended, led_to, reached}
+
+reached_step : (n : ℕ) (p : Process) → reached (suc n) p ≡ led_to (reached n) n p (exec private_access p.regs p.pc p.memory)
+unfolding reached
+reached_step n p = refl
+
+-- where the next instruction leads, there a run leads that has one
+pub reached_by : (left n : ℕ) (p : Process) (outcome : Outcome (List ℕ)) → left ≡ suc n → exec private_access p.regs p.pc p.memory ≡ outcome → reached left p ≡ led_to (reached n) n p outcome
+reached_by left n p outcome e h = ap (λ l. reached l p) e ∙ reached_step n p ∙ ap (led_to (reached n) n p) h
+
+reached_zero : (p : Process) → reached 0 p ≡ at_end (ended TurnSpent p)
+unfolding reached
+reached_zero p = refl
+
+-- a run that has none left is at its end
+pub reached_spent : (left : ℕ) (p : Process) → left ≡ 0 → reached left p ≡ at_end (ended TurnSpent p)
+reached_spent left p e = ap (λ l. reached l p) e ∙ reached_zero p
