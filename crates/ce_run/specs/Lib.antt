@@ -4,6 +4,7 @@ pub mod Fault
 pub mod FormError
 pub mod Hello
 pub mod InputError
+pub mod Kept
 pub mod Lines
 pub mod OneCube
 pub mod Running

@@ -4,6 +4,7 @@ ghost use Rattle.std.specs.String.{string_bytes};
 ghost use Rattle.ce_io.specs.Faults.{Rose};
 ghost use Rattle.ce_run.specs.BuiltForm.{built_form};
 ghost use Rattle.ce_run.specs.Causes.{is_serial, status_of_end, Tells, GaveTooMuch, GaveFew, IsMemory, EndsReading, RanToEnd, Reports};
+ghost use Rattle.ce_run.specs.Kept.{KeepsScript};
 ghost use Rattle.ce_run.specs.Script.{script_of, script_of_form};
 ghost use Rattle.ce_run.specs.Text.{report};
 ghost use Rattle.ce_run.specs.declared.ended.Fault.TheVariants.{TooLong, NotBuilt, Usage, Read, Write};
@@ -48,6 +49,8 @@ pub fn top<R: Threads + Wait + Sync, S: Source, K: Sink, G: Gate>(
     // What was written is the report, or with the fault Write a front part of it; with the other faults it is nothing.
     ensures reported { IfSome result.kept (λ kept. IfSome (S.left source.old) (λ text. IfSome (script_of text) (λ script.
         Reports result.fault (report script kept) (K.written sink.old) (K.written sink.new)))) }
+    // The record has the script's users and commands.
+    ensures recorded { IfSome result.kept (λ kept. IfSome (S.left source.old) (λ text. IfSome (script_of text) (λ script. KeepsScript script kept))) }
     ensures unwritten { RanToEnd result.fault ⊎ (K.written sink.new ≡ K.written sink.old) }
     // What is accepted is run to its end, unless the source, the sink or memory fails.
     ensures complete { is_serial (map string_bytes words.now) ≡ true → (text : List ℕ) → S.left source.old ≡ Some text
@@ -80,6 +83,8 @@ pub fn serial_call<S: Source, K: Sink>(
     // What was written is the report, or with the fault Write a front part of it; with the other faults it is nothing.
     ensures reported { IfSome result.kept (λ kept. IfSome (S.left source.old) (λ text. IfSome (script_of text) (λ script.
         Reports result.fault (report script kept) (K.written sink.old) (K.written sink.new)))) }
+    // The record has the script's users and commands.
+    ensures recorded { IfSome result.kept (λ kept. IfSome (S.left source.old) (λ text. IfSome (script_of text) (λ script. KeepsScript script kept))) }
     ensures unwritten { RanToEnd result.fault ⊎ (K.written sink.new ≡ K.written sink.old) }
     // What is accepted is run to its end, unless the source, the sink or memory fails.
     ensures complete { is_serial (map string_bytes words.now) ≡ true → (text : List ℕ) → S.left source.old ≡ Some text
@@ -150,6 +155,7 @@ fn run_form<K: Sink>(alloc: Global, form: &BuiltForm, sink: &mut K) -> Ended
     ensures status { result.status ≡ status_of_end result.fault }
     ensures kept { IsSome result.kept ↔ RanToEnd result.fault }
     ensures reported { IfSome result.kept (λ kept. Reports result.fault (report (script_of_form form.now) kept) (K.written sink.old) (K.written sink.new)) }
+    ensures recorded { IfSome result.kept (KeepsScript (script_of_form form.now)) }
     ensures fault { RanToEnd result.fault ⊎ IsMemory result.fault }
     ensures write { result.fault ≡ Some Write → Rose (K.faults sink.old) (K.faults sink.new) }
     ensures unwritten { RanToEnd result.fault ⊎ (K.written sink.new ≡ K.written sink.old) }

@@ -2,7 +2,9 @@
 ghost use Rattle.std.specs.Prelude.{◌≡◌, ◌≤◌, ◌*◌, IfOk, OnOk, length};
 ghost use Rattle.std.specs.List.{flat_map};
 ghost use Rattle.std.specs.Int.{w32, to_le_bytes};
+ghost use Rattle.ce_run.specs.Kept.{KeepsScript};
 ghost use Rattle.ce_run.specs.OneCube.{IsOneCube};
+ghost use Rattle.ce_run.specs.Script.{script_of_form};
 
 use crate::form::BuiltForm;
 use crate::machine::{Machine, is_start};
@@ -18,7 +20,8 @@ const ENTRY: u32 = 0x0001_0000;
 /// Carries out a script, on a machine of its own.
 pub(crate) fn run_script(alloc: Global, form: &BuiltForm) -> Result<Record, NoMemory>
     requires { length form.now.words ≤ 30720 }
-    ensures { IfOk result (λ kept. IsOneCube kept.history) }
+    ensures history { IfOk result (λ kept. IsOneCube kept.history) }
+    ensures script { IfOk result (λ kept. KeepsScript (script_of_form form.now) kept) }
 {
     let loaded = image_bytes(alloc, form.words.as_slice())?;
     let mut machine = Machine::new(alloc);
