@@ -1,6 +1,8 @@
+pub mod Cube
 pub mod Exec
 pub mod Image
 pub mod LittleEndian
+pub mod Machine
 pub mod Node
 pub mod Private
 pub mod Process

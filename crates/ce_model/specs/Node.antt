@@ -1,8 +1,7 @@
 -- A node: what it says to the machine next, and what it becomes by the answer.
 use Rattle.std.specs.Prelude.{ℕ, ◌+◌, ◌*◌, ◌-◌, List, [], ◌∷◌, Option, Some, None, Bool, true, false, if◌then◌else◌, ◌==◌, replicate, slice_index, slice_set, slice_index_or}
 use Rattle.ce_model.specs.declared.process.Status.{Status}
-use Rattle.ce_model.specs.declared.process.Status.TheVariants.{Unborn, Running, Asking, Polling, Stopped}
-use Rattle.ce_model.specs.declared.process.Stop.{Stop}
+use Rattle.ce_model.specs.declared.process.Status.TheVariants.{Running, Asking, Polling, Stopped}
 use Rattle.ce_model.specs.declared.process.Stop.TheVariants.{Exited, Killed, NoCall, TurnSpent}
 use Rattle.ce_model.specs.declared.entry.Given.{Given}
 use Rattle.ce_model.specs.declared.entry.Given.TheVariants.{Start, Mail, Kill, Poll, Idle, Spent}
@@ -33,8 +32,8 @@ with_process node pid p = record { processes = slice_set node.processes pid p; t
 
 -- a call that leaves the node
 pub data Call : Type 0 where
-  -- the node asks for work: the sets of ids that wait for a message and that have stopped, and the one that asked first whether
-  -- a message is there
+  -- the node asks for work: the sets of ids that wait for a message and that have stopped, and the process that has polled
+  -- longest, if any
   take_work : ℕ → ℕ → Option ℕ → Call
   -- a process leaves a word in the trace
   note_word : ℕ → ℕ → Call
@@ -53,7 +52,7 @@ abbrev pub is_stopped : Status → Bool
 is_stopped (Stopped cause) = true
 is_stopped other = false
 
--- the call of a node without a turn; no process can ask yet whether a message is there
+-- the call of a node without a turn; no process polls yet
 abbrev pub take_of : Node → Call
 take_of node = take_work (ids_of is_waiting node.processes) (ids_of is_stopped node.processes) None
 
@@ -74,6 +73,20 @@ abbrev pub turn_over : Node → ℕ → Process → Saying
 turn_over node pid p =
     let after : Node = record { processes = slice_set node.processes pid p; turn = None } in record { node = after; call = take_of after }
 
+-- the numbers of the kernel calls
+abbrev pub exit_call : ℕ
+exit_call = 13
+
+abbrev pub note_call : ℕ
+note_call = 14
+
+-- the registers in which a kernel call finds its argument and its number
+abbrev pub a0_of : Process → ℕ
+a0_of p = slice_index p.regs 10
+
+abbrev pub a7_of : Process → ℕ
+a7_of p = slice_index p.regs 17
+
 -- a note of the word in a0, where the turn may still make one
 abbrev pub noting : Node → Turn → ℕ → Process → Saying
 noting node turn left p =
@@ -82,15 +95,15 @@ noting node turn left p =
         processes = slice_set node.processes turn.pid p;
         turn = Some (record { pid = turn.pid; left = left; calls_left = turn.calls_left - 1 });
       };
-      call = note_word turn.pid (slice_index p.regs 10);
+      call = note_word turn.pid (a0_of p);
     }
 
--- a kernel call, with its number in a7: 13 ends the process with the code in a0, 14 notes, and no other exists yet
+-- a kernel call: one ends the process with the code in a0, one notes the word in a0, and no other exists yet
 abbrev pub at_kernel : Node → Turn → ℕ → Process → Saying
 at_kernel node turn left p =
-    if slice_index p.regs 17 == 13 then turn_over node turn.pid (ended (Exited (slice_index p.regs 10)) p)
-    else (if slice_index p.regs 17 == 14 then noting node turn left p
-    else turn_over node turn.pid (ended (NoCall (slice_index p.regs 17)) p))
+    if a7_of p == exit_call then turn_over node turn.pid (ended (Exited (a0_of p)) p)
+    else (if a7_of p == note_call then noting node turn left p
+    else turn_over node turn.pid (ended (NoCall (a7_of p)) p))
 
 -- what a turn comes to
 abbrev pub came_to : Node → Turn → Reached → Saying
@@ -112,13 +125,20 @@ turn_begins node pid p = record {
   turn = Some (record { pid = pid; left = turn_length; calls_left = turn_calls });
 }
 
--- what a node that asked for work becomes by what it is given; no message is sent yet, so none is given
-unfoldable pub hears : List ImageParts → Node → Given → Node
-hears images node (Start pid image) = turn_begins node pid (started (image_at images image))
-hears images node (Kill pid) =
+-- what a node hears in answer to a call: what it is given where it asked for work, and nothing but the call's end where a
+-- process noted
+pub data Heard : Type 0 where
+  got : Given → Heard
+  noted : Heard
+
+-- what a node that made a call becomes by the answer; no message is sent yet, so none is given
+unfoldable pub hears : List ImageParts → Node → Heard → Node
+hears images node (got (Start pid image)) = turn_begins node pid (started (image_at images image))
+hears images node (got (Kill pid)) =
     if is_stopped (process_at node pid).status then node else with_process node pid (ended Killed (process_at node pid))
-hears images node (Poll pid) =
+hears images node (got (Poll pid)) =
     turn_begins node pid (record (process_at node pid) { status = Running; regs = slice_set (process_at node pid).regs 10 0 })
-hears images node (Mail pid number) = node
-hears images node Idle = node
-hears images node Spent = node
+hears images node (got (Mail pid number)) = node
+hears images node (got Idle) = node
+hears images node (got Spent) = node
+hears images node noted = node

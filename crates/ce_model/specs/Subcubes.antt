@@ -1,5 +1,6 @@
--- The numbers by which a cube knows its nodes.
-use Rattle.std.specs.Prelude.{ℕ, ◌+◌, ◌*◌, ◌/◌, ◌%◌, zero, suc, ◌==◌, if◌then◌else◌}
+-- The subcubes of a machine, and the numbers by which a cube knows its nodes.
+use Rattle.std.specs.Prelude.{ℕ, ◌+◌, ◌*◌, ◌/◌, ◌%◌, ◌^◌, zero, suc, ◌==◌, if◌then◌else◌, Bool, List, map, filter, find, flat_map, Option}
+use Rattle.std.specs.List.{list_all, range_with_len}
 use Rattle.ce_model.specs.declared.topology.TheConstants.{HOST}
 use Rattle.ce_model.specs.declared.topology.Subcube.{Subcube}
 
@@ -16,3 +17,48 @@ extract n mask = extracted 6 n mask
 -- the number by which a cube knows a node of the machine; its host keeps the number
 unfoldable pub relative : Subcube → ℕ → ℕ
 relative sub node = if node == HOST then HOST else extract node sub.mask
+
+-- the bits of r, put on the one bits of the mask from the lowest up; for masks of so many bits
+abbrev pub deposited : ℕ → ℕ → ℕ → ℕ
+deposited zero r mask = 0
+deposited (suc bits) r mask =
+    if mask % 2 == 1 then r % 2 + 2 * deposited bits (r / 2) (mask / 2) else 2 * deposited bits r (mask / 2)
+
+unfoldable pub deposit : ℕ → ℕ → ℕ
+deposit r mask = deposited 6 r mask
+
+-- the node of the machine that a cube knows as r
+abbrev pub node_of : Subcube → ℕ → ℕ
+node_of sub r = sub.base + deposit r sub.mask
+
+-- the node is one of the subcube's
+abbrev pub is_inside : Subcube → ℕ → Bool
+is_inside sub node = node_of sub (extract node sub.mask) == node
+
+-- how many one bits a number of so many bits has
+abbrev pub ones_of : ℕ → ℕ → ℕ
+ones_of zero n = 0
+ones_of (suc bits) n = n % 2 + ones_of bits (n / 2)
+
+-- a base of a subcube has no bit of the mask
+abbrev pub is_base : ℕ → ℕ → Bool
+is_base mask base = extract base mask == 0
+
+abbrev pub subcube_at : ℕ → ℕ → Subcube
+subcube_at mask base = record { mask = mask; base = base }
+
+-- the subcubes with this mask of a machine with so many nodes, by rising base
+abbrev pub with_mask : ℕ → ℕ → List Subcube
+with_mask count mask = map (subcube_at mask) (filter (is_base mask) (range_with_len 0 count))
+
+-- the subcubes of dimension d of a machine of dimension dim, by rising mask, and those of one mask by rising base
+unfoldable pub subcubes : (dim d : ℕ) → List Subcube
+subcubes dim d = flat_map (with_mask (2 ^ dim)) (filter (λ mask. ones_of 6 mask == d) (range_with_len 0 (2 ^ dim)))
+
+-- all nodes of a subcube of dimension d pass a test
+abbrev pub all_nodes : (ℕ → Bool) → ℕ → Subcube → Bool
+all_nodes test d sub = list_all (λ r. test (node_of sub r)) (range_with_len 0 (2 ^ d))
+
+-- the first subcube of dimension d whose nodes all are free
+unfoldable pub first_free : (ℕ → Bool) → (dim d : ℕ) → Option Subcube
+first_free is_free dim d = find (all_nodes is_free d) (subcubes dim d)

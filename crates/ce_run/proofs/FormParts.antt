@@ -1,9 +1,8 @@
 -- What a text says, part by part.
-use Rattle.std.proofs.Common.{◌≡◌, ℕ, List, Option, Some, None, true, false, refl, ◌≤◌, length, arith}
+use Rattle.std.proofs.Common.{◌≡◌, ℕ, List, Some, None, true, false, refl, ◌≤◌, length, arith}
 use Rattle.std.proofs.lemmas.Bool.Decides.{nat_tests}
 use Rattle.ce_run.specs.Lines.{lines_of}
 use Rattle.ce_run.specs.BuiltForm.{head_of, body_of, are_built_words, commands_of, form_of_lines, built_form}
-use Rattle.ce_run.specs.declared.form.BuiltForm.{BuiltForm}
 
 pub no_head : (text : List ℕ) → head_of (lines_of text) ≡ None → built_form text ≡ None
 unfolding built_form form_of_lines

@@ -1,7 +1,6 @@
 -- The definitions, computed on a worked row.
-use Rattle.std.proofs.Common.{◌≡◌, ℕ, List, Some, refl, ap, ◌∙◌, arith}
-use Rattle.std.specs.Fmt.{decimal, digits}
-use Rattle.std.proofs.lemmas.Fmt.{decimal_digit, decimal_step}
+use Rattle.std.proofs.Common.{◌≡◌, Some, refl}
+use Rattle.std.specs.Fmt.{digits}
 use Rattle.ce_model.specs.Subcubes.{extract, relative}
 use Rattle.ce_model.specs.Views.{view}
 use Rattle.ce_run.specs.BuiltForm.{built_form, form_of_lines, head_of, image_line, user_line, spawn_line, run_line, commands_of, are_built_words}

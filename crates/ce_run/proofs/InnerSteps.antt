@@ -1,5 +1,5 @@
 -- The steps that a machine of one node makes are steps of its cube.
-use Rattle.std.proofs.Common.{◌≡◌, ℕ, List, [], ◌∷◌, ◌++◌, Option, Some, None, Bool, true, false, refl, ap, sym, ◌∙◌, arith}
+use Rattle.std.proofs.Common.{◌≡◌, ℕ, List, [], ◌∷◌, ◌++◌, None, true, refl, ap}
 use Rattle.std.specs.List.{AllByRecursion}
 use Rattle.ce_model.specs.declared.topology.TheConstants.{HOST}
 use Rattle.ce_model.specs.declared.entry.Entry.{Entry}
@@ -7,8 +7,7 @@ use Rattle.ce_model.specs.declared.entry.Given.{Given}
 use Rattle.ce_model.specs.declared.entry.Found.{Found}
 use Rattle.ce_model.specs.declared.entry.What.TheVariants.{Arm, Look, Note, Spawn, Take}
 use Rattle.ce_model.specs.Subcubes.{extract, relative}
-use Rattle.ce_model.specs.Views.{entry_in}
-use Rattle.ce_run.specs.OneCube.{the_node, first_entry, IsInnerStep, IsOneCube, host_entry, node_entry, place_0}
+use Rattle.ce_run.specs.OneCube.{the_node, IsInnerStep, IsOneCube, host_entry, node_entry, place_0}
 
 pub host_stays : relative the_node HOST ≡ HOST
 unfolding relative
@@ -33,7 +32,7 @@ take_inner dead given = record { user = refl; inside = refl; same = ap (λ actor
 pub spawn_inner : (image : ℕ) → IsInnerStep (host_entry (Spawn 0 image place_0 true))
 spawn_inner image = record { user = refl; inside = refl; same = rw (host_stays, node_stays) refl }
 
-all_more : (steps : List Entry) (entry : Entry) → AllByRecursion IsInnerStep steps → IsInnerStep entry → AllByRecursion IsInnerStep (steps ++ entry ∷ [])
+pub all_more : (steps : List Entry) (entry : Entry) → AllByRecursion IsInnerStep steps → IsInnerStep entry → AllByRecursion IsInnerStep (steps ++ entry ∷ [])
 all_more [] entry h e = (e, tt)
 all_more (step ∷ steps) entry h e = (h.0, all_more steps entry h.1 e)
 

@@ -7,6 +7,8 @@ pub mod Known
 pub mod LineCuts
 pub mod NameBytes
 pub mod OneCubeFacts
+pub mod OneCubeLegal
+pub mod OneCubeSteps
 pub mod Reaching
 pub mod ReportParts
 pub mod Saying

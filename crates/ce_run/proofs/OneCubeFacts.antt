@@ -1,11 +1,11 @@
 -- The one cube of a history, and its trace.
-use Rattle.std.proofs.Common.{◌≡◌, ℕ, List, [], ◌∷◌, ◌++◌, Option, Some, None, Bool, true, false, cond, not, ◌&&◌, ◌==◌, eqb, refl, ap, sym, ◌∙◌, drop, map, filter, arith}
-use Rattle.std.specs.List.{flat_map, filter_map, AllByRecursion, take_while, enumerate_from}
+use Rattle.std.proofs.Common.{◌≡◌, ℕ, List, [], ◌∷◌, None, Bool, true, false, not, ◌&&◌, ◌==◌, refl, ap, ◌∙◌, drop, map, filter}
+use Rattle.std.specs.List.{AllByRecursion, take_while, enumerate_from}
 use Rattle.std.proofs.Math.Numerals.{one-add}
 use Rattle.ce_model.specs.declared.entry.Entry.{Entry}
 use Rattle.ce_model.specs.declared.entry.What.{What}
 use Rattle.ce_model.specs.declared.entry.What.TheVariants.{Getcube, Peek, Drain, Freecube, Arm, Look, HostTake, Send, Spawn, Kill, Note, Take}
-use Rattle.ce_model.specs.Views.{Granted, granted, granted_by, grants_of, is_drain, is_outside, entry_in, trace_of, from_grant, view}
+use Rattle.ce_model.specs.Views.{granted, grants_of, is_drain, is_outside, entry_in, trace_of, view}
 use Rattle.ce_run.specs.OneCube.{the_node, first_grant, first_entry, IsInnerStep, IsOneCube}
 
 -- an inner step grants nothing
@@ -67,7 +67,7 @@ all_kept : (steps : List Entry) → AllByRecursion IsInnerStep steps → filter 
 all_kept [] h = refl
 all_kept (entry ∷ steps) h = rw (inner_kept entry h.0) (ap (λ more. entry ∷ more) (all_kept steps h.1))
 
-all_same : (steps : List Entry) → AllByRecursion IsInnerStep steps → map (entry_in the_node) steps ≡ steps
+pub all_same : (steps : List Entry) → AllByRecursion IsInnerStep steps → map (entry_in the_node) steps ≡ steps
 all_same [] h = refl
 all_same (entry ∷ steps) h = rw h.0.same (ap (λ more. entry ∷ more) (all_same steps h.1))
 
@@ -81,3 +81,7 @@ pub one_view : (history : List Entry) → IsOneCube history → view history 0 �
 unfolding view
 one_view [] h = absurd h
 one_view (first ∷ steps) h = rw h.0 (trace_inner steps h.1)
+
+pub whole_view : (t : List Entry) → AllByRecursion IsInnerStep t → view (first_entry ∷ t) 0 ≡ t
+unfolding view
+whole_view t h = trace_inner t h

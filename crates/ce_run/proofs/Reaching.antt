@@ -1,10 +1,9 @@
 -- One instruction more of a run.
-use Rattle.std.proofs.Common.{◌≡◌, ℕ, suc, List, refl, sym, ap, ◌∙◌}
-use Rattle.ce_model.specs.declared.process.Stop.{Stop}
+use Rattle.std.proofs.Common.{◌≡◌, ℕ, suc, List, refl, ap, ◌∙◌}
 use Rattle.ce_model.specs.declared.process.Stop.TheVariants.{TurnSpent}
-use Rattle.ce_model.specs.Exec.{Outcome, went, called, stopped, exec}
+use Rattle.ce_model.specs.Exec.{Outcome, exec}
 use Rattle.ce_model.specs.Private.{private_access}
-use Rattle.ce_model.specs.Process.{Process, Reached, at_end, ended, led_to, reached}
+use Rattle.ce_model.specs.Process.{Process, at_end, ended, led_to, reached}
 
 reached_step : (n : ℕ) (p : Process) → reached (suc n) p ≡ led_to (reached n) n p (exec private_access p.regs p.pc p.memory)
 unfolding reached

@@ -1,5 +1,5 @@
 -- The parts of the report on the one cube of a script of the built form.
-use Rattle.std.proofs.Common.{◌≡◌, ℕ, ◌-◌, List, [], ◌∷◌, ◌++◌, Some, codes, refl, ap, sym, ◌∙◌, drop, take, length, arith, append_assoc}
+use Rattle.std.proofs.Common.{◌≡◌, ℕ, ◌-◌, List, [], ◌∷◌, ◌++◌, codes, ap, sym, ◌∙◌, drop, take, length, arith, append_assoc}
 use Rattle.std.specs.List.{flat_map}
 use Rattle.std.specs.Fmt.{decimal}
 use Rattle.std.proofs.lemmas.Fmt.{decimal_digit}

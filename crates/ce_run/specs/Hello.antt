@@ -1,6 +1,6 @@
 -- An example: the script that notes 42, what is kept of its run, and what is written about it.
 use Rattle.std.specs.Prelude.{ℕ, List, [], ◌∷◌, ◌++◌, None, true, codes}
-use Rattle.ce_model.specs.declared.entry.What.TheVariants.{Getcube, Arm, Look, Spawn, Note, Take}
+use Rattle.ce_model.specs.declared.entry.What.TheVariants.{Arm, Look, Spawn, Note, Take}
 use Rattle.ce_model.specs.declared.entry.Found.TheVariants.{Quiet as FoundQuiet}
 use Rattle.ce_model.specs.declared.entry.Given.TheVariants.{Start, Idle}
 use Rattle.ce_run.specs.declared.form.BuiltForm.{BuiltForm}

@@ -1,10 +1,12 @@
 pub mod BuiltForm
 pub mod Causes
+pub mod Commands
 pub mod Fault
 pub mod FormError
 pub mod Hello
 pub mod InputError
 pub mod Kept
+pub mod Legal
 pub mod Lines
 pub mod OneCube
 pub mod Running

@@ -1,11 +1,11 @@
 -- The process and the node of the model that a running process stands for.
-use Rattle.std.specs.Prelude.{◌≡◌, ℕ, List, [], ◌∷◌, Some, None, replicate}
+use Rattle.std.specs.Prelude.{◌≡◌, [], ◌∷◌, Some, None, replicate}
 use Rattle.ce_model.specs.declared.process.Stop.{Stop}
 use Rattle.ce_model.specs.declared.process.Status.TheVariants.{Running}
 use Rattle.ce_model.specs.declared.entry.Given.TheVariants.{Start}
 use Rattle.ce_model.specs.Process.{Process as ModelProcess, unborn, ended}
 use Rattle.ce_model.specs.Image.{ImageParts}
-use Rattle.ce_model.specs.Node.{Node, fresh, hears}
+use Rattle.ce_model.specs.Node.{Node, fresh, got, hears}
 use Rattle.ce_run.specs.declared.process.Process.{Process}
 
 -- the process of the model
@@ -21,4 +21,4 @@ ended_node cause p = record { processes = ended cause (process_of p) ∷ replica
 
 -- a process that a fresh node has just heard to start from this image
 abbrev pub IsStart : ImageParts → Process → Type 0
-IsStart image p = running_node p ≡ hears (image ∷ []) fresh (Start 0 0)
+IsStart image p = running_node p ≡ hears (image ∷ []) fresh (got (Start 0 0))

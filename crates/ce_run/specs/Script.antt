@@ -1,8 +1,7 @@
 -- What a script says.
-use Rattle.std.specs.Prelude.{ℕ, List, [], ◌∷◌, Option, Some, None, option_map, map}
+use Rattle.std.specs.Prelude.{ℕ, List, [], ◌∷◌, Option, Some, option_map}
 use Rattle.std.specs.List.{flat_map}
 use Rattle.std.specs.Int.{w32, to_le_bytes}
-use Rattle.ce_model.specs.declared.topology.Place.{Place}
 use Rattle.ce_model.specs.Image.{ImageParts}
 use Rattle.ce_run.specs.declared.record.Command.{Command}
 use Rattle.ce_run.specs.declared.record.Command.TheVariants.{Getcube, Spawn, Run}

@@ -1,11 +1,10 @@
 -- The text of a report.
-use Rattle.std.specs.Prelude.{ℕ, ◌+◌, List, [], ◌∷◌, ◌++◌, Option, Some, None, Bool, true, false, codes, map, ◌==◌, if◌then◌else◌, unwrap_or, option_map}
+use Rattle.std.specs.Prelude.{ℕ, List, [], ◌∷◌, ◌++◌, Option, Some, None, Bool, true, false, codes, ◌==◌, if◌then◌else◌, unwrap_or, option_map}
 use Rattle.std.specs.Prelude.{slice_get}
 use Rattle.std.specs.List.{flat_map, enumerate_from}
 use Rattle.std.specs.Fmt.{decimal}
 use Rattle.ce_model.specs.declared.topology.TheConstants.{HOST}
 use Rattle.ce_model.specs.declared.topology.Place.{Place}
-use Rattle.ce_model.specs.declared.topology.Subcube.{Subcube}
 use Rattle.ce_model.specs.declared.entry.Entry.{Entry}
 use Rattle.ce_model.specs.declared.entry.What.{What}
 use Rattle.ce_model.specs.declared.entry.What.TheVariants.{Arm, Look, Spawn as Spawned, Note, Take}
@@ -20,7 +19,7 @@ use Rattle.ce_run.specs.declared.record.Answer.{Answer}
 use Rattle.ce_run.specs.declared.record.Answer.TheVariants.{Granted as AnswerGranted, Ok as Done, Quiet, Spent}
 use Rattle.ce_run.specs.declared.record.UserRecord.{UserRecord}
 use Rattle.ce_run.specs.declared.record.Record.{Record}
-use Rattle.ce_run.specs.Script.{Named, Script}
+use Rattle.ce_run.specs.Script.{Script}
 
 -- a line: its text and a line feed
 abbrev pub line : List ℕ → List ℕ

@@ -66,6 +66,7 @@ impl From<AllocError> for FormError {
 pub(crate) fn read_form(alloc: Global, text: &[u8]) -> Result<BuiltForm, FormError>
     ensures ok { IfOk result (λ form. built_form text.now ≡ Some form) }
     ensures few { IfOk result (λ form. length form.words ≤ 30720) }
+    ensures small { IfOk result (λ form. form.count ≤ 1000000) }
     ensures not_built { IsErrOf result NotBuilt → built_form text.now ≡ None }
 {
     let (image, rest) = head_of(text).ok_or(FormError::NotBuilt)?;

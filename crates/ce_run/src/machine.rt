@@ -1,7 +1,7 @@
 //! The machine of one node and one user: what it was asked, and its answers, step by step.
 ghost use Rattle.std.specs.Prelude.{◌≡◌, [], ◌∷◌, ◌++◌, ◌<◌, Some, None, true, IfOk, OnOk};
 ghost use Rattle.ce_model.specs.declared.entry.What.TheVariants.{Arm, Look, Note, Spawn, Take};
-ghost use Rattle.ce_run.specs.OneCube.{IsOneCube, first_entry, the_node, host_entry, node_entry, place_0, found_of, given_of, is_start, after_given};
+ghost use Rattle.ce_run.specs.OneCube.{first_entry, the_node, host_entry, node_entry, place_0, found_of, given_of, is_start, after_given};
 
 use ce_model::{Entry, Found, Given, HOST, NoMemory, Place, Subcube, What};
 use sqlite_items::Items;
@@ -57,7 +57,6 @@ impl Machine {
     pub(crate) fn getcube(&mut self) -> Result<Subcube, NoMemory>
         ensures granted { IfOk result (λ sub. sub ≡ the_node) }
         ensures posted { OnOk result (self.new ≡ record self.old { history = self.old.history ++ first_entry ∷ [] }) }
-        ensures one { OnOk result (self.old.history ≡ [] → IsOneCube self.new.history) }
     {
         let granted = Subcube { mask: 0, base: 0 };
         let sub = Some(granted);
@@ -71,7 +70,6 @@ impl Machine {
           history = self.old.history ++ host_entry (Spawn 0 image place_0 true) ∷ [];
           waiting = Some image;
         }) }
-        ensures one { OnOk result (IsOneCube self.old.history → IsOneCube self.new.history) }
     {
         let to = Place {
             node: NODE,
@@ -98,7 +96,6 @@ impl Machine {
           armed = count;
           dispatched = 0;
         }) }
-        ensures one { OnOk result (IsOneCube self.old.history → IsOneCube self.new.history) }
     {
         self.post(HOST, What::Arm { count })?;
         self.armed = count;
@@ -112,7 +109,6 @@ impl Machine {
         ensures posted { IfOk result (λ given. self.new ≡ after_given given (record self.old {
           history = self.old.history ++ node_entry (Take 0 dead None given) ∷ [];
         })) }
-        ensures one { OnOk result (IsOneCube self.old.history → IsOneCube self.new.history) }
     {
         let given = self.next_given();
         let take = What::Take {
@@ -149,7 +145,6 @@ impl Machine {
     /// Keeps a word that the process noted.
     pub(crate) fn note(&mut self, word: u32) -> Result<(), NoMemory>
         ensures posted { OnOk result (self.new ≡ record self.old { history = self.old.history ++ node_entry (Note 0 word) ∷ [] }) }
-        ensures one { OnOk result (IsOneCube self.old.history → IsOneCube self.new.history) }
     {
         self.post(NODE, What::Note { pid: PID, word })?;
         Ok(())
@@ -159,7 +154,6 @@ impl Machine {
     pub(crate) fn look(&mut self) -> Result<Found, NoMemory>
         ensures found { IfOk result (λ found. found ≡ found_of self.old.waiting self.old.armed self.old.dispatched) }
         ensures posted { IfOk result (λ found. self.new ≡ record self.old { history = self.old.history ++ host_entry (Look found) ∷ [] }) }
-        ensures one { OnOk result (IsOneCube self.old.history → IsOneCube self.new.history) }
     {
         let found = self.next_found();
         self.post(HOST, What::Look { found })?;

@@ -4,7 +4,7 @@ ghost use Rattle.std.specs.String.{string_bytes};
 ghost use Rattle.ce_io.specs.Faults.{Rose};
 ghost use Rattle.ce_run.specs.BuiltForm.{built_form};
 ghost use Rattle.ce_run.specs.Causes.{is_serial, status_of_end, Tells, GaveTooMuch, GaveFew, IsMemory, EndsReading, RanToEnd, Reports};
-ghost use Rattle.ce_run.specs.Kept.{KeepsScript};
+ghost use Rattle.ce_run.specs.Legal.{Legal, Serial};
 ghost use Rattle.ce_run.specs.Script.{script_of, script_of_form};
 ghost use Rattle.ce_run.specs.Text.{report};
 ghost use Rattle.ce_run.specs.declared.ended.Fault.TheVariants.{TooLong, NotBuilt, Usage, Read, Write};
@@ -49,8 +49,10 @@ pub fn top<R: Threads + Wait + Sync, S: Source, K: Sink, G: Gate>(
     // What was written is the report, or with the fault Write a front part of it; with the other faults it is nothing.
     ensures reported { IfSome result.kept (λ kept. IfSome (S.left source.old) (λ text. IfSome (script_of text) (λ script.
         Reports result.fault (report script kept) (K.written sink.old) (K.written sink.new)))) }
-    // The record has the script's users and commands.
-    ensures recorded { IfSome result.kept (λ kept. IfSome (S.left source.old) (λ text. IfSome (script_of text) (λ script. KeepsScript script kept))) }
+    // The record is one that the model allows: the script's users and commands, and each cube's trace and replies as the cube gives
+    // them alone; and the commands were carried out one after another.
+    ensures legal { IfSome result.kept (λ kept. IfSome (S.left source.old) (λ text. IfSome (script_of text) (λ script. Legal script kept))) }
+    ensures serial { IfSome result.kept (λ kept. IfSome (S.left source.old) (λ text. IfSome (script_of text) (λ script. Serial script kept))) }
     ensures unwritten { RanToEnd result.fault ⊎ (K.written sink.new ≡ K.written sink.old) }
     // What is accepted is run to its end, unless the source, the sink or memory fails.
     ensures complete { is_serial (map string_bytes words.now) ≡ true → (text : List ℕ) → S.left source.old ≡ Some text
@@ -83,8 +85,10 @@ pub fn serial_call<S: Source, K: Sink>(
     // What was written is the report, or with the fault Write a front part of it; with the other faults it is nothing.
     ensures reported { IfSome result.kept (λ kept. IfSome (S.left source.old) (λ text. IfSome (script_of text) (λ script.
         Reports result.fault (report script kept) (K.written sink.old) (K.written sink.new)))) }
-    // The record has the script's users and commands.
-    ensures recorded { IfSome result.kept (λ kept. IfSome (S.left source.old) (λ text. IfSome (script_of text) (λ script. KeepsScript script kept))) }
+    // The record is one that the model allows: the script's users and commands, and each cube's trace and replies as the cube gives
+    // them alone; and the commands were carried out one after another.
+    ensures legal { IfSome result.kept (λ kept. IfSome (S.left source.old) (λ text. IfSome (script_of text) (λ script. Legal script kept))) }
+    ensures serial { IfSome result.kept (λ kept. IfSome (S.left source.old) (λ text. IfSome (script_of text) (λ script. Serial script kept))) }
     ensures unwritten { RanToEnd result.fault ⊎ (K.written sink.new ≡ K.written sink.old) }
     // What is accepted is run to its end, unless the source, the sink or memory fails.
     ensures complete { is_serial (map string_bytes words.now) ≡ true → (text : List ℕ) → S.left source.old ≡ Some text
@@ -128,6 +132,7 @@ fn refused(fault: Fault) -> Ended
 fn read_script<S: Source>(alloc: Global, source: &mut S) -> Result<BuiltForm, Fault>
     ensures form { IfOk result (λ form. IfSome (S.left source.old) (λ text. (S.left source.new ≡ Some []) × (built_form text ≡ Some form))) }
     ensures few { IfOk result (λ form. length form.words ≤ 30720) }
+    ensures counted { IfOk result (λ form. form.count ≤ 1000000) }
     ensures small { OnOk result (Tells (S.given source.new) → GaveFew (S.given source.old) (S.given source.new)) }
     ensures not_built { IsErrOf result NotBuilt → (Tells (S.given source.new) → GaveFew (S.given source.old) (S.given source.new))
         × IfSome (S.left source.old) (λ text. (S.left source.new ≡ Some []) × (built_form text ≡ None)) }
@@ -151,11 +156,13 @@ fn read_script<S: Source>(alloc: Global, source: &mut S) -> Result<BuiltForm, Fa
 
 /// Runs a script and writes its report.
 fn run_form<K: Sink>(alloc: Global, form: &BuiltForm, sink: &mut K) -> Ended
-    requires { length form.now.words ≤ 30720 }
+    requires room { length form.now.words ≤ 30720 }
+    requires count { form.now.count ≤ 1000000 }
     ensures status { result.status ≡ status_of_end result.fault }
     ensures kept { IsSome result.kept ↔ RanToEnd result.fault }
     ensures reported { IfSome result.kept (λ kept. Reports result.fault (report (script_of_form form.now) kept) (K.written sink.old) (K.written sink.new)) }
-    ensures recorded { IfSome result.kept (KeepsScript (script_of_form form.now)) }
+    ensures legal { IfSome result.kept (Legal (script_of_form form.now)) }
+    ensures serial { IfSome result.kept (Serial (script_of_form form.now)) }
     ensures fault { RanToEnd result.fault ⊎ IsMemory result.fault }
     ensures write { result.fault ≡ Some Write → Rose (K.faults sink.old) (K.faults sink.new) }
     ensures unwritten { RanToEnd result.fault ⊎ (K.written sink.new ≡ K.written sink.old) }

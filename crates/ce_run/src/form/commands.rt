@@ -1,5 +1,5 @@
 //! The user of a script, and the user's commands.
-ghost use Rattle.std.specs.Prelude.{◌≡◌, true, IfSome};
+ghost use Rattle.std.specs.Prelude.{◌≡◌, ◌≤◌, true, IfSome};
 ghost use Rattle.std.specs.Option.{option_copied, option_map};
 ghost use Rattle.ce_run.specs.Lines.{lines_of};
 ghost use Rattle.ce_run.specs.Words.{is_name};
@@ -31,7 +31,8 @@ fn spawn_line(line: &[u8]) -> Option<&[u8]>
 /// The count in the line `run N`.
 #[tactic(auto, unfolding(crate::specs::BuiltForm::run_line))]
 fn run_line(line: &[u8]) -> Option<u32>
-    ensures { result ≡ run_line line.now }
+    ensures count { result ≡ run_line line.now }
+    ensures small { IfSome result (λ count. count ≤ 1000000) }
 {
     let digits = after(b"run ", line)?;
     count_of(digits)
@@ -42,6 +43,7 @@ fn run_line(line: &[u8]) -> Option<u32>
 pub(super) fn commands_of<'a>(image: &[u8], text: &'a [u8]) -> Option<(&'a [u8], u32)>
     ensures commands { option_map (λ found. (found.0.now, found.1)) result ≡ commands_of image.now (lines_of text.now) }
     ensures named { IfSome result (λ found. is_name found.0.now ≡ true) }
+    ensures small { IfSome result (λ found. found.1 ≤ 1000000) }
 {
     let (user, text) = next_line(text)?;
     let (getcube, text) = next_line(text)?;

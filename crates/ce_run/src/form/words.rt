@@ -62,7 +62,8 @@ pub(crate) fn hex_word(digits: &[u8]) -> Option<u32>
 /// The count that one to ten decimal digits write, up to 1,000,000.
 #[tactic(auto, unfolding(crate::specs::Words::count_of))]
 pub(crate) fn count_of(digits: &[u8]) -> Option<u32>
-    ensures { result ≡ count_of digits.now }
+    ensures count { result ≡ count_of digits.now }
+    ensures small { IfSome result (λ count. count ≤ 1000000) }
 {
     if digits.is_empty() || digits.len() > 10 {
         return None;

@@ -1,8 +1,8 @@
-use Rattle.std.proofs.Common.{◌≡◌, Some, None, true, false, arith, rules, refl, sym, ◌∙◌, ap}
+use Rattle.std.proofs.Common.{◌≡◌, Some, None, true, false, arith, ◌∙◌}
 use Rattle.std.proofs.lemmas.Grind.{common_steps}
 use Rattle.std.proofs.lemmas.Result.{err_from_is_err_and}
 use Rattle.ce_run.specs.Lines.{lines_of}
-use Rattle.ce_run.specs.BuiltForm.{head_of, body_of, are_built_words, commands_of, built_form}
+use Rattle.ce_run.specs.BuiltForm.{head_of, body_of, are_built_words, commands_of}
 use Rattle.ce_run.proofs.FormParts.{no_body, bad_words, no_commands, whole}
 use Rattle.ce_run.proofs.form.read_form.Goals as goal
 

@@ -1,8 +1,8 @@
-use Rattle.std.proofs.Common.{◌≡◌, ◌++◌, take, codes}
+use Rattle.std.proofs.Common.{◌≡◌, ◌++◌, take}
 use Rattle.std.specs.String.{string_bytes}
 use Rattle.std.specs.List.{flat_map}
 use Rattle.ce_run.specs.Script.{script_of_form}
-use Rattle.ce_run.specs.Text.{line, command_line, answer_line}
+use Rattle.ce_run.specs.Text.{command_line, answer_line}
 use Rattle.ce_run.proofs.report.user.push_user.Given as goal
 
 abbrev pub invariant-loop-done : goal.invariant-loop-done

@@ -1,0 +1,2 @@
+pub mod HelloAlone
+pub mod OneMore

@@ -1,5 +1,0 @@
-use Rattle.ce_run.proofs.InnerSteps.{one_more, spawn_inner}
-use Rattle.ce_run.proofs.machine.Machine.spawn.Goals as goal
-
-pub returns-clause-one : goal.returns-clause-one
-returns-clause-one c = λ one. rw c.in_ok-post.ensures.ok (one_more c.args.self.now.history _ one (spawn_inner c.args.image))
