@@ -1,10 +1,11 @@
 //! The one process: its registers, its memory, and its run from one kernel call to the next.
-ghost use Rattle.std.specs.Prelude.{◌≡◌, ◌≤◌, ◌<◌, Ok, None, IfOk, IfErr, MatchOption, length};
+ghost use Rattle.std.specs.Prelude.{◌≡◌, ◌<◌, Ok, None, IfOk, IfErr, MatchOption};
 ghost use Rattle.ce_model.specs.Process.{at_call, at_end, ended, reached};
 ghost use Rattle.ce_model.specs.Node.{says, note_word, take_work};
 ghost use Rattle.ce_run.specs.Running.{process_of, running_node, ended_node, IsStart};
 
 use ce_model::{NoMemory, Stop};
+use rv_image::Image;
 use rv_step::{Event, PrivateMemory, Regs, step};
 use std::alloc::Global;
 
@@ -40,19 +41,18 @@ pub(crate) struct Process {
 }
 
 impl Process {
-    /// The process that starts from an image of these bytes, at the image's entry.
+    /// The process that starts from an image, at the image's entry.
     #[tactic(auto, unfolding(ce_model::specs::Node::hears))]
-    pub(crate) fn start(alloc: Global, entry: u32, loaded: &[u8]) -> Result<Process, NoMemory>
-        requires { length loaded.now ≤ 122880 }
-        ensures { IfOk result (λ process. IsStart (record { entry = entry; loaded = loaded.now; zero = 0 }) process) }
+    pub(crate) fn start(alloc: Global, image: &Image) -> Result<Process, NoMemory>
+        ensures { IfOk result (IsStart image.now) }
     {
         let mut memory = PrivateMemory::new(alloc)?;
-        memory.load_image(loaded);
+        memory.load_image(image.loaded());
         let mut registers = Regs::new();
         registers.set(SP, STACK);
         Ok(Process {
             registers,
-            pc: entry,
+            pc: image.entry(),
             memory,
             left: TURN_LENGTH,
             calls: TURN_CALLS,
@@ -81,21 +81,32 @@ impl Process {
         }
     }
 
-    /// Runs to the next kernel call, and answers nothing, or why the process ended before it.
+    /// Runs to the next kernel call, and answers nothing, or why the process ended before it. What the turn has left is
+    /// written back at a call alone, since an ended process has no use for it.
     fn run_to_call(&mut self) -> Option<Stop>
         ensures reached { MatchOption result
             (reached self.old.left (process_of self.old) ≡ at_call self.new.left (process_of self.new))
             (λ cause. reached self.old.left (process_of self.old) ≡ at_end (ended cause (process_of self.new))) }
         ensures calls { self.new.calls ≡ self.old.calls }
     {
-        while self.left > 0 {
-            self.left -= 1;
-            match step(&mut self.registers, &mut self.pc, &mut self.memory) {
+        let mut pc = self.pc;
+        let mut left = self.left;
+        while left > 0 {
+            left -= 1;
+            match step(&mut self.registers, &mut pc, &mut self.memory) {
                 Event::Went => {}
-                Event::Call => return None,
-                Event::Stopped(cause) => return Some(cause),
+                Event::Call => {
+                    self.pc = pc;
+                    self.left = left;
+                    return None;
+                }
+                Event::Stopped(cause) => {
+                    self.pc = pc;
+                    return Some(cause);
+                }
             }
         }
+        self.pc = pc;
         Some(Stop::TurnSpent)
     }
 }

@@ -68,11 +68,13 @@ fn branch(word: u32) -> Option<Inst>
     ensures listed { result ≡ dec word }
     ensures valid { IfSome result IsValid }
 {
+    let (rs1, rs2, offset) = (rs1(word), rs2(word), b_immediate(word));
+    let op = branch_op(word)?;
     Some(Inst::Branch {
-        op: branch_op(word)?,
-        rs1: rs1(word),
-        rs2: rs2(word),
-        offset: b_immediate(word),
+        op,
+        rs1,
+        rs2,
+        offset,
     })
 }
 
@@ -100,12 +102,9 @@ fn load(word: u32) -> Option<Inst>
     ensures listed { result ≡ dec word }
     ensures valid { IfSome result IsValid }
 {
-    Some(Inst::Load {
-        op: load_op(word)?,
-        rd: rd(word),
-        rs1: rs1(word),
-        imm: i_immediate(word),
-    })
+    let (rd, rs1, imm) = (rd(word), rs1(word), i_immediate(word));
+    let op = load_op(word)?;
+    Some(Inst::Load { op, rd, rs1, imm })
 }
 
 /// What a load reads, and how it is extended.
@@ -131,12 +130,9 @@ fn store(word: u32) -> Option<Inst>
     ensures listed { result ≡ dec word }
     ensures valid { IfSome result IsValid }
 {
-    Some(Inst::Store {
-        op: store_op(word)?,
-        rs1: rs1(word),
-        rs2: rs2(word),
-        imm: s_immediate(word),
-    })
+    let (rs1, rs2, imm) = (rs1(word), rs2(word), s_immediate(word));
+    let op = store_op(word)?;
+    Some(Inst::Store { op, rs1, rs2, imm })
 }
 
 /// How much a store writes.
@@ -161,6 +157,7 @@ fn op_imm(word: u32) -> Option<Inst>
     ensures listed { result ≡ dec word }
     ensures valid { IfSome result IsValid }
 {
+    let (rd, rs1, imm) = (rd(word), rs1(word), i_immediate(word));
     let op = match funct3(word) {
         0b000 => ImmOp::Addi,
         0b010 => ImmOp::Slti,
@@ -170,12 +167,7 @@ fn op_imm(word: u32) -> Option<Inst>
         0b111 => ImmOp::Andi,
         _ => return shift_imm(word),
     };
-    Some(Inst::OpImm {
-        op,
-        rd: rd(word),
-        rs1: rs1(word),
-        imm: i_immediate(word),
-    })
+    Some(Inst::OpImm { op, rd, rs1, imm })
 }
 
 /// The instruction of a word of opcode `OP_IMM` that shifts by the number in the field of `rs2`.
@@ -215,12 +207,9 @@ fn op(word: u32) -> Option<Inst>
     ensures listed { result ≡ dec word }
     ensures valid { IfSome result IsValid }
 {
-    Some(Inst::Op {
-        op: reg_op(word)?,
-        rd: rd(word),
-        rs1: rs1(word),
-        rs2: rs2(word),
-    })
+    let (rd, rs1, rs2) = (rd(word), rs1(word), rs2(word));
+    let op = reg_op(word)?;
+    Some(Inst::Op { op, rd, rs1, rs2 })
 }
 
 /// The operation on two registers.
@@ -229,17 +218,17 @@ fn reg_op(word: u32) -> Option<RegOp>
     requires { opcode_of word ≡ OP }
     ensures { dec word ≡ option_map (λ o. Op o (rd_of word) (rs1_of word) (rs2_of word)) result }
 {
-    match (funct3(word), funct7(word)) {
-        (0b000, 0b000_0000) => Some(RegOp::Add),
-        (0b001, 0b000_0000) => Some(RegOp::Sll),
-        (0b010, 0b000_0000) => Some(RegOp::Slt),
-        (0b011, 0b000_0000) => Some(RegOp::Sltu),
-        (0b100, 0b000_0000) => Some(RegOp::Xor),
-        (0b101, 0b000_0000) => Some(RegOp::Srl),
-        (0b110, 0b000_0000) => Some(RegOp::Or),
-        (0b111, 0b000_0000) => Some(RegOp::And),
-        (0b000, 0b010_0000) => Some(RegOp::Sub),
-        (0b101, 0b010_0000) => Some(RegOp::Sra),
+    match (funct7(word), funct3(word)) {
+        (0b000_0000, 0b000) => Some(RegOp::Add),
+        (0b000_0000, 0b001) => Some(RegOp::Sll),
+        (0b000_0000, 0b010) => Some(RegOp::Slt),
+        (0b000_0000, 0b011) => Some(RegOp::Sltu),
+        (0b000_0000, 0b100) => Some(RegOp::Xor),
+        (0b000_0000, 0b101) => Some(RegOp::Srl),
+        (0b000_0000, 0b110) => Some(RegOp::Or),
+        (0b000_0000, 0b111) => Some(RegOp::And),
+        (0b010_0000, 0b000) => Some(RegOp::Sub),
+        (0b010_0000, 0b101) => Some(RegOp::Sra),
         _ => None,
     }
 }

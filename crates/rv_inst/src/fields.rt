@@ -1,7 +1,7 @@
 //! The fields of an instruction word, and the immediates that lie in it (RISC-V unprivileged specification, "Base
 //! Instruction Formats" and "Immediate Encoding Variants").
-ghost use Rattle.std.specs.Prelude.{◌≡◌, ℕ, ◌+◌, ◌-◌, ◌^◌, ◌<◌, ◌≤◌};
-ghost use Rattle.ce_model.specs.Words.{cut, opcode_of, rd_of, funct3_of, rs1_of, rs2_of, funct7_of, sign_extended, i_immediate, s_immediate, b_immediate, u_immediate, j_immediate};
+ghost use Rattle.std.specs.Prelude.{◌≡◌, ◌<◌};
+ghost use Rattle.ce_model.specs.Words.{cut, opcode_of, rd_of, funct3_of, rs1_of, rs2_of, funct7_of, i_immediate, s_immediate, b_immediate, u_immediate, j_immediate};
 
 /// The `width` bits of a word from bit `low` up.
 #[tactic(auto, using(crate::proofs::Masks::masked))]
@@ -62,27 +62,12 @@ pub fn funct7(word: u32) -> u32
     bits(word, 25, 7)
 }
 
-/// The number of which `n` is the two's complement in `width` bits.
-#[inline]
-fn sign_extended(n: u32, width: u32) -> i32
-    requires narrow { width < 31 }
-    requires some { 0 < width }
-    requires fits { n < 2 ^ width }
-    ensures { result ≡ sign_extended width n }
-{
-    if n < 1 << width - 1 {
-        n as i32
-    } else {
-        n as i32 - (1 << width)
-    }
-}
-
 /// The immediate of the I format.
 #[inline]
 pub fn i_immediate(word: u32) -> i32
     ensures { result ≡ i_immediate word }
 {
-    sign_extended(bits(word, 20, 12), 12)
+    word.cast_signed() >> 20
 }
 
 /// The immediate of the S format.
@@ -90,7 +75,7 @@ pub fn i_immediate(word: u32) -> i32
 pub fn s_immediate(word: u32) -> i32
     ensures { result ≡ s_immediate word }
 {
-    sign_extended((bits(word, 25, 7) << 5) + bits(word, 7, 5), 12)
+    (word.cast_signed() >> 25) * 0x20 + bits(word, 7, 5) as i32
 }
 
 /// The immediate of the B format.
@@ -98,9 +83,8 @@ pub fn s_immediate(word: u32) -> i32
 pub fn b_immediate(word: u32) -> i32
     ensures { result ≡ b_immediate word }
 {
-    let high = (bits(word, 31, 1) << 12) + (bits(word, 7, 1) << 11);
-    let low = (bits(word, 25, 6) << 5) + (bits(word, 8, 4) << 1);
-    sign_extended(high + low, 13)
+    let low = (bits(word, 7, 1) << 11) + (bits(word, 25, 6) << 5) + (bits(word, 8, 4) << 1);
+    (word.cast_signed() >> 31) * 0x1000 + low as i32
 }
 
 /// The immediate of the U format.
@@ -116,7 +100,6 @@ pub fn u_immediate(word: u32) -> u32
 pub fn j_immediate(word: u32) -> i32
     ensures { result ≡ j_immediate word }
 {
-    let high = (bits(word, 31, 1) << 20) + (bits(word, 12, 8) << 12);
-    let low = (bits(word, 20, 1) << 11) + (bits(word, 21, 10) << 1);
-    sign_extended(high + low, 21)
+    let low = (bits(word, 12, 8) << 12) + (bits(word, 20, 1) << 11) + (bits(word, 21, 10) << 1);
+    (word.cast_signed() >> 31) * 0x10_0000 + low as i32
 }

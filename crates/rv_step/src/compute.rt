@@ -71,14 +71,3 @@ pub(crate) fn extended(op: LoadOp, n: u32) -> u32
         LoadOp::Lw | LoadOp::Lbu | LoadOp::Lhu => n,
     }
 }
-
-/// How many bytes a load moves.
-pub(crate) fn load_size(op: LoadOp) -> u32
-    ensures { result ≡ load_size op }
-{
-    match op {
-        LoadOp::Lb | LoadOp::Lbu => 1,
-        LoadOp::Lh | LoadOp::Lhu => 2,
-        LoadOp::Lw => 4,
-    }
-}

@@ -4,7 +4,7 @@ ghost use Rattle.rv_inst.specs.Valid.{IsValid, IsRegister};
 ghost use Rattle.ce_model.specs.Exec.{performed, with_reg, next_pc};
 ghost use Rattle.rv_step.specs.Stepped.{outcome_of, OnStopped};
 
-use crate::compute::{extended, imm_result, is_taken, load_size, reg_result};
+use crate::compute::{extended, imm_result, is_taken, reg_result};
 use crate::{Event, Memory, Regs};
 use ce_model::{Inst, LoadOp, Stop, StoreOp};
 
@@ -109,7 +109,12 @@ fn load<M: Memory>(
     ensures pc_stays { OnStopped result (pc.new ≡ pc.old) }
 {
     let addr = regs.get(rs1).wrapping_add_signed(imm);
-    match memory.load(addr, load_size(op)) {
+    let loaded = match op {
+        LoadOp::Lb | LoadOp::Lbu => memory.load(addr, 1),
+        LoadOp::Lh | LoadOp::Lhu => memory.load(addr, 2),
+        LoadOp::Lw => memory.load(addr, 4),
+    };
+    match loaded {
         Ok(n) => write(rd, extended(op, n), regs, pc),
         Err(cause) => Event::Stopped(cause),
     }

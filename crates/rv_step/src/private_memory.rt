@@ -1,4 +1,4 @@
-ghost use Rattle.std.specs.Prelude.{◌≡◌, ◌≤◌, ◌<◌, ◌+◌, ◌-◌, ◌^◌, ◌++◌, take, drop, ℕ, IfOk, length, replicate, Some, None, if◌then◌else◌};
+ghost use Rattle.std.specs.Prelude.{◌≡◌, ◌≤◌, ◌<◌, ◌+◌, ◌-◌, ◌*◌, ◌/◌, ◌%◌, ◌^◌, ◌++◌, ◌==◌, ◌&&◌, take, drop, ℕ, IfOk, IfSome, length, replicate, Some, None, if◌then◌else◌};
 ghost use Rattle.ce_model.specs.Exec.{IsAccessSize};
 ghost use Rattle.ce_model.specs.Private.{private_size, is_private, checked_access, with_loaded};
 ghost use Rattle.ce_model.specs.LittleEndian.{number_at, with_number_at};
@@ -13,6 +13,9 @@ const BASE: u32 = 0x1_0000;
 
 /// How many bytes it has.
 const SIZE: usize = 0x2_0000;
+
+/// The bits of an offset that are 0 within the memory.
+const OUTSIDE: u32 = 0xFFFE_0000;
 
 /// The private memory of a process that used no window: 131,072 bytes at the addresses 0x0001_0000 to 0x0002_FFFF.
 /// A load or store whose address isn't a multiple of its size is refused as `Misaligned`, and any other one outside these
@@ -90,9 +93,9 @@ impl Memory for PrivateMemory {
     ghost holds = { λ bytes. bytes };
 
     fn fetch(&self, pc: u32) -> Result<u32, Stop> {
-        match offset_of(pc) {
-            Some(offset) if pc % 4 == 0 => Ok(word_at(self.bytes.as_slice(), offset)),
-            _ => Err(Stop::Fetch(pc)),
+        match offset_of(pc, 4) {
+            Some(offset) => Ok(word_at(self.bytes.as_slice(), offset)),
+            None => Err(Stop::Fetch(pc)),
         }
     }
 
@@ -108,28 +111,45 @@ impl Memory for PrivateMemory {
     }
 }
 
-/// The offset of a private address, and None for another address.
-fn offset_of(addr: u32) -> Option<usize>
-    ensures { result ≡ (if is_private addr then Some (addr - 0x1_0000) else None) }
+/// The offset of a private address that is a multiple of `size`, and None for another address. One comparison tells.
+#[tactic(auto, using(crate::proofs::Places::place_lemmas))]
+#[inline]
+fn offset_of(addr: u32, size: u32) -> Option<usize>
+    requires { IsAccessSize size }
+    ensures value { result ≡ (if addr % size == 0 && is_private addr then Some (addr - 0x1_0000) else None) }
+    ensures within { IfSome result (λ offset. offset + size ≤ 131072) }
 {
     let offset = addr.wrapping_sub(BASE);
-    if (offset as usize) < SIZE {
+    if misplaced(offset, size) == 0 {
         Some(offset as usize)
     } else {
         None
     }
 }
 
+/// The bits of an offset that keep an access of `size` bytes from it: those that lead out of the memory, and those below
+/// the size.
+#[tactic(auto, using(crate::proofs::Places::masked))]
+#[inline]
+fn misplaced(offset: u32, size: u32) -> u32
+    requires { IsAccessSize size }
+    ensures { result ≡ offset / 0x2_0000 * 0x2_0000 + offset % size }
+{
+    offset & (OUTSIDE + (size - 1))
+}
+
 /// The offset at which an access of `size` bytes at `addr` is made, or the cause for which it isn't.
+#[inline]
 fn place(addr: u32, size: u32) -> Result<usize, Stop>
     requires { IsAccessSize size }
     ensures value { result ≡ checked_access addr size (λ offset. offset) }
     ensures within { IfOk result (λ offset. offset + size ≤ 131072) }
 {
-    if addr & (size - 1) != 0 {
-        return Err(Stop::Misaligned(addr));
+    match offset_of(addr, size) {
+        Some(offset) => Ok(offset),
+        None if addr & (size - 1) != 0 => Err(Stop::Misaligned(addr)),
+        None => Err(Stop::Unmapped(addr)),
     }
-    offset_of(addr).ok_or(Stop::Unmapped(addr))
 }
 
 /// The number in the `size` bytes from `offset` on.
