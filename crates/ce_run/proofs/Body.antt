@@ -1,76 +1,89 @@
--- Reading an image's words one after another.
-use Rattle.std.proofs.Common.{◌≡◌, ℕ, List, [], ◌∷◌, ◌++◌, Option, Some, None, true, false, cond, refl, ap, ◌∙◌, append_assoc}
-use Rattle.std.specs.Option.{option_map}
-use Rattle.std.specs.Str.{bytes_eq}
-use Rattle.std.specs.Prelude.{codes}
-use Rattle.ce_run.specs.Lines.{◌>>=◌, words_of}
-use Rattle.ce_run.specs.Words.{hex_word}
-use Rattle.ce_run.specs.BuiltForm.{with_front, word_values, body_of}
+-- Reading the digits of an image's body one after another.
+use Rattle.std.proofs.Common.{◌≡◌, ℕ, ◌-◌, ◌≤◌, List, [], ◌∷◌, ◌++◌, length, get_or, take, drop, Option, Some, None, refl, ap, sym, ◌∙◌, arith, append_assoc}
+use Rattle.std.proofs.lemmas.Grind.{common_steps}
+use Rattle.std.proofs.lemmas.List.{append-nil}
+use Rattle.ce_run.specs.Lines.{◌>>=◌}
+use Rattle.ce_run.specs.Words.{number_in}
+use Rattle.ce_run.specs.ImageBody.{with_front, gathered, digit_bytes, word_bytes, line_bytes}
+use Rattle.ce_run.specs.declared.form.digits.Digits.{Digits}
 
--- a list of values, one in front of others
-abbrev joined : Option ℕ → Option (List ℕ) → Option (List ℕ)
-joined v vs = v >>= (λ x. vs >>= (λ xs. Some (x ∷ xs)))
-
-joined_front : (front : List ℕ) (value : ℕ) (vs : Option (List ℕ)) → with_front front (joined (Some value) vs) ≡ with_front (front ++ value ∷ []) vs
-joined_front front value None = refl
-joined_front front value (Some xs) = ap Some (simp append_assoc)
-
--- a word that has a value goes to the end of what stands in front
-pub values_step : (front word : List ℕ) (words : List (List ℕ)) (value : ℕ) → hex_word word ≡ Some value → with_front front (word_values (word ∷ words)) ≡ with_front (front ++ value ∷ []) (word_values words)
-values_step front word words value h =
-    ap (λ v. with_front front (joined v (word_values words))) h ∙ joined_front front value (word_values words)
-
--- so does the last word
-pub values_last : (front word : List ℕ) (value : ℕ) → hex_word word ≡ Some value → with_front front (word_values (word ∷ [])) ≡ Some (front ++ value ∷ [])
-values_last front word value h = ap (λ v. with_front front (joined v (Some []))) h
-
--- a word that has none spoils the list
-pub values_bad : (word : List ℕ) (words : List (List ℕ)) → hex_word word ≡ None → word_values (word ∷ words) ≡ None
-values_bad word words h = ap (λ v. joined v (word_values words)) h
-
-pub front_none : (front : List ℕ) (values : Option (List ℕ)) → with_front front values ≡ None → values ≡ None
+pub front_none : (front : List ℕ) (bytes : Option (List ℕ)) → with_front front bytes ≡ None → bytes ≡ None
 front_none front None h = refl
 front_none front (Some xs) h = cc
 
--- a body's values behind those that were read before
-abbrev pub body_front : List ℕ → Option (List ℕ × List (List ℕ)) → Option (List ℕ × List (List ℕ))
-body_front front body = option_map (λ b. (front ++ b.0, b.1)) body
+pub front_nothing : (bytes : Option (List ℕ)) → with_front [] bytes ≡ bytes
+front_nothing None = refl
+front_nothing (Some xs) = refl
 
-abbrev body_joined : Option (List ℕ) → Option (List ℕ × List (List ℕ)) → Option (List ℕ × List (List ℕ))
-body_joined values body = values >>= (λ vs. body >>= (λ more. Some (vs ++ more.0, more.1)))
+fronts : (front bytes : List ℕ) (more : Option (List ℕ)) → with_front front (with_front bytes more) ≡ with_front (front ++ bytes) more
+fronts front bytes None = refl
+fronts front bytes (Some xs) = ap (λ (all : List ℕ). Some all) (simp append_assoc)
 
-body_joined_front : (front values : List ℕ) (body : Option (List ℕ × List (List ℕ))) → body_front front (body_joined (Some values) body) ≡ body_front (front ++ values) body
-body_joined_front front values None = refl
-body_joined_front front values (Some b) = ap (λ xs. Some (xs, b.1)) (simp append_assoc)
+front_some : (front : List ℕ) (bytes : Option (List ℕ)) (all : List ℕ) → with_front front bytes ≡ Some all → (own : List ℕ) × (bytes ≡ Some own) × (front ++ own ≡ all)
+front_some front None all h = absurd (cc)
+front_some front (Some own) all h = (own, refl, cc)
 
-with_front_some : (front : List ℕ) (values : Option (List ℕ)) (all : List ℕ) → with_front front values ≡ Some all → (own : List ℕ) × (values ≡ Some own) × (front ++ own ≡ all)
-with_front_some front None all h = absurd (cc)
-with_front_some front (Some own) all h = (own, refl, cc)
+-- ---- items
 
--- a line other than `end` puts its values behind those before
-pub body_step : (front line all : List ℕ) (lines : List (List ℕ)) → bytes_eq line (codes "end") ≡ false → with_front front (word_values (words_of line)) ≡ Some all → body_front front (body_of (line ∷ lines)) ≡ body_front all (body_of lines)
-body_step front line all lines other h =
-    let own = with_front_some front (word_values (words_of line)) all h in
-    ap (λ v. body_front front (cond v (Some ([], lines)) (body_joined (word_values (words_of line)) (body_of lines)))) other
-    ∙ ap (λ vs. body_front front (body_joined vs (body_of lines))) own.1
-    ∙ body_joined_front front own.0 (body_of lines)
-    ∙ ap (λ xs. body_front xs (body_of lines)) own.2
+-- an item that gives bytes puts them behind those before
+pub gathered_step : {A : Type 0} → (read : A → Option (List ℕ)) (front all : List ℕ) (item : A) (items from : List A) → from ≡ item ∷ items → with_front front (read item) ≡ Some all → with_front front (gathered read from) ≡ with_front all (gathered read items)
+gathered_step {A} read front all item items from e h =
+    let own = front_some front (read item) all h in
+    ap (λ (xs : List A). with_front front (gathered read xs)) e
+    ∙ ap (λ (v : Option (List ℕ)). with_front front (v >>= (λ bytes. with_front bytes (gathered read items)))) own.1
+    ∙ fronts front own.0 (gathered read items)
+    ∙ ap (λ (xs : List ℕ). with_front xs (gathered read items)) own.2
 
--- the line `end` ends it
-pub body_end : (front line : List ℕ) (lines : List (List ℕ)) → bytes_eq line (codes "end") ≡ true → body_front front (body_of (line ∷ lines)) ≡ Some (front ++ [], lines)
-body_end front line lines is =
-    ap (λ v. body_front front (cond v (Some ([], lines)) (body_joined (word_values (words_of line)) (body_of lines)))) is
+-- the last item ends it
+pub gathered_last : {A : Type 0} → (read : A → Option (List ℕ)) (front all : List ℕ) (item : A) (from : List A) → from ≡ item ∷ [] → with_front front (read item) ≡ Some all → with_front front (gathered read from) ≡ Some all
+gathered_last read front all item from e h =
+    gathered_step read front all item [] from e h ∙ ap (λ (xs : List ℕ). Some xs) (append-nil all)
 
--- a line whose words have no values spoils it
-pub body_bad : (line : List ℕ) (lines : List (List ℕ)) → bytes_eq line (codes "end") ≡ false → word_values (words_of line) ≡ None → body_of (line ∷ lines) ≡ None
-body_bad line lines other h =
-    ap (λ v. cond v (Some ([], lines)) (body_joined (word_values (words_of line)) (body_of lines))) other
-    ∙ ap (λ vs. body_joined vs (body_of lines)) h
+-- an item that gives nothing spoils it
+pub gathered_bad : {A : Type 0} → (read : A → Option (List ℕ)) (item : A) (items from : List A) → from ≡ item ∷ items → read item ≡ None → gathered read from ≡ None
+gathered_bad {A} read item items from e h =
+    ap (λ (xs : List A). gathered read xs) e
+    ∙ ap (λ (v : Option (List ℕ)). v >>= (λ bytes. with_front bytes (gathered read items))) h
 
-pub body_front_none : (front : List ℕ) (body : Option (List ℕ × List (List ℕ))) → body_front front body ≡ None → body ≡ None
-body_front_none front None h = refl
-body_front_none front (Some b) h = cc
+pub gathered_none : {A : Type 0} → (read : A → Option (List ℕ)) (front : List ℕ) (from : List A) → from ≡ [] → with_front front (gathered read from) ≡ Some front
+gathered_none {A} read front from e =
+    ap (λ (xs : List A). with_front front (gathered read xs)) e ∙ ap (λ (xs : List ℕ). Some xs) (append-nil front)
 
-pub body_front_nothing : (body : Option (List ℕ × List (List ℕ))) → body_front [] body ≡ body
-body_front_nothing None = refl
-body_front_nothing (Some b) = refl
+-- ---- digits
+
+-- two digits write a byte
+pub digits_step : (front rest others : List ℕ) (high low byte : ℕ) → rest ≡ high ∷ low ∷ others → number_in 16 (high ∷ low ∷ []) ≡ Some byte → with_front front (digit_bytes rest) ≡ with_front (front ++ byte ∷ []) (digit_bytes others)
+digits_step front rest others high low byte e h =
+    ap (λ (xs : List ℕ). with_front front (digit_bytes xs)) e
+    ∙ ap (λ (v : Option ℕ). with_front front (v >>= (λ b. with_front (b ∷ []) (digit_bytes others)))) h
+    ∙ fronts front (byte ∷ []) (digit_bytes others)
+
+-- two digits at the front of the rest write a byte
+pub digits_pair : (front rest : List ℕ) (byte n : ℕ) → 2 ≤ length rest → number_in 16 (get_or rest 0 0 ∷ get_or rest 1 0 ∷ []) ≡ Some byte → n ≡ length rest → with_front front (digit_bytes rest) ≡ with_front (front ++ byte ∷ []) (digit_bytes (take (n - 2) (drop 2 rest)))
+digits_pair front [] byte n two pair all = absurd (omega arith)
+digits_pair front (digit ∷ []) byte n two pair all = absurd (omega arith)
+digits_pair front (high ∷ low ∷ others) byte n two pair all =
+    let whole : take (n - 2) others ≡ others = grind (arith, common_steps) in
+    digits_step front (high ∷ low ∷ others) others high low byte refl pair ∙ ap (λ (xs : List ℕ). with_front (front ++ byte ∷ []) (digit_bytes xs)) (sym whole)
+
+pub digits_bad : (rest others : List ℕ) (high low : ℕ) → rest ≡ high ∷ low ∷ others → number_in 16 (high ∷ low ∷ []) ≡ None → digit_bytes rest ≡ None
+digits_bad rest others high low e h =
+    ap (λ (xs : List ℕ). digit_bytes xs) e
+    ∙ ap (λ (v : Option ℕ). v >>= (λ b. with_front (b ∷ []) (digit_bytes others))) h
+
+-- ---- the words of a line, and the lines of a body
+
+pub words_step : (digits : Digits) (front word all : List ℕ) (words : List (List ℕ)) → with_front front (word_bytes digits word) ≡ Some all → with_front front (gathered (word_bytes digits) (word ∷ words)) ≡ with_front all (gathered (word_bytes digits) words)
+words_step digits front word all words h = gathered_step (word_bytes digits) front all word words (word ∷ words) refl h
+
+pub words_last : (digits : Digits) (front word all : List ℕ) → with_front front (word_bytes digits word) ≡ Some all → with_front front (gathered (word_bytes digits) (word ∷ [])) ≡ Some all
+words_last digits front word all h = gathered_last (word_bytes digits) front all word (word ∷ []) refl h
+
+pub words_bad : (digits : Digits) (word : List ℕ) (words : List (List ℕ)) → word_bytes digits word ≡ None → gathered (word_bytes digits) (word ∷ words) ≡ None
+words_bad digits word words h = gathered_bad (word_bytes digits) word words (word ∷ words) refl h
+
+pub lines_step : (digits : Digits) (front line all : List ℕ) (lines : List (List ℕ)) → with_front front (line_bytes digits line) ≡ Some all → with_front front (gathered (line_bytes digits) (line ∷ lines)) ≡ with_front all (gathered (line_bytes digits) lines)
+lines_step digits front line all lines h = gathered_step (line_bytes digits) front all line lines (line ∷ lines) refl h
+
+pub lines_bad : (digits : Digits) (line : List ℕ) (lines : List (List ℕ)) → line_bytes digits line ≡ None → gathered (line_bytes digits) (line ∷ lines) ≡ None
+lines_bad digits line lines h = gathered_bad (line_bytes digits) line lines (line ∷ lines) refl h

@@ -1,4 +1,5 @@
 pub mod Body
+pub mod BodyText
 pub mod Digits
 pub mod FormParts
 pub mod HelloRow
@@ -9,6 +10,7 @@ pub mod NameBytes
 pub mod OneCubeFacts
 pub mod OneCubeLegal
 pub mod OneCubeSteps
+pub mod OneScript
 pub mod Reaching
 pub mod ReportParts
 pub mod Saying

@@ -54,3 +54,11 @@ words_some line i h =
 -- a line without one is one word
 pub words_none : (line : List ℕ) → position (λ b. eqb b 32) line ≡ None → words_of line ≡ line ∷ []
 words_none line h = slice_split_none (λ b. eqb b 32) line (fails_all (λ b. eqb b 32) line h)
+
+-- a text with a line feed is cut at it
+pub line_cut : (text : List ℕ) (i : ℕ) → position (λ b. eqb b 10) text ≡ Some i → text ≡ take i text ++ 10 ∷ drop (i + 1) text
+line_cut text i h =
+    let f = cut_at (λ b. eqb b 10) text i h in
+    let test = f.1 in
+    let is : get_or text i 0 ≡ 10 = grind (arith, nat_tests) in
+    f.2 ∙ ap (λ (b : ℕ). take i text ++ b ∷ drop (i + 1) text) is

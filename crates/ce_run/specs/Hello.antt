@@ -3,6 +3,7 @@ use Rattle.std.specs.Prelude.{ℕ, List, [], ◌∷◌, ◌++◌, None, true, co
 use Rattle.ce_model.specs.declared.entry.What.TheVariants.{Arm, Look, Spawn, Note, Take}
 use Rattle.ce_model.specs.declared.entry.Found.TheVariants.{Quiet as FoundQuiet}
 use Rattle.ce_model.specs.declared.entry.Given.TheVariants.{Start, Idle}
+use Rattle.ce_model.specs.Image.{image_parts}
 use Rattle.ce_run.specs.declared.form.BuiltForm.{BuiltForm}
 use Rattle.ce_run.specs.declared.record.Record.{Record}
 use Rattle.ce_run.specs.declared.record.Command.TheVariants.{Getcube as AskCube, Spawn as AskSpawn, Run}
@@ -12,17 +13,25 @@ use Rattle.ce_run.specs.OneCube.{first_entry, the_node, host_entry, node_entry, 
 abbrev line : List ℕ → List ℕ
 line text = text ++ 10 ∷ []
 
+-- the body of its image
+abbrev pub hello_body : List ℕ
+hello_body = line (codes "02A00513 00E00893 00000073 00D00893 00000073")
+
 -- the script's bytes
 abbrev pub hello_text : List ℕ
 hello_text =
-    line (codes "machine 0") ++ line (codes "image hello hex") ++ line (codes "02A00513 00E00893 00000073 00D00893 00000073")
-    ++ line (codes "end") ++ line (codes "user alice") ++ line (codes "getcube 0") ++ line (codes "spawn hello 0 0") ++ line (codes "run 10")
+    line (codes "machine 0") ++ line (codes "image hello hex") ++ hello_body ++ line (codes "end") ++ line (codes "user alice") ++ line (codes "getcube 0") ++ line (codes "spawn hello 0 0") ++ line (codes "run 10")
+
+-- the bytes of its image
+abbrev pub hello_bytes : List ℕ
+hello_bytes =
+    0x13 ∷ 0x05 ∷ 0xA0 ∷ 0x02 ∷ 0x93 ∷ 0x08 ∷ 0xE0 ∷ 0x00 ∷ 0x73 ∷ 0x00 ∷ 0x00 ∷ 0x00 ∷ 0x93 ∷ 0x08 ∷ 0xD0 ∷ 0x00 ∷ 0x73 ∷ 0x00 ∷ 0x00 ∷ 0x00 ∷ []
 
 -- what it says
 abbrev pub hello_form : BuiltForm
 hello_form = record {
   image = codes "hello";
-  words = 0x02A00513 ∷ 0x00E00893 ∷ 0x00000073 ∷ 0x00D00893 ∷ 0x00000073 ∷ [];
+  program = image_parts 0x1_0000 hello_bytes 0;
   user = codes "alice";
   count = 10;
 }

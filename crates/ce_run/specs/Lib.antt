@@ -4,6 +4,7 @@ pub mod Commands
 pub mod Fault
 pub mod FormError
 pub mod Hello
+pub mod ImageBody
 pub mod InputError
 pub mod Kept
 pub mod Legal

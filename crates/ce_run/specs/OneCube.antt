@@ -80,10 +80,6 @@ replies_of sub count answer = (AskCube 0, AnswerGranted sub) ∷ (AskSpawn 0 pla
 
 -- ---- what `run` does on one node whose process 0 waits to be started
 
--- the image whose bytes these are
-abbrev pub image_of : List ℕ → ImageParts
-image_of loaded = record { entry = 0x1_0000; loaded = loaded; zero = 0 }
-
 -- a history has gained steps of which P holds
 abbrev pub Adds : List Entry → List Entry → (List Entry → Type 0) → Type 0
 Adds before now P = (steps : List Entry) × (now ≡ before ++ steps) × P steps

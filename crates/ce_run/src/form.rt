@@ -1,12 +1,13 @@
 //! The scripts that are accepted today, which are all of one form: docs/SCRIPT.md.
-ghost use Rattle.std.specs.Prelude.{◌≡◌, Some, None, true, IfOk, IfSome, IsErrOf, ◌≤◌, length};
+ghost use Rattle.std.specs.Prelude.{◌≡◌, true, IfOk, IfSome, IsErrOf, ◌≤◌, length};
 ghost use Rattle.std.specs.Option.{option_map};
 ghost use Rattle.ce_run.specs.Lines.{lines_of};
 ghost use Rattle.ce_run.specs.Words.{is_name};
-ghost use Rattle.ce_run.specs.BuiltForm.{head_of, built_form};
+ghost use Rattle.ce_run.specs.BuiltForm.{head_of, outline, outline_of, Says, IsBuilt};
 ghost use Rattle.ce_run.specs.declared.form.FormError.TheVariants.{NotBuilt};
 
 mod commands;
+mod digits;
 mod image;
 mod lines;
 mod words;
@@ -14,18 +15,19 @@ mod words;
 use crate::name::Name;
 use ce_model::NoMemory;
 use commands::commands_of;
-use image::{are_built_words, body_of, image_line};
+use image::{ImageForm, body_of, image_line, program_of};
 use lines::next_line;
-use sqlite_items::Items;
-use std::alloc::{AllocError, Global};
+use rv_asm::{AsmFault, AsmKind};
+use rv_image::{Image, ImageFault};
+use std::alloc::{AllocError, AllocFailed, Global};
 
 /// What a script of the built form says.
 #[derive(Drop)]
 pub(crate) struct BuiltForm {
     /// The image's name.
     pub(crate) image: Name,
-    /// The image's instruction words, 1 to 30,720.
-    pub(crate) words: Items<u32>,
+    /// The image.
+    pub(crate) program: Image,
     /// The user's name.
     pub(crate) user: Name,
     /// How many dispatches `run` allows, 1,000,000 at most.
@@ -61,39 +63,104 @@ impl From<AllocError> for FormError {
     }
 }
 
-/// Reads a script of the built form.
-#[tactic(auto, using(crate::proofs::FormParts::no_head, crate::proofs::FormParts::no_body, crate::proofs::FormParts::bad_words, crate::proofs::FormParts::no_commands, crate::proofs::FormParts::whole, crate::proofs::FormParts::few))]
-pub(crate) fn read_form(alloc: Global, text: &[u8]) -> Result<BuiltForm, FormError>
-    ensures ok { IfOk result (λ form. built_form text.now ≡ Some form) }
-    ensures few { IfOk result (λ form. length form.words ≤ 30720) }
-    ensures small { IfOk result (λ form. form.count ≤ 1000000) }
-    ensures not_built { IsErrOf result NotBuilt → built_form text.now ≡ None }
-{
-    let (image, rest) = head_of(text).ok_or(FormError::NotBuilt)?;
-    let (words, rest) = body_of(alloc, rest)?;
-    if !are_built_words(words.as_slice()) {
-        return Err(FormError::NotBuilt);
+impl<T: Drop> From<AllocFailed<T>> for FormError {
+    ghost use Rattle.ce_run.specs.FormError.{IsMemory};
+
+    ghost from_gives = { λ _ e. IsMemory e };
+
+    fn from(_: AllocFailed<T>) -> Self {
+        FormError::Memory(NoMemory)
     }
-    let (user, count) = commands_of(image, rest).ok_or(FormError::NotBuilt)?;
+}
+
+impl From<AsmFault> for FormError {
+    ghost use Rattle.std.specs.Prelude.{◌≡◌};
+    ghost use Rattle.ce_run.specs.FormError.{of_assembly};
+
+    ghost from_gives = { λ fault e. e ≡ of_assembly fault.kind };
+
+    fn from(fault: AsmFault) -> Self {
+        match fault.kind {
+            AsmKind::Memory(fault) => FormError::Memory(fault),
+            _ => FormError::NotBuilt,
+        }
+    }
+}
+
+impl From<ImageFault> for FormError {
+    ghost use Rattle.std.specs.Prelude.{◌≡◌};
+    ghost use Rattle.ce_run.specs.FormError.{of_image};
+
+    ghost from_gives = { λ fault e. e ≡ of_image fault };
+
+    fn from(fault: ImageFault) -> Self {
+        match fault {
+            ImageFault::Memory(fault) => FormError::Memory(fault),
+            _ => FormError::NotBuilt,
+        }
+    }
+}
+
+/// What a script of the built form says, with its image as it is written.
+#[derive(Clone, Copy)]
+struct Outline<'a> {
+    image: &'a [u8],
+    form: ImageForm,
+    body: &'a [u8],
+    user: &'a [u8],
+    count: u32,
+}
+
+/// Reads a script of the built form. It is of another form also where its image is refused, unless memory runs out.
+pub(crate) fn read_form(alloc: Global, text: &[u8]) -> Result<BuiltForm, FormError>
+    requires { length text.now ≤ 1048576 }
+    ensures ok { IfOk result (Says text.now) }
+    ensures small { IfOk result (λ form. form.count ≤ 1000000) }
+    ensures not_built { IsErrOf result NotBuilt → ¬ IsBuilt text.now }
+{
+    let script = outline_of(text).ok_or(FormError::NotBuilt)?;
+    let program = program_of(alloc, script.form, script.body)?;
     Ok(BuiltForm {
-        image: Name::of_bytes(alloc, image)?,
-        words,
-        user: Name::of_bytes(alloc, user)?,
+        image: Name::of_bytes(alloc, script.image)?,
+        program,
+        user: Name::of_bytes(alloc, script.user)?,
+        count: script.count,
+    })
+}
+
+/// What a script of the built form says.
+#[tactic(auto, unfolding(crate::specs::BuiltForm::outline_of))]
+fn outline_of(text: &[u8]) -> Option<Outline<'_>>
+    ensures outline { option_map (λ it. outline it.image.now it.form it.body.now it.user.now it.count) result ≡ outline_of (lines_of text.now) }
+    ensures image { IfSome result (λ it. is_name it.image.now ≡ true) }
+    ensures user { IfSome result (λ it. is_name it.user.now ≡ true) }
+    ensures small { IfSome result (λ it. it.count ≤ 1000000) }
+    ensures shorter { IfSome result (λ it. length it.body.now ≤ length text.now) }
+{
+    let (image, form, rest) = head_of(text)?;
+    let (body, rest) = body_of(rest)?;
+    let (user, count) = commands_of(image, rest)?;
+    Some(Outline {
+        image,
+        form,
+        body,
+        user,
         count,
     })
 }
 
-/// The image's name in the first two lines, and the text behind them.
+/// The image's name and form in the first two lines, and the text behind them.
 #[tactic(auto, unfolding(crate::specs::BuiltForm::head_of))]
-fn head_of(text: &[u8]) -> Option<(&[u8], &[u8])>
-    ensures head { option_map (λ head. (head.0.now, lines_of head.1.now)) result ≡ head_of (lines_of text.now) }
+fn head_of(text: &[u8]) -> Option<(&[u8], ImageForm, &[u8])>
+    ensures head { option_map (λ head. (head.0.now, head.1, lines_of head.2.now)) result ≡ head_of (lines_of text.now) }
     ensures named { IfSome result (λ head. is_name head.0.now ≡ true) }
+    ensures shorter { IfSome result (λ head. length head.2.now ≤ length text.now) }
 {
     let (machine, rest) = next_line(text)?;
     let (image, rest) = next_line(rest)?;
     if machine != b"machine 0".as_slice() {
         return None;
     }
-    let name = image_line(image)?;
-    Some((name, rest))
+    let (name, form) = image_line(image)?;
+    Some((name, form, rest))
 }

@@ -50,6 +50,7 @@ impl From<ce_io::Failed> for InputError {
 #[tactic(auto, using(crate::proofs::Known::longer_told))]
 pub(crate) fn read_to_end<S: Source>(alloc: Global, source: &mut S) -> Result<Vec<u8>, InputError>
     ensures whole { IfOk result (λ text. IfSome (S.left source.old) (λ bytes. (text.items ≡ bytes) × (S.left source.new ≡ Some []))) }
+    ensures short { IfOk result (λ text. length text.items ≤ 1048576) }
     ensures few { OnOk result (Tells (S.given source.new) → GaveFew (S.given source.old) (S.given source.new)) }
     ensures too_long { IsErrOf result TooLong → Tells (S.given source.new) → GaveTooMuch (S.given source.old) (S.given source.new) }
     ensures longer { IsErrOf result TooLong → IfSome (S.left source.old) (λ bytes. 1048576 < length bytes) }

@@ -2,10 +2,10 @@
 ghost use Rattle.std.specs.Prelude.{◌≡◌, ◌↔◌, ◌⊎◌, ◌≤◌, ◌<◌, ◌^◌, ◌-◌, List, ℕ, [], Some, None, true, false, IfOk, IfErr, OnOk, OnErr, IsErrOf, IsErrAnd, IfSome, IsSome, length, map};
 ghost use Rattle.std.specs.String.{string_bytes};
 ghost use Rattle.ce_io.specs.Faults.{Rose};
-ghost use Rattle.ce_run.specs.BuiltForm.{built_form};
+ghost use Rattle.ce_run.specs.BuiltForm.{Says, IsBuilt};
 ghost use Rattle.ce_run.specs.Causes.{is_serial, status_of_end, Tells, GaveTooMuch, GaveFew, IsMemory, EndsReading, RanToEnd, Reports};
 ghost use Rattle.ce_run.specs.Legal.{Legal, Serial};
-ghost use Rattle.ce_run.specs.Script.{script_of, script_of_form};
+ghost use Rattle.ce_run.specs.Script.{OfScript, script_of_form};
 ghost use Rattle.ce_run.specs.Text.{report};
 ghost use Rattle.ce_run.specs.declared.ended.Fault.TheVariants.{TooLong, NotBuilt, Usage, Read, Write};
 
@@ -38,8 +38,8 @@ pub fn top<R: Threads + Wait + Sync, S: Source, K: Sink, G: Gate>(
     ensures kept { IsSome result.kept ↔ RanToEnd result.fault }
     ensures usage { (result.fault ≡ Some Usage) ↔ (is_serial (map string_bytes words.now) ≡ false) }
     // A script is read to its end, and whether it is of the built form decides.
-    ensures built { RanToEnd result.fault → IfSome (S.left source.old) (λ text. (S.left source.new ≡ Some []) × IsSome (script_of text)) }
-    ensures not_built { result.fault ≡ Some NotBuilt → IfSome (S.left source.old) (λ text. (S.left source.new ≡ Some []) × (script_of text ≡ None)) }
+    ensures built { RanToEnd result.fault → IfSome (S.left source.old) (λ text. (S.left source.new ≡ Some []) × IsBuilt text) }
+    ensures not_built { result.fault ≡ Some NotBuilt → IfSome (S.left source.old) (λ text. (S.left source.new ≡ Some []) × ¬ IsBuilt text) }
     ensures too_long { result.fault ≡ Some TooLong → (Tells (S.given source.new) → GaveTooMuch (S.given source.old) (S.given source.new))
         × IfSome (S.left source.old) (λ text. 1048576 < length text) }
     ensures too_much { Tells (S.given source.new) → GaveTooMuch (S.given source.old) (S.given source.new) → (result.fault ≡ Some TooLong) ⊎ IsMemory result.fault }
@@ -47,16 +47,16 @@ pub fn top<R: Threads + Wait + Sync, S: Source, K: Sink, G: Gate>(
     ensures read { result.fault ≡ Some Read → Rose (S.faults source.old) (S.faults source.new) }
     ensures write { result.fault ≡ Some Write → Rose (K.faults sink.old) (K.faults sink.new) }
     // What was written is the report, or with the fault Write a front part of it; with the other faults it is nothing.
-    ensures reported { IfSome result.kept (λ kept. IfSome (S.left source.old) (λ text. IfSome (script_of text) (λ script.
-        Reports result.fault (report script kept) (K.written sink.old) (K.written sink.new)))) }
+    ensures reported { IfSome result.kept (λ kept. OfScript (S.left source.old) (λ script.
+        Reports result.fault (report script kept) (K.written sink.old) (K.written sink.new))) }
     // The record is one that the model allows: the script's users and commands, and each cube's trace and replies as the cube gives
     // them alone; and the commands were carried out one after another.
-    ensures legal { IfSome result.kept (λ kept. IfSome (S.left source.old) (λ text. IfSome (script_of text) (λ script. Legal script kept))) }
-    ensures serial { IfSome result.kept (λ kept. IfSome (S.left source.old) (λ text. IfSome (script_of text) (λ script. Serial script kept))) }
+    ensures legal { IfSome result.kept (λ kept. OfScript (S.left source.old) (λ script. Legal script kept)) }
+    ensures serial { IfSome result.kept (λ kept. OfScript (S.left source.old) (λ script. Serial script kept)) }
     ensures unwritten { RanToEnd result.fault ⊎ (K.written sink.new ≡ K.written sink.old) }
     // What is accepted is run to its end, unless the source, the sink or memory fails.
     ensures complete { is_serial (map string_bytes words.now) ≡ true → (text : List ℕ) → S.left source.old ≡ Some text
-        → length text ≤ 1048576 → IsSome (script_of text) → ¬ Rose (S.faults source.old) (S.faults source.new)
+        → length text ≤ 1048576 → IsBuilt text → ¬ Rose (S.faults source.old) (S.faults source.new)
         → ¬ Rose (K.faults sink.old) (K.faults sink.new) → (result.fault ≡ None) ⊎ IsMemory result.fault }
 {
     serial_call(alloc, words, source, sink)
@@ -74,8 +74,8 @@ pub fn serial_call<S: Source, K: Sink>(
     ensures kept { IsSome result.kept ↔ RanToEnd result.fault }
     ensures usage { (result.fault ≡ Some Usage) ↔ (is_serial (map string_bytes words.now) ≡ false) }
     // A script is read to its end, and whether it is of the built form decides.
-    ensures built { RanToEnd result.fault → IfSome (S.left source.old) (λ text. (S.left source.new ≡ Some []) × IsSome (script_of text)) }
-    ensures not_built { result.fault ≡ Some NotBuilt → IfSome (S.left source.old) (λ text. (S.left source.new ≡ Some []) × (script_of text ≡ None)) }
+    ensures built { RanToEnd result.fault → IfSome (S.left source.old) (λ text. (S.left source.new ≡ Some []) × IsBuilt text) }
+    ensures not_built { result.fault ≡ Some NotBuilt → IfSome (S.left source.old) (λ text. (S.left source.new ≡ Some []) × ¬ IsBuilt text) }
     ensures too_long { result.fault ≡ Some TooLong → (Tells (S.given source.new) → GaveTooMuch (S.given source.old) (S.given source.new))
         × IfSome (S.left source.old) (λ text. 1048576 < length text) }
     ensures too_much { Tells (S.given source.new) → GaveTooMuch (S.given source.old) (S.given source.new) → (result.fault ≡ Some TooLong) ⊎ IsMemory result.fault }
@@ -83,16 +83,16 @@ pub fn serial_call<S: Source, K: Sink>(
     ensures read { result.fault ≡ Some Read → Rose (S.faults source.old) (S.faults source.new) }
     ensures write { result.fault ≡ Some Write → Rose (K.faults sink.old) (K.faults sink.new) }
     // What was written is the report, or with the fault Write a front part of it; with the other faults it is nothing.
-    ensures reported { IfSome result.kept (λ kept. IfSome (S.left source.old) (λ text. IfSome (script_of text) (λ script.
-        Reports result.fault (report script kept) (K.written sink.old) (K.written sink.new)))) }
+    ensures reported { IfSome result.kept (λ kept. OfScript (S.left source.old) (λ script.
+        Reports result.fault (report script kept) (K.written sink.old) (K.written sink.new))) }
     // The record is one that the model allows: the script's users and commands, and each cube's trace and replies as the cube gives
     // them alone; and the commands were carried out one after another.
-    ensures legal { IfSome result.kept (λ kept. IfSome (S.left source.old) (λ text. IfSome (script_of text) (λ script. Legal script kept))) }
-    ensures serial { IfSome result.kept (λ kept. IfSome (S.left source.old) (λ text. IfSome (script_of text) (λ script. Serial script kept))) }
+    ensures legal { IfSome result.kept (λ kept. OfScript (S.left source.old) (λ script. Legal script kept)) }
+    ensures serial { IfSome result.kept (λ kept. OfScript (S.left source.old) (λ script. Serial script kept)) }
     ensures unwritten { RanToEnd result.fault ⊎ (K.written sink.new ≡ K.written sink.old) }
     // What is accepted is run to its end, unless the source, the sink or memory fails.
     ensures complete { is_serial (map string_bytes words.now) ≡ true → (text : List ℕ) → S.left source.old ≡ Some text
-        → length text ≤ 1048576 → IsSome (script_of text) → ¬ Rose (S.faults source.old) (S.faults source.new)
+        → length text ≤ 1048576 → IsBuilt text → ¬ Rose (S.faults source.old) (S.faults source.new)
         → ¬ Rose (K.faults sink.old) (K.faults sink.new) → (result.fault ≡ None) ⊎ IsMemory result.fault }
 {
     if !is_serial(words) {
@@ -130,12 +130,11 @@ fn refused(fault: Fault) -> Ended
 
 /// Reads a script of the built form from a source.
 fn read_script<S: Source>(alloc: Global, source: &mut S) -> Result<BuiltForm, Fault>
-    ensures form { IfOk result (λ form. IfSome (S.left source.old) (λ text. (S.left source.new ≡ Some []) × (built_form text ≡ Some form))) }
-    ensures few { IfOk result (λ form. length form.words ≤ 30720) }
+    ensures form { IfOk result (λ form. IfSome (S.left source.old) (λ text. (S.left source.new ≡ Some []) × Says text form)) }
     ensures counted { IfOk result (λ form. form.count ≤ 1000000) }
     ensures small { OnOk result (Tells (S.given source.new) → GaveFew (S.given source.old) (S.given source.new)) }
     ensures not_built { IsErrOf result NotBuilt → (Tells (S.given source.new) → GaveFew (S.given source.old) (S.given source.new))
-        × IfSome (S.left source.old) (λ text. (S.left source.new ≡ Some []) × (built_form text ≡ None)) }
+        × IfSome (S.left source.old) (λ text. (S.left source.new ≡ Some []) × ¬ IsBuilt text) }
     ensures too_long { IsErrOf result TooLong → Tells (S.given source.new) → GaveTooMuch (S.given source.old) (S.given source.new) }
     ensures longer { IsErrOf result TooLong → IfSome (S.left source.old) (λ text. 1048576 < length text) }
     ensures read { IsErrOf result Read → Rose (S.faults source.old) (S.faults source.new) × (Tells (S.given source.new) → GaveFew (S.given source.old) (S.given source.new)) }
@@ -156,8 +155,7 @@ fn read_script<S: Source>(alloc: Global, source: &mut S) -> Result<BuiltForm, Fa
 
 /// Runs a script and writes its report.
 fn run_form<K: Sink>(alloc: Global, form: &BuiltForm, sink: &mut K) -> Ended
-    requires room { length form.now.words ≤ 30720 }
-    requires count { form.now.count ≤ 1000000 }
+    requires { form.now.count ≤ 1000000 }
     ensures status { result.status ≡ status_of_end result.fault }
     ensures kept { IsSome result.kept ↔ RanToEnd result.fault }
     ensures reported { IfSome result.kept (λ kept. Reports result.fault (report (script_of_form form.now) kept) (K.written sink.old) (K.written sink.new)) }

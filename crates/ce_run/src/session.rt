@@ -1,9 +1,7 @@
 //! The commands of a script, carried out one after another.
-ghost use Rattle.std.specs.Prelude.{◌≡◌, ◌≤◌, ◌*◌, [], ◌∷◌, ◌++◌, ℕ, List, Some, IfOk, OnOk, length};
-ghost use Rattle.std.specs.List.{flat_map};
-ghost use Rattle.std.specs.Int.{w32, to_le_bytes};
+ghost use Rattle.std.specs.Prelude.{◌≡◌, ◌≤◌, [], ◌∷◌, ◌++◌, ℕ, List, Some, IfOk, OnOk};
 ghost use Rattle.ce_run.specs.Legal.{Legal, Serial};
-ghost use Rattle.ce_run.specs.OneCube.{IsOneCube, Adds, IsRunOf, Notes, begun, first_entry, image_of, note_entries, replies_of, spawn_entry, the_node};
+ghost use Rattle.ce_run.specs.OneCube.{IsOneCube, Adds, IsRunOf, Notes, begun, first_entry, note_entries, replies_of, spawn_entry, the_node};
 ghost use Rattle.ce_run.specs.Script.{script_of_form};
 
 use crate::form::BuiltForm;
@@ -12,26 +10,22 @@ use crate::name::Name;
 use crate::process::Process;
 use crate::record::{Answer, Command, Record, UserRecord};
 use ce_model::{Found, NoMemory, Place, Subcube};
+use rv_image::Image;
 use sqlite_items::Items;
 use std::alloc::Global;
 
 /// The set of ids whose one member is the process.
 const PROCESS: u32 = 1;
 
-/// The address at which images begin, and at which they are entered.
-const ENTRY: u32 = 0x0001_0000;
-
 /// Carries out a script, on a machine of its own.
 pub(crate) fn run_script(alloc: Global, form: &BuiltForm) -> Result<Record, NoMemory>
-    requires room { length form.now.words ≤ 30720 }
-    requires count { form.now.count ≤ 1000000 }
+    requires { form.now.count ≤ 1000000 }
     ensures history { IfOk result (λ kept. IsOneCube kept.history) }
     ensures legal { IfOk result (Legal (script_of_form form.now)) }
     ensures serial { IfOk result (Serial (script_of_form form.now)) }
 {
-    let loaded = image_bytes(alloc, form.words.as_slice())?;
     let (mut machine, granted) = open(alloc)?;
-    let answer = run(alloc, &mut machine, loaded.as_slice(), form.count)?;
+    let answer = run(alloc, &mut machine, &form.program, form.count)?;
     let done = replies(alloc, granted, form.count, answer)?;
     let users = only_user(alloc, &form.user, done)?;
     let history = machine.into_history();
@@ -80,28 +74,15 @@ fn only_user(
     Ok(users)
 }
 
-/// The bytes of an image's words, the lowest byte of each first.
-fn image_bytes(alloc: Global, words: &[u32]) -> Result<Vec<u8>, NoMemory>
-    ensures bytes { IfOk result (λ bytes. bytes.items ≡ flat_map (to_le_bytes w32) words.now) }
-    ensures length { IfOk result (λ bytes. length bytes.items ≡ 4 * length words.now) }
-{
-    let mut bytes = Vec::new(alloc);
-    for word in words {
-        bytes.extend_from_slice(word.to_le_bytes().as_slice())?;
-    }
-    Ok(bytes)
-}
-
 /// The command `run`: dispatches are allowed, then come rounds up to the first that has no work, and a look. The
 /// process runs to its end in its one turn, so the round behind it has no work.
-fn run(alloc: Global, machine: &mut Machine, loaded: &[u8], count: u32) -> Result<Answer, NoMemory>
-    requires room { length loaded.now ≤ 122880 }
-    requires waiting { machine.old.waiting ≡ Some 0 }
-    ensures { IfOk result (λ answer. Adds machine.old.history machine.new.history (IsRunOf (image_of loaded.now) count answer)) }
+fn run(alloc: Global, machine: &mut Machine, image: &Image, count: u32) -> Result<Answer, NoMemory>
+    requires { machine.old.waiting ≡ Some 0 }
+    ensures { IfOk result (λ answer. Adds machine.old.history machine.new.history (IsRunOf image.now count answer)) }
 {
     machine.arm(count)?;
     if is_start(machine.take(0)?) {
-        turn(alloc, machine, loaded)?;
+        turn(alloc, machine, image)?;
         machine.take(PROCESS)?;
     }
     match machine.look()? {
@@ -111,11 +92,10 @@ fn run(alloc: Global, machine: &mut Machine, loaded: &[u8], count: u32) -> Resul
 }
 
 /// The turn of the process, from its start to its end.
-fn turn(alloc: Global, machine: &mut Machine, loaded: &[u8]) -> Result<(), NoMemory>
-    requires { length loaded.now ≤ 122880 }
-    ensures { OnOk result ((words : List ℕ) × Notes (begun (image_of loaded.now)) words × (machine.new ≡ record machine.old { history = machine.old.history ++ note_entries words })) }
+fn turn(alloc: Global, machine: &mut Machine, image: &Image) -> Result<(), NoMemory>
+    ensures { OnOk result ((words : List ℕ) × Notes (begun image.now) words × (machine.new ≡ record machine.old { history = machine.old.history ++ note_entries words })) }
 {
-    let mut process = Process::start(alloc, ENTRY, loaded)?;
+    let mut process = Process::start(alloc, image)?;
     while let Ok(word) = process.run() {
         machine.note(word)?;
     }

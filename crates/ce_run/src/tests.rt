@@ -1,6 +1,6 @@
 //! The worked rows, each through `serial_call` over memory.
-ghost use Rattle.std.specs.Prelude.{◌≡◌, ◌≤◌, Some};
-ghost use Rattle.ce_run.specs.BuiltForm.{built_form};
+ghost use Rattle.std.specs.Prelude.{◌≡◌, ◌≤◌};
+ghost use Rattle.ce_run.specs.BuiltForm.{Says};
 ghost use Rattle.ce_run.specs.Script.{script_of_form};
 ghost use Rattle.ce_run.specs.Text.{report};
 ghost use Rattle.ce_run.specs.Hello.{hello_text, hello_form, hello_record, hello_report};
@@ -76,7 +76,7 @@ fn text(alloc: Global, parts: &[&str]) -> Result<String, Fail> {
 /// The definitions, computed on this row.
 #[tactic(auto, using(crate::proofs::HelloRow::hello_is_built, crate::proofs::HelloRow::hello_is_reported))]
 fn hello_by_definition()
-    ensures script { built_form hello_text ≡ Some hello_form }
+    ensures script { Says hello_text hello_form }
     ensures report { report (script_of_form hello_form) hello_record ≡ hello_report }
 {}
 
@@ -224,6 +224,123 @@ fn not_built(rt: HostRuntime) -> Result<(), Fail> {
         let ran = run_script(alloc, script)?;
         assert_eq!(rt; ran.status, 1, "{script}");
         assert_eq!(rt; ran.written.len(), 0, "{script}");
+    }
+    Ok(())
+}
+
+const COMMANDS: &str = "end\nuser alice\ngetcube 0\nspawn hello 0 0\nrun 10\n";
+
+/// A script whose image has this form and body.
+fn run_image(alloc: Global, form: &str, body: &str) -> Result<Ran, Fail> {
+    let parts = ["machine 0\nimage hello ", form, "\n", body, COMMANDS];
+    run_script(alloc, text(alloc, &parts)?.as_str())
+}
+
+/// The image of the example, as RKI1, with its entry and zero length as they are given.
+fn run_rki(alloc: Global, entry: &str, zero: &str) -> Result<Ran, Fail> {
+    let parts = [
+        "524b4931 ",
+        entry,
+        " 14000000 ",
+        zero,
+        " 1305a002 9308e000 73000000 9308d000 73000000\n",
+    ];
+    run_image(alloc, "rki", text(alloc, &parts)?.as_str())
+}
+
+/// The same image in each form, written in several ways.
+#[test]
+fn forms_of_an_image(rt: HostRuntime) -> Result<(), Fail> {
+    let alloc = rt.alloc();
+    let bodies = [
+        ("hex", "02a00513 00E00893\n00000073\n00D00893 00000073\n"),
+        (
+            "rki",
+            "524b4931 00000100 14000000 00000000 1305a002 9308e000 73000000 9308d000 73000000\n",
+        ),
+        (
+            "rki",
+            "524B49310000010014000000000000001305A0029308E000730000009308D00073000000\n",
+        ),
+        (
+            "rki",
+            "52 4b4931 000001\n00 14000000 0000000013\n05a0 02 9308e000 73000000 9308d000 7300 0000\n",
+        ),
+        ("asm", "li a0, 42\nli a7, 14\necall\nli a7, 13\necall\n"),
+        (
+            "asm",
+            "# A note, and the end.\n\n\tli a0, 42\nstart: nop\n  j begin # end\nbegin: li a0, 42\nli a7, 14\r\necall\nli a7, 13\necall\n",
+        ),
+    ];
+    for (form, body) in bodies {
+        let ran = run_image(alloc, form, body)?;
+        assert_eq!(rt; ran.status, 0, "{body}");
+        assert_eq!(rt; ran.written.as_slice(), HELLO_REPORT.as_bytes(), "{body}");
+    }
+    Ok(())
+}
+
+/// Zero bytes change nothing, up to as many as an image has room for; and the entry may be any word.
+#[test]
+fn parts_of_an_image(rt: HostRuntime) -> Result<(), Fail> {
+    let alloc = rt.alloc();
+    for zero in ["00000000", "01000000", "ecdf0100"] {
+        let ran = run_rki(alloc, "00000100", zero)?;
+        assert_eq!(rt; ran.status, 0, "{zero}");
+        assert_eq!(rt; ran.written.as_slice(), HELLO_REPORT.as_bytes(), "{zero}");
+    }
+    let ran = run_rki(alloc, "04000100", "00000000")?;
+    let noted = HELLO_REPORT.replace(alloc, "node 0 note 0 42", "node 0 note 0 0")?;
+    assert_eq!(rt; ran.status, 0);
+    assert_eq!(rt; ran.written.as_slice(), noted.as_bytes());
+    for (entry, zero) in [
+        ("02000100", "00000000"),
+        ("14000100", "00000000"),
+        ("00000100", "eddf0100"),
+    ] {
+        let ran = run_rki(alloc, entry, zero)?;
+        assert_eq!(rt; ran.status, 1, "{entry} {zero}");
+        assert_eq!(rt; ran.written.len(), 0, "{entry} {zero}");
+    }
+    Ok(())
+}
+
+/// An image that is refused, in each form.
+#[test]
+fn refused_images(rt: HostRuntime) -> Result<(), Fail> {
+    let alloc = rt.alloc();
+    let bodies = [
+        ("hex", ""),
+        ("hex", "\n"),
+        ("hex", "02A005130000\n"),
+        ("hex", "02A0051g\n"),
+        ("asm", ""),
+        ("asm", "what\n"),
+        ("asm", "addi a0, a0, 2048\n"),
+        ("asm", "j nowhere\n"),
+        ("asm", ".byte 1\nnop\n"),
+        ("asm", ".zero 122880\nnop\n"),
+        ("asm", "nop\nstart:\n"),
+        ("rki", ""),
+        ("rki", "524b49\n"),
+        (
+            "rki",
+            "524b4931 00000100 14000000 00000000 1305a002 9308e000 73000000 9308d000 730000\n",
+        ),
+        (
+            "rki",
+            "524b4931 00000100 14000000 00000000 1305a002 9308e000 73000000 9308d000 73000000 00\n",
+        ),
+        ("rki", "524b4932 00000100 04000000 00000000 73000000\n"),
+        ("rki", "524b4931 00000100 04000000 00000000 7300000\n"),
+        ("rki", "524b4931 00000100 04000000 00000000 7300000g\n"),
+        ("raw", "02A00513\n"),
+        ("hex hex", "02A00513\n"),
+    ];
+    for (form, body) in bodies {
+        let ran = run_image(alloc, form, body)?;
+        assert_eq!(rt; ran.status, 1, "{form} {body}");
+        assert_eq!(rt; ran.written.len(), 0, "{form} {body}");
     }
     Ok(())
 }

@@ -1,19 +1,35 @@
-//! The image of a script: its line, and its body up to `end`.
-ghost use Rattle.std.specs.Prelude.{◌≡◌, Some, None, true, IfSome, ◌<◌, ◌≤◌, IfOk, IsErrOf, OnOk, length, List, ℕ};
-ghost use Rattle.std.specs.Option.{option_copied};
-ghost use Rattle.ce_run.specs.Lines.{lines_of, words_of};
+//! The image of a script: its line, its body up to `end`, and what that describes.
+ghost use Rattle.std.specs.Prelude.{◌≡◌, ◌<◌, ◌≤◌, ◌^◌, true, IfOk, IfSome, IsErrOf, length};
+ghost use Rattle.std.specs.Option.{option_copied, option_map};
+ghost use Rattle.ce_model.specs.Image.{ImageParts};
+ghost use Rattle.ce_run.specs.Lines.{lines_of};
 ghost use Rattle.ce_run.specs.Words.{is_name};
-ghost use Rattle.ce_run.specs.BuiltForm.{name_of, image_line, with_front, word_values, body_of, are_built_words};
+ghost use Rattle.ce_run.specs.BuiltForm.{name_of, form_of, image_line, body_of};
+ghost use Rattle.ce_run.specs.ImageBody.{Describes};
 ghost use Rattle.ce_run.specs.declared.form.FormError.TheVariants.{NotBuilt};
+ghost use Rattle.ce_run.specs.declared.form.image.ImageForm.TheVariants as forms;
 
 use super::FormError;
-use super::lines::{after, before, next_line, next_word};
-use super::words::{hex_word, is_name};
-use sqlite_items::Items;
+use super::digits::{Digits, body_bytes};
+use super::lines::{after, next_line};
+use super::words::is_name;
+use rv_asm::assemble;
+use rv_image::{Image, read};
 use std::alloc::Global;
 
-/// The most words that an image may have.
-const MAX_WORDS: usize = 30_720;
+/// Where images of instruction words begin, and are entered.
+const START: u32 = 0x0001_0000;
+
+/// How the body of an image is written.
+#[derive(Clone, Copy)]
+pub(super) enum ImageForm {
+    /// Instruction words, of eight hexadecimal digits each.
+    Hex,
+    /// An assembly text: docs/ASSEMBLY.md.
+    Asm,
+    /// The image's bytes in RKI1, as hexadecimal digits: docs/IMAGE.md.
+    Rki,
+}
 
 /// A text that is a name, and no other.
 pub(super) fn name_of(text: &[u8]) -> Option<&[u8]>
@@ -23,57 +39,85 @@ pub(super) fn name_of(text: &[u8]) -> Option<&[u8]>
     is_name(text).then_some(text)
 }
 
-/// The name in the line `image NAME hex`.
+fn form_of(word: &[u8]) -> Option<ImageForm>
+    ensures { result ≡ form_of word.now }
+{
+    if word == b" hex".as_slice() {
+        Some(ImageForm::Hex)
+    } else if word == b" asm".as_slice() {
+        Some(ImageForm::Asm)
+    } else if word == b" rki".as_slice() {
+        Some(ImageForm::Rki)
+    } else {
+        None
+    }
+}
+
+/// The name and the form in the line `image NAME FORM`.
 #[tactic(auto, unfolding(crate::specs::BuiltForm::image_line))]
-pub(super) fn image_line(line: &[u8]) -> Option<&[u8]>
-    ensures name { option_copied result ≡ image_line line.now }
-    ensures named { IfSome result (λ name. is_name name.now ≡ true) }
+pub(super) fn image_line(line: &[u8]) -> Option<(&[u8], ImageForm)>
+    ensures line { option_map (λ found. (found.0.now, found.1)) result ≡ image_line line.now }
+    ensures named { IfSome result (λ found. is_name found.0.now ≡ true) }
 {
     let rest = after(b"image ", line)?;
-    let name = before(b" hex", rest)?;
-    name_of(name)
+    let end = rest.len().saturating_sub(4);
+    let form = form_of(&rest[end..])?;
+    let name = name_of(&rest[..end])?;
+    Some((name, form))
 }
 
-/// Adds the values of a line's words.
-#[tactic(auto, using(crate::proofs::Body::values_step, crate::proofs::Body::values_last, crate::proofs::Body::values_bad, crate::proofs::Body::front_none))]
-fn push_words(words: &mut Items<u32>, line: &[u8]) -> Result<(), FormError>
-    ensures ok { OnOk result (with_front words.old (word_values (words_of line.now)) ≡ Some words.new) }
-    ensures not_built { IsErrOf result NotBuilt → word_values (words_of line.now) ≡ None }
+/// The text of an image's body, and the text behind its line `end`.
+#[tactic(auto, using(crate::proofs::BodyText::goes_on, crate::proofs::BodyText::ends, crate::proofs::BodyText::has_no_end))]
+pub(super) fn body_of(text: &[u8]) -> Option<(&[u8], &[u8])>
+    ensures body { option_map (λ found. (found.0.now, lines_of found.1.now)) result ≡ body_of (lines_of text.now) }
+    ensures shorter { IfSome result (λ found. length found.0.now ≤ length text.now) }
 {
-    let mut rest = line;
-    'words: loop {
-        let (word, behind) = next_word(rest);
-        let value = hex_word(word).ok_or(FormError::NotBuilt)?;
-        words.push(value)?;
-        match behind {
-            Some(text) => rest = text,
-            None => return Ok(()),
-        }
-    }
-}
-
-#[tactic(auto, using(crate::proofs::Body::body_step, crate::proofs::Body::body_end, crate::proofs::Body::body_bad, crate::proofs::Body::body_front_none, crate::proofs::Body::body_front_nothing))]
-/// The words of an image's body, and the text behind its line `end`.
-pub(super) fn body_of(alloc: Global, text: &[u8]) -> Result<(Items<u32>, &[u8]), FormError>
-    ensures ok { IfOk result (λ found. body_of (lines_of text.now) ≡ Some (found.0, lines_of found.1.now)) }
-    ensures not_built { IsErrOf result NotBuilt → body_of (lines_of text.now) ≡ None }
-{
-    let mut words = Items::new(alloc);
     let mut rest = text;
     'lines: loop {
-        let (line, behind) = next_line(rest).ok_or(FormError::NotBuilt)?;
-        rest = behind;
+        let (line, behind) = next_line(rest)?;
         if line == b"end".as_slice() {
-            return Ok((words, rest));
+            return Some((&text[..text.len() - rest.len()], behind));
         }
-        push_words(&mut words, line)?;
+        rest = behind;
     }
 }
 
-/// Whether an image may have these words.
-#[tactic(auto, unfolding(crate::specs::BuiltForm::are_built_words))]
-pub(super) fn are_built_words(words: &[u32]) -> bool
-    ensures { result ≡ are_built_words words.now }
+/// The image of a body of instruction words.
+fn image_of_words(alloc: Global, body: &[u8]) -> Result<Image, FormError>
+    ensures ok { IfOk result (Describes forms.Hex body.now) }
+    ensures not_built { IsErrOf result NotBuilt → (image : ImageParts) → ¬ Describes forms.Hex body.now image }
 {
-    !words.is_empty() && words.len() <= MAX_WORDS
+    let bytes = body_bytes(alloc, Digits::Word, body)?;
+    Ok(Image::of_parts(START, bytes, 0)?)
+}
+
+/// The image of a body in assembly.
+fn image_of_assembly(alloc: Global, body: &[u8]) -> Result<Image, FormError>
+    requires { length body.now < 2 ^ 31 }
+    ensures ok { IfOk result (Describes forms.Asm body.now) }
+    ensures not_built { IsErrOf result NotBuilt → (image : ImageParts) → ¬ Describes forms.Asm body.now image }
+{
+    Ok(assemble(alloc, body)?)
+}
+
+/// The image of a body whose words are RKI1.
+fn image_of_rki1(alloc: Global, body: &[u8]) -> Result<Image, FormError>
+    ensures ok { IfOk result (Describes forms.Rki body.now) }
+    ensures not_built { IsErrOf result NotBuilt → (image : ImageParts) → ¬ Describes forms.Rki body.now image }
+{
+    let bytes = body_bytes(alloc, Digits::Bytes, body)?;
+    Ok(read(alloc, bytes.as_slice())?)
+}
+
+/// The image that a body describes.
+pub(super) fn program_of(alloc: Global, form: ImageForm, body: &[u8]) -> Result<Image, FormError>
+    requires { length body.now < 2 ^ 31 }
+    ensures ok { IfOk result (Describes form body.now) }
+    ensures not_built { IsErrOf result NotBuilt → (image : ImageParts) → ¬ Describes form body.now image }
+{
+    match form {
+        ImageForm::Hex => image_of_words(alloc, body),
+        ImageForm::Asm => image_of_assembly(alloc, body),
+        ImageForm::Rki => image_of_rki1(alloc, body),
+    }
 }

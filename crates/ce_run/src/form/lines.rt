@@ -1,5 +1,5 @@
 //! Lines, and what stands in them.
-ghost use Rattle.std.specs.Prelude.{◌≡◌, ◌∷◌, [], MatchOption, ◌<◌, ◌==◌, length, position};
+ghost use Rattle.std.specs.Prelude.{◌≡◌, ◌∷◌, ◌++◌, ◌⊎◌, [], MatchOption, IfSome, ◌<◌, ◌==◌, length, position};
 ghost use Rattle.std.specs.Option.{option_copied};
 ghost use Rattle.ce_run.specs.Lines.{lines_of, words_of, after_prefix, before_suffix};
 
@@ -15,6 +15,7 @@ fn position_of(byte: u8, text: &[u8]) -> Option<usize>
 pub(super) fn next_line(text: &[u8]) -> Option<(&[u8], &[u8])>
     ensures lines { MatchOption result (lines_of text.now ≡ []) (λ found. lines_of text.now ≡ found.0.now ∷ lines_of found.1.now) }
     ensures shorter { MatchOption result (text.now ≡ []) (λ found. length found.1.now < length text.now) }
+    ensures whole { IfSome result (λ found. (found.1.now ≡ []) ⊎ (text.now ≡ found.0.now ++ 10 ∷ found.1.now)) }
 {
     if text.is_empty() {
         return None;

@@ -1,5 +1,5 @@
 //! Names and numbers.
-ghost use Rattle.std.specs.Prelude.{◌≡◌, ◌≤◌, ◌<◌, ◌^◌, IfSome, length};
+ghost use Rattle.std.specs.Prelude.{◌≡◌, ◌≤◌, ◌<◌, ◌^◌, ◌∷◌, [], IfSome, length};
 ghost use Rattle.std.specs.List.{list_all};
 ghost use Rattle.ce_run.specs.Words.{is_name_byte, is_name, number_in, hex_word, count_of};
 
@@ -57,6 +57,14 @@ pub(crate) fn hex_word(digits: &[u8]) -> Option<u32>
     }
     let number = number_in(16, digits)?;
     u32::try_from(number).ok()
+}
+
+/// The value of two hexadecimal digits.
+pub(crate) fn hex_byte(high: u8, low: u8) -> Option<u8>
+    ensures { result ≡ number_in 16 (high ∷ low ∷ []) }
+{
+    let number = number_in(16, [high, low].as_slice())?;
+    u8::try_from(number).ok()
 }
 
 /// The count that one to ten decimal digits write, up to 1,000,000.

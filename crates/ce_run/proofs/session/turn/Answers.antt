@@ -3,7 +3,7 @@ use Rattle.std.proofs.lemmas.List.{append-nil, append_assoc, map-append}
 use Rattle.ce_model.specs.declared.entry.Entry.{Entry}
 use Rattle.ce_model.specs.declared.entry.What.TheVariants.{Note}
 use Rattle.ce_run.specs.declared.machine.Machine.{Machine}
-use Rattle.ce_run.specs.OneCube.{Notes, begun, image_of, node_entry, note_entries}
+use Rattle.ce_run.specs.OneCube.{Notes, begun, node_entry, note_entries}
 use Rattle.ce_run.proofs.Saying.{notes_more, notes_none}
 use Rattle.ce_run.proofs.session.turn.Goals as goal
 
@@ -23,7 +23,7 @@ pub loop-word-preserved : goal.loop-word-preserved
 loop-word-preserved c =
     let before = c.loop-word.invariant in
     let word = c.in-Ok.word in
-    let P : List ℕ → Type 0 = Notes (begun (image_of c.args.loaded.now)) in (
+    let P : List ℕ → Type 0 = Notes (begun c.args.image.now) in (
       before.0 ++ word ∷ [],
       one_more c.args.machine.now c.loop-word.machine c.note.new.self before.0 word before.1 c.in_ok-note.ensures.posted,
       λ more h. subst P (sym (append_assoc before.0 (word ∷ []) more))
@@ -33,7 +33,7 @@ loop-word-preserved c =
 pub returns : goal.returns
 returns c =
     let before = c.loop-word.invariant in
-    let P : List ℕ → Type 0 = Notes (begun (image_of c.args.loaded.now)) in (
+    let P : List ℕ → Type 0 = Notes (begun c.args.image.now) in (
       before.0,
       subst P (append-nil before.0) (before.2 [] (notes_none c.loop-word.process c.run.new.self c.in_default.field-0 c.in_default.ensures.ended)),
       before.1,

@@ -1,0 +1,47 @@
+-- The image that the body of a script's image describes, in each form.
+use Rattle.std.specs.Prelude.{◌≡◌, ℕ, List, [], ◌∷◌, ◌++◌, Option, Some, None, Ok, option_map}
+use Rattle.std.specs.Int.{w32, to_le_bytes}
+use Rattle.ce_model.specs.Image.{ImageParts, IsImage, image_parts, image_start}
+use Rattle.rv_asm.specs.Assembly.{Assembles}
+use Rattle.rv_image.specs.Rki1.{IsRki1}
+use Rattle.ce_run.specs.declared.form.digits.Digits.{Digits}
+use Rattle.ce_run.specs.declared.form.digits.Digits.TheVariants.{Word, Bytes}
+use Rattle.ce_run.specs.declared.form.image.ImageForm.{ImageForm}
+use Rattle.ce_run.specs.declared.form.image.ImageForm.TheVariants.{Hex, Asm, Rki}
+use Rattle.ce_run.specs.Lines.{◌>>=◌, lines_of, words_of}
+use Rattle.ce_run.specs.Words.{number_in, hex_word}
+
+-- these bytes in front of those
+abbrev pub with_front : List ℕ → Option (List ℕ) → Option (List ℕ)
+with_front front bytes = option_map (λ more. front ++ more) bytes
+
+-- what each item gives, one behind the other, where each gives something
+abbrev pub gathered : {A : Type 0} → (A → Option (List ℕ)) → List A → Option (List ℕ)
+gathered read [] = Some []
+gathered read (item ∷ items) = read item >>= λ bytes. with_front bytes (gathered read items)
+
+-- the bytes that hexadecimal digits write, two digits each
+abbrev pub digit_bytes : List ℕ → Option (List ℕ)
+digit_bytes [] = Some []
+digit_bytes (digit ∷ []) = None
+digit_bytes (high ∷ low ∷ digits) = number_in 16 (high ∷ low ∷ []) >>= λ byte. with_front (byte ∷ []) (digit_bytes digits)
+
+-- the bytes of a word of digits: those of an instruction word, the lowest first, or those that the digits write
+abbrev pub word_bytes : Digits → List ℕ → Option (List ℕ)
+word_bytes Word word = option_map (to_le_bytes w32) (hex_word word)
+word_bytes Bytes word = digit_bytes word
+
+-- the bytes of the words of a line
+abbrev pub line_bytes : Digits → List ℕ → Option (List ℕ)
+line_bytes digits line = gathered (word_bytes digits) (words_of line)
+
+-- the bytes of all words of a body
+abbrev pub body_bytes : Digits → List ℕ → Option (List ℕ)
+body_bytes digits body = gathered (line_bytes digits) (lines_of body)
+
+-- a body describes an image. `hex`: the instruction words lie from the start of the image on, and the first one runs first;
+-- `asm`: the body is an assembly text; `rki`: the words are the image's bytes in RKI1.
+abbrev pub Describes : ImageForm → List ℕ → ImageParts → Type 0
+Describes Hex body image = (bytes : List ℕ) × (body_bytes Word body ≡ Some bytes) × (image ≡ image_parts image_start bytes 0) × IsImage image
+Describes Asm body image = Assembles body (Ok image)
+Describes Rki body image = (bytes : List ℕ) × (body_bytes Bytes body ≡ Some bytes) × IsRki1 bytes image

@@ -1,0 +1,35 @@
+-- The operands of `.word` and `.byte`, judged one after the other.
+use Rattle.std.proofs.Common.{◌≡◌, ℕ, suc, ◌<◌, ◌≤◌, List, ◌∷◌, length, map, Option, Some, None, Result, Ok, Err, Bor, sym, ap, ◌∙◌, arith}
+use Rattle.std.specs.Prelude.{fold, option_map, IfSome}
+use Rattle.rv_asm.specs.declared.fault.AsmKind.{AsmKind}
+use Rattle.rv_asm.specs.Line.{cut, is_comma, trimmed}
+use Rattle.rv_asm.specs.Faults.{gathered}
+use Rattle.rv_asm.specs.Operand.{Views}
+use Rattle.rv_asm.proofs.Pieces.{pieces_cut, pieces_behind}
+
+-- the bytes that are left, if any
+abbrev pub left : Option (Bor (List ℕ)) → Option (List ℕ)
+left rest = option_map (λ bytes. bytes.now) rest
+
+-- one more than how many bytes are left, and 0 at the end
+abbrev pub left_size : Option (Bor (List ℕ)) → ℕ
+left_size None = 0
+left_size (Some rest) = suc (length rest.now)
+
+pub left_shorter : (rest : Option (Bor (List ℕ))) (n : ℕ) → IfSome rest (λ bytes. length bytes.now < n) → left_size rest ≤ n
+left_shorter None n h = omega arith
+left_shorter (Some rest) n h = omega arith
+
+-- the judgments so far, and those of the operands that are left
+abbrev pub with_rest : {A : Type 0} → (List ℕ → Result A AsmKind) → Result (List A) AsmKind → Option (List ℕ) → Result (List A) AsmKind
+with_rest judge judged rest = fold gathered judged (map judge (pieces_behind rest))
+
+pub with_more : {A : Type 0} (judge : List ℕ → Result A AsmKind) (judged : Result (List A) AsmKind) (bytes front : List ℕ) (after : Option (List ℕ)) → (front, after) ≡ cut is_comma bytes
+    → with_rest judge (gathered judged (judge (trimmed front))) after ≡ with_rest judge judged (Some bytes)
+with_more judge judged bytes front after e =
+    sym (ap (λ (operands : List (List ℕ)). fold gathered judged (map judge operands)) (pieces_cut bytes)
+    ∙ ap (λ (parts : List ℕ × Option (List ℕ)). fold gathered judged (map judge (trimmed parts.0 ∷ pieces_behind parts.1))) (sym e))
+
+pub same_view : {A B : Type 0} (view : A → B) (r : Result A AsmKind) (x y : Result B AsmKind) → Views view r x → Views view r y → x ≡ y
+same_view view (Ok a) x y h k = h ∙ sym k
+same_view view (Err kind) x y h k = h ∙ sym k

@@ -1,0 +1,14 @@
+pub mod Cutting
+pub mod Pieces
+pub mod Literals
+pub mod Tables
+pub mod SymbolTable
+pub mod WordTable
+pub mod Gathering
+pub mod Sounding
+pub mod Stopping
+pub mod Passes
+pub mod Placing
+pub mod Putting
+pub mod Assembling
+pub mod Laws

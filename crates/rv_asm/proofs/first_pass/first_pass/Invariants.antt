@@ -1,0 +1,18 @@
+use Rattle.std.proofs.Common.{◌≡◌, ◌+◌, ◌≤◌, length}
+use Rattle.rv_asm.specs.Line.{is_line_feed, lines}
+use Rattle.rv_asm.specs.FirstPass.{lines_laid, nothing_laid}
+use Rattle.rv_asm.specs.LaidOut.{laid_out}
+use Rattle.rv_asm.specs.Sound.{ArePlacedSound}
+use Rattle.rv_asm.proofs.Pieces.{split_behind}
+use Rattle.rv_asm.proofs.Gathering.{left, left_size}
+use Rattle.rv_asm.proofs.first_pass.first_pass.Given as goal
+
+abbrev pub invariant-loop-rest : goal.invariant-loop-rest
+invariant-loop-rest l = record {
+  whole : lines_laid l.number (laid_out l.layout) (split_behind is_line_feed (left l.rest)) ≡ lines_laid 0 nothing_laid (lines l.fn.text);
+  sound : ArePlacedSound l.layout.statements.items;
+  count : l.number + left_size l.rest ≤ length l.fn.text + 1;
+}
+
+abbrev pub decreases-loop-rest : goal.decreases-loop-rest
+decreases-loop-rest l = left_size l.rest

@@ -1,0 +1,68 @@
+use Rattle.std.proofs.Common.{◌≡◌, ℕ, ◌+◌, vec_len, Ok, sym, subst, arith, length, drop}
+use Rattle.std.proofs.lemmas.Grind.{common_steps}
+use Rattle.ce_model.specs.Image.{image_start}
+use Rattle.rv_asm.specs.declared.statement.Placed.{Placed}
+use Rattle.rv_asm.specs.Symbols.{names_of}
+use Rattle.rv_asm.specs.Sizes.{size_of}
+use Rattle.rv_asm.specs.Faults.{◌>>=◌, Stops}
+use Rattle.rv_asm.specs.FirstPass.{at_line}
+use Rattle.rv_asm.specs.SecondPass.{parts_of, second_pass}
+use Rattle.rv_asm.proofs.Stopping.{stops_all}
+use Rattle.rv_asm.proofs.Putting.{put_none, put_step, put_more, put_all, onward, sound_at}
+use Rattle.rv_asm.proofs.second_pass.second_pass.Goals as goal
+
+pub loop-placed-init : goal.loop-placed-init
+loop-placed-init c = record {
+  put = put_none (names_of c.args.layout.now.symbols) c.args.layout.now.statements.items c.new-out.result.items c.new-out.ensures.items;
+  size = c.new-out.ensures.len;
+}
+
+pub put_statement-requires-clause-sound : goal.put_statement-requires-clause-sound
+put_statement-requires-clause-sound c =
+    let all = c.args.layout.now.statements.items in
+    let item = rw c.deref-placed-items.ensures.value at c.placed-item.is in
+    rw item (sound_at all c.loop-placed.placed-index c.placed-item.result (omega arith) c.requires)
+
+pub returns-in-Err-clause-parts : goal.returns-in-Err-clause-parts
+returns-in-Err-clause-parts c =
+    let all = c.args.layout.now.statements.items in
+    let names = names_of c.args.layout.now.symbols in
+    let out = c.loop-placed.out.items in
+    let i = c.loop-placed.placed-index in
+    let d = c.placed-item.result in
+    let before = c.loop-placed.invariant.put in
+    let item = rw c.deref-placed-items.ensures.value at c.placed-item.is in
+    let len : length out ≡ vec_len c.loop-placed.out = omega (arith, c.loop-placed.out.ok.0) in
+    let stopped = subst (λ (n : ℕ). Stops c.in-Err.halt (parts_of names (image_start + n) d.statement)) (sym len) c.in-Err.ensures.parts in
+    let step = put_step names all i d out (omega arith) before in
+    let step_here = subst
+    (λ (p : Placed). second_pass names image_start all ≡ (at_line p.line (parts_of names (image_start + length out) p.statement) >>= onward names (image_start + length out + size_of p.statement) (drop (i + 1) all) before.parts))
+    (sym item) step in
+    rw c.at.ensures
+    (stops_all c.in-Err.halt d.line (parts_of names (image_start + length out) d.statement) (onward names (image_start + length out + size_of d.statement) (drop (i + 1) all) before.parts)
+    (second_pass names image_start all) step_here stopped)
+
+pub loop-placed-preserved : goal.loop-placed-preserved
+loop-placed-preserved c =
+    let all = c.args.layout.now.statements.items in
+    let names = names_of c.args.layout.now.symbols in
+    let out = c.loop-placed.out.items in
+    let i = c.loop-placed.placed-index in
+    let d = c.placed-item.result in
+    let item = rw c.deref-placed-items.ensures.value at c.placed-item.is in
+    let len : length out ≡ vec_len c.loop-placed.out = omega (arith, c.loop-placed.out.ok.0) in
+    let new_len : length c.put_statement.new.out.items ≡ vec_len c.put_statement.new.out = omega (arith, c.put_statement.new.out.ok.0) in
+    let parts = c.in_default.ensures.parts.0 in
+    let known = subst (λ (n : ℕ). parts_of names (image_start + n) d.statement ≡ Ok parts) (sym len) c.in_default.ensures.parts.1 in
+    let known_here = subst (λ (p : Placed). parts_of names (image_start + length out) p.statement ≡ Ok parts) item known in
+    let grown : length c.put_statement.new.out.items ≡ length out + size_of d.statement = omega (arith, c.in_default.ensures.size) in
+    let grown_here = subst (λ (p : Placed). length c.put_statement.new.out.items ≡ length out + size_of p.statement) item grown in
+    record {
+      put = put_more names all i d out c.put_statement.new.out.items (omega arith) c.loop-placed.invariant.put parts known_here c.in_default.ensures.parts.2 grown_here;
+      size = grind (arith, common_steps);
+    }
+
+pub returns-clause-parts : goal.returns-clause-parts
+returns-clause-parts c =
+    let so_far = c.loop-placed.invariant.put in
+    (so_far.parts, put_all (names_of c.args.layout.now.symbols) c.args.layout.now.statements.items c.loop-placed.placed-index c.loop-placed.out.items (omega arith) so_far, so_far.spelled)

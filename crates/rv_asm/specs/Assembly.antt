@@ -1,0 +1,47 @@
+-- The image that a text describes.
+use Rattle.std.specs.Prelude.{◌≡◌, ℕ, not, List, Option, Some, None, Result, Ok, Err, codes}
+use Rattle.ce_model.specs.Image.{ImageParts, image_start}
+use Rattle.rv_image.specs.Fault.{is_entry}
+use Rattle.rv_asm.specs.declared.fault.AsmKind.TheVariants.{Entry}
+use Rattle.rv_asm.specs.declared.fault.AsmFault.{AsmFault}
+use Rattle.rv_asm.specs.declared.symbols.Symbol.{Symbol}
+use Rattle.rv_asm.specs.declared.symbols.Symbol.TheVariants.{Label, Number}
+use Rattle.rv_asm.specs.Names.{Names}
+use Rattle.rv_asm.specs.Faults.{◌>>=◌, refuse, Unless}
+use Rattle.rv_asm.specs.FirstPass.{at_line, first_pass}
+use Rattle.rv_asm.specs.SecondPass.{Part, second_pass}
+use Rattle.rv_asm.specs.Spelling.{Spells}
+
+-- what a text describes: where it begins, and its parts from the start on
+pub record Assembly : Type 0 where
+  pub entry : ℕ
+  pub parts : List Part
+
+-- the address of a label, or the start
+abbrev pub label_or_start : Option Symbol → ℕ
+label_or_start (Some (Label address)) = address
+label_or_start (Some (Number n)) = image_start
+label_or_start None = image_start
+
+-- the label `start`, or the start without one
+abbrev pub entry_of : Names → ℕ
+entry_of names = label_or_start (names (codes "start"))
+
+-- what a text describes, or its first fault
+unfoldable pub assembled : List ℕ → Result Assembly AsmFault
+assembled text = do
+  laid ← first_pass text
+  parts ← second_pass laid.names image_start laid.statements
+  begins ← at_line 0 (refuse (not (is_entry (entry_of laid.names) laid.size)) Entry)
+  Ok (record { entry = entry_of laid.names; parts = parts })
+
+-- an image that is laid out so
+pub record IsLaidOut (assembly : Assembly) (image : ImageParts) : Type 0 where
+  pub entry : image.entry ≡ assembly.entry
+  pub loaded : Spells assembly.parts image.loaded
+  pub zero : image.zero ≡ 0
+
+-- the image that the text describes, or its first fault, unless memory runs out
+abbrev pub Assembles : List ℕ → Result ImageParts AsmFault → Type 0
+Assembles text (Ok image) = (assembly : Assembly) × (assembled text ≡ Ok assembly) × IsLaidOut assembly image
+Assembles text (Err fault) = Unless fault.kind (assembled text ≡ Err fault)

@@ -1,0 +1,80 @@
+-- The faults of a line, and how judgments are joined.
+use Rattle.std.specs.Prelude.{◌≡◌, ℕ, nat_le, Bool, if◌then◌else◌, List, [], ◌∷◌, ◌++◌, fold, Option, Some, None, Result, Ok, Err}
+use Rattle.rv_asm.specs.declared.fault.AsmKind.{AsmKind}
+use Rattle.rv_asm.specs.declared.fault.AsmKind.TheVariants.{BadByte, NameTaken, UnknownWord, Operands, BadRegister, BadNumber, UnknownName, Unaligned, TooLarge, TooFar, Entry, Memory}
+use Rattle.rv_asm.specs.declared.fault.AsmFault.{AsmFault}
+use Rattle.rv_asm.specs.declared.fault.Halt.{Halt}
+use Rattle.rv_asm.specs.declared.fault.Halt.TheVariants as halts
+
+infixl 10 ◌>>=◌
+abbrev pub ◌>>=◌ : {A B E : Type 0} → Result A E → (A → Result B E) → Result B E
+(Ok x) >>= next = next x
+(Err fault) >>= next = Err fault
+
+-- nothing, where a test does not hold, and else this fault
+abbrev pub refuse : Bool → AsmKind → Result (Unit {0}) AsmKind
+refuse test kind = if test then Err kind else Ok tt
+
+-- the value, or this fault where there is none
+abbrev pub or_fault : {A : Type 0} → Option A → AsmKind → Result A AsmKind
+or_fault (Some x) kind = Ok x
+or_fault None kind = Err kind
+
+-- the place of a kind in the order in which the kinds of a line are judged
+abbrev pub rank : AsmKind → ℕ
+rank BadByte = 0
+rank NameTaken = 1
+rank UnknownWord = 2
+rank Operands = 3
+rank BadRegister = 4
+rank BadNumber = 5
+rank UnknownName = 6
+rank Unaligned = 7
+rank TooLarge = 8
+rank TooFar = 9
+rank Entry = 10
+rank (Memory cause) = 11
+
+-- the kind that is judged first
+abbrev pub earlier : AsmKind → AsmKind → AsmKind
+earlier first second = if nat_le (rank first) (rank second) then first else second
+
+-- two judgments of one line: both values, or the fault whose kind is judged first
+unfoldable pub both : {A B : Type 0} → Result A AsmKind → Result B AsmKind → Result (A × B) AsmKind
+both (Ok first) (Ok second) = Ok (first, second)
+both (Ok first) (Err kind) = Err kind
+both (Err kind) (Ok second) = Err kind
+both (Err first) (Err second) = Err (earlier first second)
+
+-- one more judgment behind those of a line
+unfoldable pub gathered : {A : Type 0} → Result (List A) AsmKind → Result A AsmKind → Result (List A) AsmKind
+gathered judged value = both judged value >>= λ parts. Ok (parts.0 ++ parts.1 ∷ [])
+
+-- any number of judgments of one line: all values, or the fault whose kind is judged first
+unfoldable pub all_of : {A : Type 0} → List (Result A AsmKind) → Result (List A) AsmKind
+all_of values = fold gathered (Ok []) values
+
+-- why a line stops the work, as a fault of this line
+abbrev pub halt_at : Halt → ℕ → AsmFault
+halt_at halts.Memory line = record { line = line; kind = Memory (record {}) }
+halt_at (halts.Fault kind) line = record { line = line; kind = kind }
+
+-- what is known of a call that stopped: memory ran out, or the definition has this fault
+abbrev pub Stops : {A : Type 0} → Halt → Result A AsmKind → Type 0
+Stops halts.Memory judged = Unit {0}
+Stops (halts.Fault kind) judged = judged ≡ Err kind
+
+-- what is known of a fault: nothing, where memory ran out
+abbrev pub Unless : AsmKind → Type 0 → Type 0
+Unless (Memory cause) known = Unit {0}
+Unless kind known = known
+
+-- what a pass answered, seen by `view`, is what the definition says, unless memory ran out
+abbrev pub GivesAll : {A B : Type 0} → (A → B) → Result A AsmFault → Result B AsmFault → Type 0
+GivesAll view (Ok x) judged = judged ≡ Ok (view x)
+GivesAll view (Err fault) judged = Unless fault.kind (judged ≡ Err fault)
+
+-- what a call answered, seen by `view`, is what the definition says, unless memory ran out
+abbrev pub Gives : {A B : Type 0} → (A → B) → Result A Halt → Result B AsmKind → Type 0
+Gives view (Ok x) judged = judged ≡ Ok (view x)
+Gives view (Err halt) judged = Stops halt judged

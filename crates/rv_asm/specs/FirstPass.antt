@@ -1,0 +1,122 @@
+-- The first pass: each line is judged, and its statements get their places.
+use Rattle.std.specs.Prelude.{◌≡◌, ℕ, ◌+◌, ◌%◌, Bool, not, ◌&&◌, ◌==◌, nat_lt, if◌then◌else◌, List, [], ◌∷◌, ◌++◌, Option, Some, None, Result, Ok, Err, bytes_eq, codes}
+use Rattle.std.specs.List.{list_all, list_any}
+use Rattle.ce_model.specs.Image.{image_start, image_room}
+use Rattle.rv_asm.specs.declared.fault.AsmKind.{AsmKind}
+use Rattle.rv_asm.specs.declared.fault.AsmKind.TheVariants.{BadByte, NameTaken, UnknownWord, Unaligned, TooLarge}
+use Rattle.rv_asm.specs.declared.fault.AsmFault.{AsmFault}
+use Rattle.rv_asm.specs.declared.symbols.Symbol.{Symbol}
+use Rattle.rv_asm.specs.declared.symbols.Symbol.TheVariants.{Label, Number}
+use Rattle.rv_asm.specs.declared.statement.Statement.{Statement}
+use Rattle.rv_asm.specs.declared.statement.Placed.{Placed}
+use Rattle.rv_asm.specs.Line.{lines, cut, trimmed, code_of, is_plain, is_blank, is_colon, is_comma}
+use Rattle.rv_asm.specs.Name.{is_name}
+use Rattle.rv_asm.specs.Names.{Names, no_names, with_name, is_taken}
+use Rattle.rv_asm.specs.Words.{mnemonic_of}
+use Rattle.rv_asm.specs.declared.fault.Halt.{Halt}
+use Rattle.rv_asm.specs.Faults.{◌>>=◌, refuse, or_fault, both, Stops}
+use Rattle.rv_asm.specs.Operand.{two_pieces, number, name_piece}
+use Rattle.rv_asm.specs.Sizes.{size_of, lays_words}
+use Rattle.rv_asm.specs.Statements.{statements_of}
+
+-- what is laid out so far: what the names mean, the statements with their lines, and how many bytes they take
+pub record Laid : Type 0 where
+  pub names : Names
+  pub statements : List Placed
+  pub size : ℕ
+
+abbrev pub laid_of : Names → List Placed → ℕ → Laid
+laid_of names statements size = record { names = names; statements = statements; size = size }
+
+abbrev pub nothing_laid : Laid
+nothing_laid = laid_of no_names [] 0
+
+-- what is known of a call that lays something: what is laid out then is what the definition says, unless memory ran out
+abbrev pub Lays : Result (Unit {0}) Halt → Laid → Result Laid AsmKind → Type 0
+Lays (Ok done) laid judged = judged ≡ Ok laid
+Lays (Err halt) laid judged = Stops halt judged
+
+-- ---- places
+
+-- one more statement, of this line
+unfoldable pub place : ℕ → Laid → Statement → Result Laid AsmKind
+place line laid statement = do
+  aligned ← refuse (lays_words statement && not (laid.size % 4 == 0)) Unaligned
+  fits ← refuse (nat_lt image_room (laid.size + size_of statement)) TooLarge
+  Ok (laid_of laid.names (laid.statements ++ record { line = line; statement = statement } ∷ []) (laid.size + size_of statement))
+
+unfoldable pub place_all : ℕ → Laid → List Statement → Result Laid AsmKind
+place_all line laid [] = Ok laid
+place_all line laid (statement ∷ statements) = do
+  one ← place line laid statement
+  place_all line one statements
+
+-- ---- a line
+
+-- a name that means something from here on
+unfoldable pub define : Laid → List ℕ → Symbol → Result Laid AsmKind
+define laid name symbol = do
+  free ← refuse (is_taken laid.names name) NameTaken
+  Ok (laid_of (with_name laid.names name symbol) laid.statements laid.size)
+
+-- `.equ name, n`, where the statement has no further colon
+unfoldable pub equ : Laid → Bool → List ℕ → Result Laid AsmKind
+equ laid has_colon operands = do
+  free ← refuse (is_taken laid.names (trimmed (cut is_comma operands).0)) NameTaken
+  known ← refuse has_colon UnknownWord
+  parts ← two_pieces operands
+  values ← both (name_piece parts.0) (number laid.names parts.1)
+  define laid parts.0 (Number values.1)
+
+-- a statement of another word
+unfoldable pub lay : ℕ → Laid → Bool → List ℕ → List ℕ → Result Laid AsmKind
+lay line laid has_colon word operands = do
+  known ← refuse has_colon UnknownWord
+  mnemonic ← or_fault (mnemonic_of word) UnknownWord
+  statements ← statements_of mnemonic laid.names operands
+  place_all line laid statements
+
+-- what stands behind a word, without blanks at its ends
+abbrev pub operands_of : Option (List ℕ) → List ℕ
+operands_of None = []
+operands_of (Some rest) = trimmed rest
+
+-- what a line has behind its label: nothing, or a word and its operands
+unfoldable pub statement : ℕ → Laid → List ℕ → Result Laid AsmKind
+statement line laid [] = Ok laid
+statement line laid (byte ∷ bytes) =
+    let has_colon = list_any is_colon (byte ∷ bytes) in
+    let parts = cut is_blank (byte ∷ bytes) in
+    if bytes_eq parts.0 (codes ".equ") then equ laid has_colon (operands_of parts.1) else lay line laid has_colon parts.0 (operands_of parts.1)
+
+-- a label, and the statement behind it; or a statement alone
+abbrev pub labelled : ℕ → Laid → List ℕ → Option (List ℕ) → Result Laid AsmKind
+labelled line laid front None = statement line laid (trimmed front)
+labelled line laid front (Some rest) = do
+  named ← refuse (not (is_name (trimmed front))) UnknownWord
+  defined ← define laid (trimmed front) (Label (image_start + laid.size))
+  statement line defined (trimmed rest)
+
+-- one line
+unfoldable pub line_laid : ℕ → Laid → List ℕ → Result Laid AsmKind
+line_laid number laid line = do
+  plain ← refuse (not (list_all is_plain (code_of line))) BadByte
+  labelled number laid (cut is_colon (code_of line)).0 (cut is_colon (code_of line)).1
+
+-- ---- all lines
+
+-- a fault of a line
+abbrev pub at_line : {A : Type 0} → ℕ → Result A AsmKind → Result A AsmFault
+at_line line (Ok x) = Ok x
+at_line line (Err kind) = Err (record { line = line; kind = kind })
+
+-- lines, of which the first has the number behind this one
+unfoldable pub lines_laid : ℕ → Laid → List (List ℕ) → Result Laid AsmFault
+lines_laid before laid [] = Ok laid
+lines_laid before laid (line ∷ lines) = do
+  one ← at_line (before + 1) (line_laid (before + 1) laid line)
+  lines_laid (before + 1) one lines
+
+-- the first pass over a text
+unfoldable pub first_pass : List ℕ → Result Laid AsmFault
+first_pass text = lines_laid 0 nothing_laid (lines text)

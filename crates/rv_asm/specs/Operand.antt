@@ -1,0 +1,117 @@
+-- Operands of statements.
+use Rattle.std.specs.Prelude.{◌≡◌, ℕ, ◌-◌, ◌^◌, ◌%◌, Bool, false, not, ◌&&◌, ◌==◌, if◌then◌else◌, List, [], ◌∷◌, Option, Some, None, Result, Ok, Err, length, ℤ, pos, negsuc, int_le}
+use Rattle.ce_model.specs.declared.inst.ImmOp.{ImmOp}
+use Rattle.ce_model.specs.declared.inst.ImmOp.TheVariants.{Slli, Srli, Srai}
+use Rattle.rv_asm.specs.declared.fault.AsmKind.{AsmKind}
+use Rattle.rv_asm.specs.declared.fault.AsmKind.TheVariants.{Operands, BadRegister, BadNumber, UnknownName}
+use Rattle.rv_asm.specs.declared.symbols.Symbol.{Symbol}
+use Rattle.rv_asm.specs.declared.symbols.Symbol.TheVariants.{Label, Number}
+use Rattle.rv_asm.specs.Line.{cut, trimmed, pieces, is_token, is_opening, is_closing}
+use Rattle.rv_asm.specs.Name.{is_name}
+use Rattle.rv_asm.specs.Register.{register_of}
+use Rattle.rv_asm.specs.Literal.{literal_of}
+use Rattle.rv_asm.specs.Names.{Names}
+use Rattle.rv_asm.specs.Faults.{◌>>=◌, refuse, or_fault, both}
+
+-- a judgment that stands for another one: the same fault, or its value seen by `view`
+abbrev pub Views : {A B : Type 0} → (A → B) → Result A AsmKind → Result B AsmKind → Type 0
+Views view (Ok x) judged = judged ≡ Ok (view x)
+Views view (Err kind) judged = judged ≡ Err kind
+
+-- ---- how many operands
+
+abbrev pub no_piece : List ℕ → Result (Unit {0}) AsmKind
+no_piece [] = Ok tt
+no_piece (byte ∷ bytes) = Err Operands
+
+abbrev pub one_of : List (List ℕ) → Result (List ℕ) AsmKind
+one_of [] = Err Operands
+one_of (first ∷ []) = Ok first
+one_of (first ∷ second ∷ others) = Err Operands
+
+abbrev pub two_of : List (List ℕ) → Result (List ℕ × List ℕ) AsmKind
+two_of [] = Err Operands
+two_of (first ∷ others) = one_of others >>= λ second. Ok (first, second)
+
+abbrev pub three_of : List (List ℕ) → Result (List ℕ × List ℕ × List ℕ) AsmKind
+three_of [] = Err Operands
+three_of (first ∷ others) = two_of others >>= λ last. Ok (first, last.0, last.1)
+
+unfoldable pub one_piece : List ℕ → Result (List ℕ) AsmKind
+one_piece operands = one_of (pieces operands)
+
+unfoldable pub two_pieces : List ℕ → Result (List ℕ × List ℕ) AsmKind
+two_pieces operands = two_of (pieces operands)
+
+unfoldable pub three_pieces : List ℕ → Result (List ℕ × List ℕ × List ℕ) AsmKind
+three_pieces operands = three_of (pieces operands)
+
+-- ---- one operand
+
+unfoldable pub register : List ℕ → Result ℕ AsmKind
+register piece = do
+  whole ← refuse (not (is_token piece)) Operands
+  or_fault (register_of piece) BadRegister
+
+-- what a name means where a number is wanted: the number that an earlier `.equ` gave
+abbrev pub number_named : Option Symbol → Result ℤ AsmKind
+number_named (Some (Number n)) = Ok n
+number_named (Some (Label address)) = Err UnknownName
+number_named None = Err UnknownName
+
+unfoldable pub number : Names → List ℕ → Result ℤ AsmKind
+number names piece = do
+  whole ← refuse (not (is_token piece)) Operands
+  if is_name piece then number_named (names piece) else or_fault (literal_of piece) BadNumber
+
+-- a number that is judged to lie in a range
+unfoldable pub ranged : ℤ → ℤ → Result ℤ AsmKind → Result ℤ AsmKind
+ranged low high judged = judged >>= λ n. if int_le low n && int_le n high then Ok n else Err BadNumber
+
+-- an operand that is a name
+unfoldable pub name_piece : List ℕ → Result (Unit {0}) AsmKind
+name_piece piece = refuse (not (is_name piece)) Operands
+
+-- from -2,048 to 2,047
+unfoldable pub twelve_bits : Names → List ℕ → Result ℤ AsmKind
+twelve_bits names piece = ranged (negsuc 2047) (pos 2047) (number names piece)
+
+-- behind `n(`: the register, and nothing behind its bracket
+abbrev pub closed : Option (List ℕ) → Bool
+closed None = false
+closed (Some rest) = length (trimmed rest) == 0
+
+-- `n(rs1)`, as its number and its register
+abbrev pub in_brackets : Names → List ℕ → Option (List ℕ) → Result (ℤ × ℕ) AsmKind
+in_brackets names front None = Err Operands
+in_brackets names front (Some behind) = do
+  whole ← refuse (not (closed (cut is_closing behind).1)) Operands
+  both (twelve_bits names (trimmed front)) (register (trimmed (cut is_closing behind).0))
+
+unfoldable pub memory : Names → List ℕ → Result (ℤ × ℕ) AsmKind
+memory names piece = in_brackets names (cut is_opening piece).0 (cut is_opening piece).1
+
+-- ---- numbers as bits
+
+-- a number modulo 2^32
+abbrev pub word_of : ℤ → ℕ
+word_of (pos n) = n % 2 ^ 32
+word_of (negsuc n) = 2 ^ 32 - 1 - n % 2 ^ 32
+
+-- a number modulo 2^8
+abbrev pub byte_of : ℤ → ℕ
+byte_of (pos n) = n % 2 ^ 8
+byte_of (negsuc n) = 2 ^ 8 - 1 - n % 2 ^ 8
+
+-- what the number of an operation on a register and a number may be
+abbrev pub least_immediate : ImmOp → ℤ
+least_immediate Slli = pos 0
+least_immediate Srli = pos 0
+least_immediate Srai = pos 0
+least_immediate op = negsuc 2047
+
+abbrev pub greatest_immediate : ImmOp → ℤ
+greatest_immediate Slli = pos 31
+greatest_immediate Srli = pos 31
+greatest_immediate Srai = pos 31
+greatest_immediate op = pos 2047

@@ -1,0 +1,21 @@
+-- How much room statements take.
+use Rattle.std.specs.Prelude.{ℕ, Bool, true, false}
+use Rattle.rv_asm.specs.declared.statement.Statement.{Statement}
+use Rattle.rv_asm.specs.declared.statement.Statement.TheVariants.{Inst, Jal, Branch, La, Word, Address, Byte, Zero}
+
+-- how many bytes a statement takes
+abbrev pub size_of : Statement → ℕ
+size_of (Inst inst) = 4
+size_of (Jal rd label) = 4
+size_of (Branch op rs1 rs2 label) = 4
+size_of (La rd label) = 8
+size_of (Word word) = 4
+size_of (Address label) = 4
+size_of (Byte byte) = 1
+size_of (Zero count) = count
+
+-- a statement that lays words, which stand at multiples of 4
+abbrev pub lays_words : Statement → Bool
+lays_words (Byte byte) = false
+lays_words (Zero count) = false
+lays_words statement = true

@@ -1,0 +1,44 @@
+//! The image that a text describes.
+
+ghost use Rattle.std.specs.Prelude.{◌≡◌, ◌^◌, ◌<◌, length};
+ghost use Rattle.rv_asm.specs.Symbols.{names_of};
+ghost use Rattle.rv_asm.specs.Assembly.{entry_of, Assembles};
+
+use crate::fault::{AsmFault, AsmKind};
+use crate::first_pass::first_pass;
+use crate::second_pass::second_pass;
+use crate::symbols::{Symbol, Symbols};
+use rv_image::Image;
+use std::alloc::Global;
+
+/// Where an image begins.
+const START: u32 = 0x0001_0000;
+
+/// The label `start`, and the start of the image where no line has it.
+fn entry_of(symbols: &Symbols) -> u32
+    ensures { result ≡ entry_of (names_of symbols.now) }
+{
+    match symbols.meaning(b"start") {
+        Some(Symbol::Label(address)) => address,
+        Some(Symbol::Number(_)) | None => START,
+    }
+}
+
+/// The image that an assembly text describes (docs/ASSEMBLY.md), whose bytes are all loaded, or the first fault
+/// of the text. The first pass judges the lines in order, each for the kinds from `BadByte` to `TooLarge`; only
+/// where it finds no fault, the second judges them for `UnknownName` of a label and `TooFar`; `Entry` comes last.
+/// `Memory` may come at any point.
+pub fn assemble(alloc: Global, text: &[u8]) -> Result<Image, AsmFault>
+    requires { length text.now < 2 ^ 31 }
+    ensures { Assembles text.now result }
+{
+    let layout = first_pass(alloc, text)?;
+    let bytes = second_pass(alloc, &layout)?;
+    match Image::of_parts(entry_of(&layout.symbols), bytes, 0) {
+        Ok(image) => Ok(image),
+        Err(_) => Err(AsmFault {
+            line: 0,
+            kind: AsmKind::Entry,
+        }),
+    }
+}

@@ -1,0 +1,106 @@
+//! Why a text is refused.
+
+ghost use Rattle.std.specs.Prelude.{◌≡◌};
+ghost use Rattle.rv_asm.specs.declared.fault.Halt.TheVariants.{Memory, Fault};
+
+use ce_model::NoMemory;
+use std::alloc::{AllocError, AllocFailed};
+use thiserror::Error;
+
+/// What is wrong with a line, in the order in which a line is judged: each kind is judged over the whole line
+/// before the next (docs/ASSEMBLY.md, "Faults").
+#[derive(Clone, Copy, Debug, PartialEq, Eq, Error)]
+pub enum AsmKind {
+    /// A byte before any comment is neither a blank nor from 0x21 to 0x7E.
+    #[error("bad byte")]
+    BadByte,
+    /// A label or a name of `.equ` stands for something already.
+    #[error("name taken")]
+    NameTaken,
+    /// The first word is none of the language's, what stands before a colon is no name, or there is a second colon.
+    #[error("unknown word")]
+    UnknownWord,
+    /// There are too few or too many operands, or one has not the form that belongs in its place.
+    #[error("operands")]
+    Operands,
+    /// An operand is no register.
+    #[error("bad register")]
+    BadRegister,
+    /// An operand is no number, or one that is out of range.
+    #[error("bad number")]
+    BadNumber,
+    /// No earlier `.equ` gave a number's name, or no line has the label.
+    #[error("unknown name")]
+    UnknownName,
+    /// An instruction or a `.word` would stand at an address that is not a multiple of 4.
+    #[error("unaligned")]
+    Unaligned,
+    /// There are more than 122,880 bytes so far.
+    #[error("too large")]
+    TooLarge,
+    /// A jump or a branch does not reach its label, or the label lies at an odd distance.
+    #[error("too far")]
+    TooFar,
+    /// No whole word stands at the entry, or the entry is not a multiple of 4. The line is 0.
+    #[error("entry")]
+    Entry,
+    /// Memory ran out, which may come at any line.
+    #[error("{0}")]
+    Memory(NoMemory),
+}
+
+/// The first fault of a text.
+#[derive(Clone, Copy, Debug, PartialEq, Eq, Error)]
+#[error("line {line}: {kind}")]
+pub struct AsmFault {
+    /// The line, counted from 1; 0 for `Entry`.
+    pub line: u32,
+    /// What is wrong with it.
+    pub kind: AsmKind,
+}
+
+/// Why a line stops the work.
+#[derive(Clone, Copy, Debug)]
+pub enum Halt {
+    Memory,
+    Fault(AsmKind),
+}
+
+impl Halt {
+    ghost use Rattle.rv_asm.specs.Faults.{halt_at};
+
+    /// As a fault of this line.
+    pub fn at(self, line: u32) -> AsmFault
+        ensures { result ≡ halt_at self line }
+    {
+        let kind = match self {
+            Halt::Memory => AsmKind::Memory(NoMemory),
+            Halt::Fault(kind) => kind,
+        };
+        AsmFault { line, kind }
+    }
+}
+
+impl From<AsmKind> for Halt {
+    ghost from_gives = { λ kind halt. halt ≡ Fault kind };
+
+    fn from(kind: AsmKind) -> Halt {
+        Halt::Fault(kind)
+    }
+}
+
+impl From<AllocError> for Halt {
+    ghost from_gives = { λ _ halt. halt ≡ Memory };
+
+    fn from(_: AllocError) -> Halt {
+        Halt::Memory
+    }
+}
+
+impl<T: Drop> From<AllocFailed<T>> for Halt {
+    ghost from_gives = { λ _ halt. halt ≡ Memory };
+
+    fn from(_: AllocFailed<T>) -> Halt {
+        Halt::Memory
+    }
+}

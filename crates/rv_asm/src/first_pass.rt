@@ -1,0 +1,221 @@
+//! The first pass: each line is judged, and its statements get their places.
+
+ghost use Rattle.std.specs.Prelude.{◌≡◌, ◌^◌, ◌<◌, length, Some, option_map, IfOk, OnOk};
+ghost use Rattle.rv_asm.specs.Sizes.{size_of, lays_words};
+ghost use Rattle.rv_asm.specs.Sound.{IsSound, AreSound, ArePlacedSound};
+ghost use Rattle.rv_asm.specs.LaidOut.{laid_out};
+ghost use Rattle.rv_asm.specs.FirstPass.{place, place_all, define, equ, lay, statement, labelled, line_laid, operands_of, Lays, first_pass};
+ghost use Rattle.rv_asm.specs.Faults.{GivesAll};
+
+use crate::fault::{AsmFault, AsmKind, Halt};
+use crate::layout::Layout;
+use crate::line::{are_plain, code_of, cut_at, cut_at_blank, has_colon, trimmed};
+use crate::mnemonic::mnemonic_of;
+use crate::name::is_name;
+use crate::operand::{both, name_piece, number, two_pieces};
+use crate::statement::{Placed, Statement, statements_of};
+use crate::symbols::{Symbol, Symbols};
+use std::alloc::Global;
+
+/// Where an image begins.
+const START: u32 = 0x0001_0000;
+
+/// How many bytes an image may take up.
+const ROOM: u32 = 122_880;
+
+fn size_of(statement: &Statement) -> u32
+    ensures { result ≡ size_of statement.now }
+{
+    match statement {
+        Statement::Byte(_) => 1,
+        Statement::Zero(count) => *count,
+        Statement::La { rd: _, label: _ } => 8,
+        Statement::Inst(_)
+        | Statement::Jal { rd: _, label: _ }
+        | Statement::Branch {
+            op: _,
+            rs1: _,
+            rs2: _,
+            label: _,
+        }
+        | Statement::Word(_)
+        | Statement::Address(_) => 4,
+    }
+}
+
+fn lays_words(statement: &Statement) -> bool
+    ensures { result ≡ lays_words statement.now }
+{
+    !matches!(statement, Statement::Byte(_) | Statement::Zero(_))
+}
+
+/// Lays one more statement, of this line. `Unaligned` where words would not stand at a multiple of 4, then
+/// `TooLarge`.
+#[tactic(auto, unfolding(crate::specs::FirstPass::place))]
+fn place(layout: &mut Layout, line: u32, statement: Statement) -> Result<(), Halt>
+    requires { IsSound statement }
+    ensures laid { Lays result (laid_out layout.new) (place line (laid_out layout.old) statement) }
+    ensures sound { OnOk result (ArePlacedSound layout.old.statements.items → ArePlacedSound layout.new.statements.items) }
+{
+    if lays_words(&statement) && layout.size % 4 != 0 {
+        return Err(Halt::Fault(AsmKind::Unaligned));
+    }
+    let size = size_of(&statement);
+    if size > ROOM - layout.size {
+        return Err(Halt::Fault(AsmKind::TooLarge));
+    }
+    layout.statements.push(Placed { line, statement })?;
+    layout.size += size;
+    Ok(())
+}
+
+fn place_all(layout: &mut Layout, line: u32, statements: Vec<Statement>) -> Result<(), Halt>
+    requires { AreSound statements.items }
+    ensures laid { Lays result (laid_out layout.new) (place_all line (laid_out layout.old) statements.items) }
+    ensures sound { OnOk result (ArePlacedSound layout.old.statements.items → ArePlacedSound layout.new.statements.items) }
+{
+    for statement in statements {
+        place(layout, line, statement)?;
+    }
+    Ok(())
+}
+
+/// Gives a name a meaning, and `NameTaken` where it has one.
+#[tactic(auto, unfolding(crate::specs::FirstPass::define))]
+fn define(layout: &mut Layout, name: &[u8], symbol: Symbol) -> Result<(), Halt>
+    ensures laid { Lays result (laid_out layout.new) (define (laid_out layout.old) name.now symbol) }
+    ensures sound { OnOk result (ArePlacedSound layout.old.statements.items → ArePlacedSound layout.new.statements.items) }
+{
+    if layout.symbols.is_taken(name) {
+        return Err(Halt::Fault(AsmKind::NameTaken));
+    }
+    layout.symbols.define(name, symbol)?;
+    Ok(())
+}
+
+/// `.equ name, n`
+#[tactic(auto, unfolding(crate::specs::FirstPass::equ))]
+fn equ(layout: &mut Layout, has_colon: bool, operands: &[u8]) -> Result<(), Halt>
+    ensures laid { Lays result (laid_out layout.new) (equ (laid_out layout.old) has_colon operands.now) }
+    ensures sound { OnOk result (ArePlacedSound layout.old.statements.items → ArePlacedSound layout.new.statements.items) }
+{
+    let first = cut_at(operands, b',').0;
+    if layout.symbols.is_taken(trimmed(first)) {
+        return Err(Halt::Fault(AsmKind::NameTaken));
+    }
+    if has_colon {
+        return Err(Halt::Fault(AsmKind::UnknownWord));
+    }
+    let (name, n) = two_pieces(operands)?;
+    let ((), n) = both(name_piece(name), number(&layout.symbols, n))?;
+    define(layout, name, Symbol::Number(n))
+}
+
+/// A statement of another word than `.equ`.
+#[tactic(auto, unfolding(crate::specs::FirstPass::lay))]
+fn lay(
+    alloc: Global,
+    layout: &mut Layout,
+    line: u32,
+    has_colon: bool,
+    word: &[u8],
+    operands: &[u8],
+) -> Result<(), Halt>
+    ensures laid { Lays result (laid_out layout.new) (lay line (laid_out layout.old) has_colon word.now operands.now) }
+    ensures sound { OnOk result (ArePlacedSound layout.old.statements.items → ArePlacedSound layout.new.statements.items) }
+{
+    if has_colon {
+        return Err(Halt::Fault(AsmKind::UnknownWord));
+    }
+    let mnemonic = mnemonic_of(word).ok_or(AsmKind::UnknownWord)?;
+    let statements = statements_of(alloc, mnemonic, &layout.symbols, operands)?;
+    place_all(layout, line, statements)
+}
+
+fn operands_of(rest: Option<&[u8]>) -> &[u8]
+    ensures { result.now ≡ operands_of (option_map (λ bytes. bytes.now) rest.entry) }
+{
+    match rest {
+        None => &[],
+        Some(bytes) => trimmed(bytes),
+    }
+}
+
+/// What a line has behind its label: nothing, or a word and its operands.
+#[tactic(auto, unfolding(crate::specs::FirstPass::statement))]
+fn statement(alloc: Global, layout: &mut Layout, line: u32, bytes: &[u8]) -> Result<(), Halt>
+    ensures laid { Lays result (laid_out layout.new) (statement line (laid_out layout.old) bytes.now) }
+    ensures sound { OnOk result (ArePlacedSound layout.old.statements.items → ArePlacedSound layout.new.statements.items) }
+{
+    if bytes.is_empty() {
+        return Ok(());
+    }
+    let colon = has_colon(bytes);
+    let (word, rest) = cut_at_blank(bytes);
+    if word == b".equ".as_slice() {
+        equ(layout, colon, operands_of(rest))
+    } else {
+        lay(alloc, layout, line, colon, word, operands_of(rest))
+    }
+}
+
+fn labelled(
+    alloc: Global,
+    layout: &mut Layout,
+    line: u32,
+    front: &[u8],
+    rest: &[u8],
+) -> Result<(), Halt>
+    ensures laid { Lays result (laid_out layout.new) (labelled line (laid_out layout.old) front.now (Some rest.now)) }
+    ensures sound { OnOk result (ArePlacedSound layout.old.statements.items → ArePlacedSound layout.new.statements.items) }
+{
+    let label = trimmed(front);
+    if !is_name(label) {
+        return Err(Halt::Fault(AsmKind::UnknownWord));
+    }
+    let address = START + layout.size;
+    define(layout, label, Symbol::Label(address))?;
+    statement(alloc, layout, line, trimmed(rest))
+}
+
+/// One line.
+#[tactic(auto, unfolding(crate::specs::FirstPass::line_laid))]
+fn line(alloc: Global, layout: &mut Layout, number: u32, bytes: &[u8]) -> Result<(), Halt>
+    ensures laid { Lays result (laid_out layout.new) (line_laid number (laid_out layout.old) bytes.now) }
+    ensures sound { OnOk result (ArePlacedSound layout.old.statements.items → ArePlacedSound layout.new.statements.items) }
+{
+    let code = code_of(bytes);
+    if !are_plain(code) {
+        return Err(Halt::Fault(AsmKind::BadByte));
+    }
+    let (front, rest) = cut_at(code, b':');
+    match rest {
+        None => statement(alloc, layout, number, trimmed(front)),
+        Some(rest) => labelled(alloc, layout, number, front, rest),
+    }
+}
+
+/// The layout of a text of fewer than 2^31 bytes, or its first fault of the first pass.
+#[tactic(auto, unfolding(crate::specs::FirstPass::first_pass))]
+pub fn first_pass(alloc: Global, text: &[u8]) -> Result<Layout, AsmFault>
+    requires { length text.now < 2 ^ 31 }
+    ensures laid { GivesAll laid_out result (first_pass text.now) }
+    ensures sound { IfOk result (λ layout. ArePlacedSound layout.statements.items) }
+{
+    let mut layout = Layout {
+        symbols: Symbols::new(alloc),
+        statements: Vec::new(alloc),
+        size: 0,
+    };
+    let mut number: u32 = 0;
+    let mut rest = Some(text);
+    while let Some(bytes) = rest {
+        let (front, after) = cut_at(bytes, b'\n');
+        number += 1;
+        if let Err(halt) = line(alloc, &mut layout, number, front) {
+            return Err(halt.at(number));
+        }
+        rest = after;
+    }
+    Ok(layout)
+}

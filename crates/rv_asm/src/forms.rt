@@ -1,0 +1,160 @@
+//! The forms that the operands of statements have.
+
+ghost use Rattle.std.specs.Prelude.{◌≡◌, IfOk};
+ghost use Rattle.rv_inst.specs.Valid.{IsRegister, IsTwelveBits, IsUpper, IsImmediateOf};
+ghost use Rattle.rv_asm.specs.Symbols.{names_of};
+ghost use Rattle.rv_asm.specs.Operand.{Views, word_of, byte_of};
+ghost use Rattle.rv_asm.specs.Statements.{register_upper, register_memory, immediate, registers_immediate, three_registers, two_registers, register_word, register_label, registers_label, one_label, zero_count};
+
+use crate::fault::AsmKind;
+use crate::operand::{
+    both, memory, name_piece, number, one_piece, ranged, register, three_pieces, two_pieces,
+};
+use crate::symbols::Symbols;
+use ce_model::ImmOp;
+
+/// A number from -2^31 to 2^32 - 1, modulo 2^32.
+pub fn word_of(number: i64) -> u32
+    ensures { result ≡ word_of number }
+{
+    number.rem_euclid(1 << 32) as u32
+}
+
+/// A number modulo 2^8.
+pub fn byte_of(number: i64) -> u8
+    ensures { result ≡ byte_of number }
+{
+    number.rem_euclid(1 << 8) as u8
+}
+
+/// `rd, n` with n from 0 to 1,048,575, which is bits 31..12.
+#[tactic(auto, unfolding(crate::specs::Statements::register_upper))]
+pub fn register_upper(symbols: &Symbols, operands: &[u8]) -> Result<(u8, u32), AsmKind>
+    ensures value { result ≡ register_upper (names_of symbols.now) operands.now }
+    ensures small { IfOk result (λ it. IsRegister it.0 × IsUpper it.1) }
+{
+    let (rd, upper) = two_pieces(operands)?;
+    let (rd, upper) = both(register(rd), ranged(0, 0xF_FFFF, number(symbols, upper)))?;
+    Ok((rd, upper as u32 * 4096))
+}
+
+/// `rd, n(rs1)`, as rd, n and rs1.
+#[tactic(auto, unfolding(crate::specs::Statements::register_memory))]
+pub fn register_memory(symbols: &Symbols, operands: &[u8]) -> Result<(u8, i32, u8), AsmKind>
+    ensures value { result ≡ register_memory (names_of symbols.now) operands.now }
+    ensures small { IfOk result (λ it. IsRegister it.0 × IsTwelveBits it.1 × IsRegister it.2) }
+{
+    let (rd, place) = two_pieces(operands)?;
+    let (rd, (n, rs1)) = both(register(rd), memory(symbols, place))?;
+    Ok((rd, n as i32, rs1))
+}
+
+/// The number of an operation on a register and a number: a shift amount, or from -2,048 to 2,047.
+#[tactic(auto, unfolding(crate::specs::Statements::immediate))]
+fn immediate(symbols: &Symbols, op: ImmOp, piece: &[u8]) -> Result<i64, AsmKind>
+    ensures value { result ≡ immediate (names_of symbols.now) op piece.now }
+    ensures fits { IfOk result (IsImmediateOf op) }
+    ensures small { IfOk result IsTwelveBits }
+{
+    let n = number(symbols, piece);
+    match op {
+        ImmOp::Slli => ranged(0, 31, n),
+        ImmOp::Srli => ranged(0, 31, n),
+        ImmOp::Srai => ranged(0, 31, n),
+        ImmOp::Addi => ranged(-2048, 2047, n),
+        ImmOp::Slti => ranged(-2048, 2047, n),
+        ImmOp::Sltiu => ranged(-2048, 2047, n),
+        ImmOp::Xori => ranged(-2048, 2047, n),
+        ImmOp::Ori => ranged(-2048, 2047, n),
+        ImmOp::Andi => ranged(-2048, 2047, n),
+    }
+}
+
+/// `rd, rs1, n` of an operation on a register and a number.
+#[tactic(auto, unfolding(crate::specs::Statements::registers_immediate))]
+pub fn registers_immediate(
+    symbols: &Symbols,
+    op: ImmOp,
+    operands: &[u8],
+) -> Result<(u8, u8, i32), AsmKind>
+    ensures value { result ≡ registers_immediate (names_of symbols.now) op operands.now }
+    ensures small { IfOk result (λ it. IsRegister it.0 × IsRegister it.1 × IsImmediateOf op it.2) }
+{
+    let (rd, rs1, n) = three_pieces(operands)?;
+    let ((rd, rs1), n) = both(both(register(rd), register(rs1)), immediate(symbols, op, n))?;
+    Ok((rd, rs1, n as i32))
+}
+
+/// `rd, rs1, rs2`
+#[tactic(auto, unfolding(crate::specs::Statements::three_registers))]
+pub fn three_registers(operands: &[u8]) -> Result<(u8, u8, u8), AsmKind>
+    ensures value { result ≡ three_registers operands.now }
+    ensures small { IfOk result (λ it. IsRegister it.0 × IsRegister it.1 × IsRegister it.2) }
+{
+    let (rd, rs1, rs2) = three_pieces(operands)?;
+    let ((rd, rs1), rs2) = both(both(register(rd), register(rs1)), register(rs2))?;
+    Ok((rd, rs1, rs2))
+}
+
+/// `rd, rs`
+#[tactic(auto, unfolding(crate::specs::Statements::two_registers))]
+pub fn two_registers(operands: &[u8]) -> Result<(u8, u8), AsmKind>
+    ensures value { result ≡ two_registers operands.now }
+    ensures small { IfOk result (λ it. IsRegister it.0 × IsRegister it.1) }
+{
+    let (rd, rs) = two_pieces(operands)?;
+    both(register(rd), register(rs))
+}
+
+/// `rd, n`, with n modulo 2^32.
+#[tactic(auto, unfolding(crate::specs::Statements::register_word))]
+pub fn register_word(symbols: &Symbols, operands: &[u8]) -> Result<(u8, u32), AsmKind>
+    ensures value { result ≡ register_word (names_of symbols.now) operands.now }
+    ensures small { IfOk result (λ it. IsRegister it.0) }
+{
+    let (rd, n) = two_pieces(operands)?;
+    let (rd, n) = both(register(rd), number(symbols, n))?;
+    Ok((rd, word_of(n)))
+}
+
+/// `rd, label`
+#[tactic(auto, unfolding(crate::specs::Statements::register_label))]
+pub fn register_label(operands: &[u8]) -> Result<(u8, &[u8]), AsmKind>
+    ensures value { Views (λ it. (it.0, it.1.now)) result (register_label operands.now) }
+    ensures small { IfOk result (λ it. IsRegister it.0) }
+{
+    let (rd, label) = two_pieces(operands)?;
+    let (rd, ()) = both(register(rd), name_piece(label))?;
+    Ok((rd, label))
+}
+
+/// `rs1, rs2, label`
+#[tactic(auto, unfolding(crate::specs::Statements::registers_label))]
+pub fn registers_label(operands: &[u8]) -> Result<(u8, u8, &[u8]), AsmKind>
+    ensures value { Views (λ it. (it.0, it.1, it.2.now)) result (registers_label operands.now) }
+    ensures small { IfOk result (λ it. IsRegister it.0 × IsRegister it.1) }
+{
+    let (rs1, rs2, label) = three_pieces(operands)?;
+    let ((rs1, rs2), ()) = both(both(register(rs1), register(rs2)), name_piece(label))?;
+    Ok((rs1, rs2, label))
+}
+
+/// `label`
+#[tactic(auto, unfolding(crate::specs::Statements::one_label))]
+pub fn one_label(operands: &[u8]) -> Result<&[u8], AsmKind>
+    ensures { Views (λ label. label.now) result (one_label operands.now) }
+{
+    let label = one_piece(operands)?;
+    name_piece(label)?;
+    Ok(label)
+}
+
+/// `n` from 0 to 122,880.
+#[tactic(auto, unfolding(crate::specs::Statements::zero_count))]
+pub fn zero_count(symbols: &Symbols, operands: &[u8]) -> Result<u32, AsmKind>
+    ensures { result ≡ zero_count (names_of symbols.now) operands.now }
+{
+    let n = one_piece(operands)?;
+    let n = ranged(0, 122_880, number(symbols, n))?;
+    Ok(n as u32)
+}

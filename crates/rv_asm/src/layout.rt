@@ -1,0 +1,18 @@
+//! What is laid out in the first pass.
+
+ghost use Rattle.std.specs.Prelude.{◌≡◌, ◌≤◌, sum_by};
+ghost use Rattle.rv_asm.specs.Sizes.{size_of};
+
+use crate::statement::Placed;
+use crate::symbols::Symbols;
+
+/// What the first pass lays out: what the names mean, and the statements with their lines.
+#[derive(Drop)]
+pub struct Layout {
+    pub symbols: Symbols,
+    pub statements: Vec<Placed>,
+    /// How many bytes the statements take.
+    pub size: u32,
+    ghost counted: { size ≡ sum_by (λ placed. size_of placed.statement) statements.items },
+    ghost fits: { size ≤ 122_880 },
+}

@@ -1,0 +1,26 @@
+//! A two-pass assembler for RV32I. Every text that is refused has one fault, with its line and kind.
+#![tactic(auto)]
+
+mod assembly;
+mod fault;
+mod first_pass;
+mod forms;
+mod law;
+mod layout;
+mod line;
+mod literal;
+mod mnemonic;
+mod name;
+mod operand;
+mod register;
+mod second_pass;
+mod statement;
+mod symbols;
+mod table;
+
+pub use assembly::assemble;
+pub use fault::{AsmFault, AsmKind};
+pub use law::assembly_law;
+
+#[cfg(test)]
+mod tests;

@@ -1,0 +1,188 @@
+//! The second pass: each statement becomes instructions or bytes.
+
+ghost use Rattle.std.specs.Prelude.{◌≡◌, ◌+◌, ◌^◌, ◌≤◌, ◌∷◌, [], ◌++◌, replicate, vec_len, pos, neg_ℤ, ◌≤ℤ◌, ◌<ℤ◌, Ok, IfOk, OnOk};
+ghost use Rattle.std.specs.Int.{w32, to_le_bytes};
+ghost use Rattle.rv_inst.specs.Valid.{IsRegister, IsEven, IsValid};
+ghost use Rattle.ce_model.specs.Image.{image_start};
+ghost use Rattle.rv_asm.specs.Symbols.{names_of};
+ghost use Rattle.rv_asm.specs.Sizes.{size_of};
+ghost use Rattle.rv_asm.specs.Sound.{IsSound, ArePlacedSound};
+ghost use Rattle.rv_asm.specs.SecondPass.{Instruction, address_of, offset_to, parts_of, second_pass};
+ghost use Rattle.rv_asm.specs.Spelling.{Appends, GivesParts};
+ghost use Rattle.rv_asm.specs.declared.statement.Statement.TheVariants as statements;
+
+use crate::fault::{AsmFault, AsmKind, Halt};
+use crate::layout::Layout;
+use crate::name::Name;
+use crate::statement::{Statement, two_instructions};
+use crate::symbols::{Symbol, Symbols};
+use ce_model::{BranchOp, Inst};
+use rv_inst::encode;
+use std::alloc::{AllocError, Global};
+
+/// Where an image begins.
+const START: u32 = 0x0001_0000;
+
+/// A jump goes less than so many bytes forward, and at most so many backward.
+const JUMP_REACH: u32 = 1 << 20;
+
+/// The same of a branch.
+const BRANCH_REACH: u32 = 1 << 12;
+
+/// The address of a label, and `UnknownName` where no line has it.
+#[tactic(auto, unfolding(crate::specs::SecondPass::address_of))]
+fn address_of(symbols: &Symbols, label: &Name) -> Result<u32, AsmKind>
+    ensures { result ≡ address_of (names_of symbols.now) label.now }
+{
+    match symbols.meaning(label.as_slice()) {
+        Some(Symbol::Label(address)) => Ok(address),
+        Some(Symbol::Number(_)) | None => Err(AsmKind::UnknownName),
+    }
+}
+
+/// How far a target lies from an instruction, and `TooFar` where that is odd or not from -reach to reach - 1.
+#[tactic(auto, unfolding(crate::specs::SecondPass::offset_to))]
+fn offset_to(reach: u32, address: u32, target: u32) -> Result<i32, AsmKind>
+    requires { reach ≤ 2 ^ 20 }
+    ensures value { result ≡ offset_to reach address target }
+    ensures even { IfOk result IsEven }
+    ensures least { IfOk result (λ offset. neg_ℤ (pos reach) ≤ℤ offset) }
+    ensures greatest { IfOk result (λ offset. offset <ℤ pos reach) }
+{
+    let offset = i64::from(target) - i64::from(address);
+    if offset.unsigned_abs() % 2 != 0 || offset < -i64::from(reach) || offset >= i64::from(reach) {
+        return Err(AsmKind::TooFar);
+    }
+    Ok(offset as i32)
+}
+
+fn put_word(out: &mut Vec<u8>, word: u32) -> Result<(), AllocError>
+    ensures { OnOk result (out.new.items ≡ out.old.items ++ to_le_bytes w32 word) }
+{
+    out.extend_from_slice(&word.to_le_bytes())
+}
+
+fn put_zeros(out: &mut Vec<u8>, count: u32) -> Result<(), AllocError>
+    ensures { OnOk result (out.new.items ≡ out.old.items ++ replicate count 0) }
+{
+    for _i in 0..count {
+        out.push(0)?;
+    }
+    Ok(())
+}
+
+/// Puts an instruction at the end of the bytes.
+fn put(out: &mut Vec<u8>, inst: Inst) -> Result<(), Halt>
+    requires { IsValid inst }
+    ensures parts { Appends result out.old.items out.new.items (Ok (Instruction inst ∷ [])) }
+    ensures size { OnOk result (vec_len out.new ≡ vec_len out.old + 4) }
+{
+    Ok(put_word(out, encode(&inst))?)
+}
+
+/// `jal rd, label` at the end of the bytes.
+#[tactic(auto, unfolding(crate::specs::SecondPass::parts_of))]
+fn put_jump(out: &mut Vec<u8>, symbols: &Symbols, rd: u8, label: &Name) -> Result<(), Halt>
+    requires register { IsRegister rd }
+    requires room { vec_len out.old ≤ 122_880 }
+    ensures parts { Appends result out.old.items out.new.items (parts_of (names_of symbols.now) (image_start + vec_len out.old) (statements.Jal rd label.now)) }
+    ensures size { OnOk result (vec_len out.new ≡ vec_len out.old + 4) }
+{
+    let address = START + out.len() as u32;
+    let target = address_of(symbols, label)?;
+    let offset = offset_to(JUMP_REACH, address, target)?;
+    put(out, Inst::Jal { rd, offset })
+}
+
+/// A branch to a label at the end of the bytes.
+#[tactic(auto, unfolding(crate::specs::SecondPass::parts_of))]
+fn put_branch(
+    out: &mut Vec<u8>,
+    symbols: &Symbols,
+    op: BranchOp,
+    rs1: u8,
+    rs2: u8,
+    label: &Name,
+) -> Result<(), Halt>
+    requires first { IsRegister rs1 }
+    requires second { IsRegister rs2 }
+    requires room { vec_len out.old ≤ 122_880 }
+    ensures parts { Appends result out.old.items out.new.items (parts_of (names_of symbols.now) (image_start + vec_len out.old) (statements.Branch op rs1 rs2 label.now)) }
+    ensures size { OnOk result (vec_len out.new ≡ vec_len out.old + 4) }
+{
+    let address = START + out.len() as u32;
+    let target = address_of(symbols, label)?;
+    let offset = offset_to(BRANCH_REACH, address, target)?;
+    put(
+        out,
+        Inst::Branch {
+            op,
+            rs1,
+            rs2,
+            offset,
+        },
+    )
+}
+
+/// `la rd, label` at the end of the bytes.
+#[tactic(auto, unfolding(crate::specs::SecondPass::parts_of))]
+fn put_address(out: &mut Vec<u8>, symbols: &Symbols, rd: u8, label: &Name) -> Result<(), Halt>
+    requires { IsRegister rd }
+    ensures parts { Appends result out.old.items out.new.items (parts_of (names_of symbols.now) (image_start + vec_len out.old) (statements.La rd label.now)) }
+    ensures size { OnOk result (vec_len out.new ≡ vec_len out.old + 8) }
+{
+    let target = address_of(symbols, label)?;
+    let (high, low) = two_instructions(rd, target);
+    put(out, high)?;
+    put(out, low)
+}
+
+/// `.word label` at the end of the bytes.
+#[tactic(auto, unfolding(crate::specs::SecondPass::parts_of))]
+fn put_label(out: &mut Vec<u8>, symbols: &Symbols, label: &Name) -> Result<(), Halt>
+    ensures parts { Appends result out.old.items out.new.items (parts_of (names_of symbols.now) (image_start + vec_len out.old) (statements.Address label.now)) }
+    ensures size { OnOk result (vec_len out.new ≡ vec_len out.old + 4) }
+{
+    let target = address_of(symbols, label)?;
+    Ok(put_word(out, target)?)
+}
+
+/// What a statement becomes, at the end of the bytes so far.
+#[tactic(auto, unfolding(crate::specs::SecondPass::parts_of))]
+fn put_statement(out: &mut Vec<u8>, symbols: &Symbols, statement: &Statement) -> Result<(), Halt>
+    requires sound { IsSound statement.now }
+    requires room { vec_len out.old ≤ 122_880 }
+    ensures parts { Appends result out.old.items out.new.items (parts_of (names_of symbols.now) (image_start + vec_len out.old) statement.now) }
+    ensures size { OnOk result (vec_len out.new ≡ vec_len out.old + size_of statement.now) }
+{
+    match statement {
+        Statement::Inst(inst) => put(out, *inst),
+        Statement::Jal { rd, label } => put_jump(out, symbols, *rd, label),
+        Statement::Branch {
+            op,
+            rs1,
+            rs2,
+            label,
+        } => put_branch(out, symbols, *op, *rs1, *rs2, label),
+        Statement::La { rd, label } => put_address(out, symbols, *rd, label),
+        Statement::Word(word) => Ok(put_word(out, *word)?),
+        Statement::Address(label) => put_label(out, symbols, label),
+        Statement::Byte(byte) => Ok(out.push(*byte)?),
+        Statement::Zero(count) => Ok(put_zeros(out, *count)?),
+    }
+}
+
+/// The bytes of a layout, or its first fault of the second pass.
+pub fn second_pass(alloc: Global, layout: &Layout) -> Result<Vec<u8>, AsmFault>
+    requires { ArePlacedSound layout.now.statements.items }
+    ensures parts { GivesParts (λ out. out.items) result (second_pass (names_of layout.now.symbols) image_start layout.now.statements.items) }
+    ensures size { IfOk result (λ out. vec_len out ≡ layout.now.size) }
+{
+    let mut out = Vec::new(alloc);
+    for placed in &layout.statements {
+        if let Err(halt) = put_statement(&mut out, &layout.symbols, &placed.statement) {
+            return Err(halt.at(placed.line));
+        }
+    }
+    Ok(out)
+}

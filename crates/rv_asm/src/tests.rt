@@ -1,0 +1,453 @@
+use crate::{AsmFault, AsmKind, assemble};
+use std::alloc::Global;
+use std::fmt::Write;
+use std::process::Abort;
+use std::test::Fail;
+
+/// The loaded bytes of the image that a text gives, or its fault.
+fn bytes_of(alloc: Global, text: &[u8]) -> Result<Vec<u8>, AsmFault> {
+    if text.len() >= 1 << 31 {
+        return Ok(Vec::new(alloc));
+    }
+    let image = assemble(alloc, text)?;
+    Vec::from_slice(alloc, image.loaded()).map_err(|_| AsmFault {
+        line: 0,
+        kind: AsmKind::Entry,
+    })
+}
+
+/// Each text is refused at this line, as this kind.
+fn refused(rt: &impl Abort, alloc: Global, rows: &[(&str, u32, AsmKind)]) {
+    for (text, line, kind) in rows {
+        let (line, kind) = (*line, *kind);
+        match bytes_of(alloc, text.as_bytes()) {
+            Ok(_) => panic!(rt; "accepted: {text}"),
+            Err(fault) => assert_eq!(rt; fault, AsmFault { line, kind }, "{text}"),
+        }
+    }
+}
+
+/// The text gives these bytes.
+fn gives_bytes(rt: &impl Abort, alloc: Global, text: &str, wanted: &[u8]) -> Result<(), Fail> {
+    let bytes = bytes_of(alloc, text.as_bytes())?;
+    assert_eq!(rt; bytes.as_slice(), wanted, "{text}");
+    Ok(())
+}
+
+/// The text gives these words, little-endian.
+fn gives(rt: &impl Abort, alloc: Global, text: &str, words: &[u32]) -> Result<(), Fail> {
+    let mut wanted = Vec::new(alloc);
+    for word in words {
+        wanted.extend_from_slice(&word.to_le_bytes())?;
+    }
+    gives_bytes(rt, alloc, text, &wanted)
+}
+
+/// Each statement once. The words are those of another assembler for RV32I.
+#[test]
+fn statements(rt: HostRuntime) -> Result<(), Fail> {
+    let text =
+        "x: lui a0, 1048575\nauipc t6, 0\njal ra, x\njalr s11, -2048(sp)\nbeq a0, a1, x\nbne s0, s1, x\n\
+        blt t0, t1, x\nbge x0, x31, x\nbltu fp, gp, x\nbgeu tp, ra, x\nlb a0, -1(a1)\nlh a2, 2047(a3)\nlw a4, 0(a5)\n\
+        lbu a6, 1(a7)\nlhu s2, 2(s3)\nsb s4, -2048(s5)\nsh s6, 2047(s7)\nsw s8, 31(s9)\naddi s10, zero, -2048\n\
+        slti t2, t3, 2047\nsltiu t4, t5, -1\nxori a0, a0, 1\nori a1, a1, 2\nandi a2, a2, 3\nslli a3, a3, 31\n\
+        srli a4, a4, 0\nsrai a5, a5, 17\nadd a0, a1, a2\nsll a0, a1, a2\nslt a0, a1, a2\nsltu a0, a1, a2\n\
+        xor a0, a1, a2\nsrl a0, a1, a2\nor a0, a1, a2\nand a0, a1, a2\nsub a0, a1, a2\nsra a0, a1, a2\nfence\necall\n\
+        ebreak\nmv a0, a1\nj x\ncall x\nret\nnop\n";
+    let words = [
+        0xFFFF_F537,
+        0x0000_0F97,
+        0xFF9F_F0EF,
+        0x8001_0DE7,
+        0xFEB5_08E3,
+        0xFE94_16E3,
+        0xFE62_C4E3,
+        0xFFF0_52E3,
+        0xFE34_60E3,
+        0xFC12_7EE3,
+        0xFFF5_8503,
+        0x7FF6_9603,
+        0x0007_A703,
+        0x0018_C803,
+        0x0029_D903,
+        0x814A_8023,
+        0x7F6B_9FA3,
+        0x018C_AFA3,
+        0x8000_0D13,
+        0x7FFE_2393,
+        0xFFFF_3E93,
+        0x0015_4513,
+        0x0025_E593,
+        0x0036_7613,
+        0x01F6_9693,
+        0x0007_5713,
+        0x4117_D793,
+        0x00C5_8533,
+        0x00C5_9533,
+        0x00C5_A533,
+        0x00C5_B533,
+        0x00C5_C533,
+        0x00C5_D533,
+        0x00C5_E533,
+        0x00C5_F533,
+        0x40C5_8533,
+        0x40C5_D533,
+        0x0FF0_000F,
+        0x0000_0073,
+        0x0010_0073,
+        0x0005_8513,
+        0xF5DF_F06F,
+        0xF59F_F0EF,
+        0x0000_8067,
+        0x0000_0013,
+    ];
+    gives(&rt, rt.alloc(), text, &words)
+}
+
+/// `li` has one instruction from -2,048 to 2,047 modulo 2^32, and else two; `la` always has two.
+#[test]
+fn large_numbers(rt: HostRuntime) -> Result<(), Fail> {
+    let alloc = rt.alloc();
+    gives(&rt, alloc, "li a1, 2047", &[0x7FF0_0593])?;
+    gives(&rt, alloc, "li a1, -2048", &[0x8000_0593])?;
+    gives(&rt, alloc, "li a1, 0xFFFFFFFF", &[0xFFF0_0593])?;
+    gives(&rt, alloc, "li a1, 2048", &[0x0000_15B7, 0x8005_8593])?;
+    gives(&rt, alloc, "li a1, -2049", &[0xFFFF_F5B7, 0x7FF5_8593])?;
+    gives(&rt, alloc, "li a1, 0x12345FFF", &[0x1234_65B7, 0xFFF5_8593])?;
+    gives(&rt, alloc, "li a1, 0x7FFFFFFF", &[0x8000_05B7, 0xFFF5_8593])?;
+    gives(&rt, alloc, "li a1, 0x80000000", &[0x8000_05B7, 0x0005_8593])?;
+    gives(&rt, alloc, "x: la a0, x", &[0x0001_0537, 0x0005_0513])?;
+    gives(
+        &rt,
+        alloc,
+        "la a0, x\nx: nop",
+        &[0x0001_0537, 0x0085_0513, 0x0000_0013],
+    )
+}
+
+/// Data, names and numbers.
+#[test]
+fn data(rt: HostRuntime) -> Result<(), Fail> {
+    let alloc = rt.alloc();
+    gives(
+        &rt,
+        alloc,
+        ".equ n, -1\nx: .word 1, n, x, y, 0xAbCdEf01\ny:",
+        &[1, 0xFFFF_FFFF, 0x1_0000, 0x1_0014, 0xABCD_EF01],
+    )?;
+    gives_bytes(
+        &rt,
+        alloc,
+        ".byte -128, 255, 0x7F,-1\n.zero 3",
+        &[128, 255, 127, 255, 0, 0, 0],
+    )?;
+    gives(
+        &rt,
+        alloc,
+        "\t# a comment: with , ( ) and \x01\r\n nop # ,\n\nlabel :\n",
+        &[0x0000_0013],
+    )
+}
+
+/// The programs of the worked rows, and the ring of the load.
+#[test]
+fn programs(rt: HostRuntime) -> Result<(), Fail> {
+    let alloc = rt.alloc();
+    gives(
+        &rt,
+        alloc,
+        "li a0, 8\nli a7, 1\necall\nmv s0, a0\nli t0, 7\nsw t0, 0(s0)\nli a1, -1\nli a2, 0\nli a7, 4\necall\nlw t1, 0(s0)\n",
+        &[
+            0x0080_0513,
+            0x0010_0893,
+            0x0000_0073,
+            0x0005_0413,
+            0x0070_0293,
+            0x0054_2023,
+            0xFFF0_0593,
+            0x0000_0613,
+            0x0040_0893,
+            0x0000_0073,
+            0x0004_2303,
+        ],
+    )?;
+    gives(
+        &rt,
+        alloc,
+        "loop: li a7, 7\necall\nli a1, -1\nli a2, 0\nli a7, 4\necall\nj loop\n",
+        &[
+            0x0070_0893,
+            0x0000_0073,
+            0xFFF0_0593,
+            0x0000_0613,
+            0x0040_0893,
+            0x0000_0073,
+            0xFE9F_F06F,
+        ],
+    )?;
+    gives(
+        &rt,
+        alloc,
+        "li a7, 7\necall\nli a7, 13\necall\n",
+        &[0x0070_0893, 0x0000_0073, 0x00D0_0893, 0x0000_0073],
+    )?;
+    let ring =
+        "loop: li a7, 7\n      ecall\n      mv s0, a0\n      li a7, 10\n      ecall\n      mv s1, a0\n      lw t0, 0(s0)\n\
+      addi t1, s1, 1\n      add t0, t0, t1\n      sw t0, 0(s0)\n      lw t0, 4(s0)\n      addi t0, t0, -1\n      sw t0, 4(s0)\n\
+      beq t0, zero, done\n      li a7, 12\n      ecall\n      addi t1, a0, -1\n      addi a1, s1, 1\n      and a1, a1, t1\n\
+      j pass\ndone: li a1, -1\npass: li a2, 0\n      mv a0, s0\n      li a7, 4\n      ecall\n      j loop\n";
+    gives(
+        &rt,
+        alloc,
+        ring,
+        &[
+            0x0070_0893,
+            0x0000_0073,
+            0x0005_0413,
+            0x00A0_0893,
+            0x0000_0073,
+            0x0005_0493,
+            0x0004_2283,
+            0x0014_8313,
+            0x0062_82B3,
+            0x0054_2023,
+            0x0044_2283,
+            0xFFF2_8293,
+            0x0054_2223,
+            0x0002_8E63,
+            0x00C0_0893,
+            0x0000_0073,
+            0xFFF5_0313,
+            0x0014_8593,
+            0x0065_F5B3,
+            0x0080_006F,
+            0xFFF0_0593,
+            0x0000_0613,
+            0x0004_0513,
+            0x0040_0893,
+            0x0000_0073,
+            0xF9DF_F06F,
+        ],
+    )
+}
+
+/// The example of docs/ASSEMBLY.md.
+#[test]
+fn example(rt: HostRuntime) -> Result<(), Fail> {
+    let text =
+        "# Counts down from 5, and leaves with the word at `answer`.\n        .equ count, 5\nstart:  li   t0, count\n\
+        again:  addi t0, t0, -1\n        bne  t0, zero, again\n        la   t1, answer\n        lw   a0, 0(t1)\n\
+        li   a7, 13\n        ecall\nanswer: .word 42, answer, -1\n";
+    let words = [
+        0x0050_0293,
+        0xFFF2_8293,
+        0xFE02_9EE3,
+        0x0001_0337,
+        0x0203_0313,
+        0x0003_2503,
+        0x00D0_0893,
+        0x0000_0073,
+        42,
+        0x0001_0020,
+        0xFFFF_FFFF,
+    ];
+    gives(&rt, rt.alloc(), text, &words)
+}
+
+/// Each kind, with a fault of a later kind on its line that does not win.
+#[test]
+fn faults_in_order(rt: HostRuntime) {
+    let rows = [
+        // Six texts and their answers.
+        ("addi a0, a0, 2048", 1, AsmKind::BadNumber),
+        ("j nowhere", 1, AsmKind::UnknownName),
+        ("li a0", 1, AsmKind::Operands),
+        (".byte 1\nnop", 2, AsmKind::Unaligned),
+        ("", 0, AsmKind::Entry),
+        ("x: nop\nx: nop", 2, AsmKind::NameTaken),
+        // One of each kind before the next.
+        ("x: nop\nx: \x01", 2, AsmKind::BadByte),
+        ("x: nop\nx: what", 2, AsmKind::NameTaken),
+        ("a: addi q: a0", 1, AsmKind::UnknownWord),
+        ("what q", 1, AsmKind::UnknownWord),
+        ("addi q, a0", 1, AsmKind::Operands),
+        ("addi q, a0, 99999", 1, AsmKind::BadRegister),
+        (".byte nowhere, 256", 1, AsmKind::BadNumber),
+        (".byte 1\naddi a0, a0, nowhere", 2, AsmKind::UnknownName),
+        (".zero 122879\nnop\nnop", 2, AsmKind::Unaligned),
+        (".zero 122880\nj nowhere", 2, AsmKind::TooLarge),
+        ("beq a0, a0, nowhere", 1, AsmKind::UnknownName),
+        ("beq a0, a0, x\n.zero 4092\nx: nop", 1, AsmKind::TooFar),
+        ("j x\n.byte 1\nx: .byte 1", 1, AsmKind::TooFar),
+        ("beq a0, a0, start\n.zero 4096\nstart:", 1, AsmKind::TooFar),
+        (
+            "beq a0, a0, x\nj nowhere\n.zero 4092\nx: nop",
+            1,
+            AsmKind::TooFar,
+        ),
+        ("j x\n.byte 1\nx: .word 1", 3, AsmKind::Unaligned),
+        (".byte 1\nstart: .byte 1, 2, 3", 0, AsmKind::Entry),
+        ("nop\nstart:", 0, AsmKind::Entry),
+        ("j nowhere\nwhat", 2, AsmKind::UnknownWord),
+    ];
+    refused(&rt, rt.alloc(), &rows);
+}
+
+/// The choices of the language, each with a text that is refused.
+#[test]
+fn refused_forms(rt: HostRuntime) {
+    let rows = [
+        // A statement's word ends at a blank.
+        ("nop,", 1, AsmKind::UnknownWord),
+        ("li,a0,5", 1, AsmKind::UnknownWord),
+        ("nop ,", 1, AsmKind::Operands),
+        // An operand is one token where one belongs.
+        ("mv a0, a0 a1", 1, AsmKind::Operands),
+        ("addi a0, a0, 4(sp)", 1, AsmKind::Operands),
+        ("li a0, - 5", 1, AsmKind::Operands),
+        ("mv a0,", 1, AsmKind::Operands),
+        ("lw a0, (sp)", 1, AsmKind::Operands),
+        ("lw a0, 4(sp) 5", 1, AsmKind::Operands),
+        (".word", 1, AsmKind::Operands),
+        (".byte", 1, AsmKind::Operands),
+        // A number out of range that `.equ` gave comes before an unknown name.
+        (".equ big, 256\n.byte nowhere, big", 2, AsmKind::BadNumber),
+        // One colon, behind a name.
+        ("a: b: nop", 1, AsmKind::UnknownWord),
+        ("a: nop\na: b: nop", 2, AsmKind::NameTaken),
+        ("a: nop\n1a: .equ a, 5", 2, AsmKind::UnknownWord),
+        (": nop", 1, AsmKind::UnknownWord),
+        // Labels and names of `.equ` are one name space.
+        ("x: .equ x, 1", 1, AsmKind::NameTaken),
+        (".equ x, 1\nx: nop", 2, AsmKind::NameTaken),
+        ("x: nop\n.equ x", 2, AsmKind::NameTaken),
+        ("x: nop\ny: .equ x, a:b", 2, AsmKind::NameTaken),
+        (".equ start, 0x10004\n.byte 1, 2, 3", 0, AsmKind::Entry),
+        // Numbers.
+        ("li a0, -0x1", 1, AsmKind::BadNumber),
+        ("li a0, +1", 1, AsmKind::BadNumber),
+        ("li a0, 0X1", 1, AsmKind::BadNumber),
+        ("li a0, 0x", 1, AsmKind::BadNumber),
+        ("li a0, -", 1, AsmKind::BadNumber),
+        ("li a0, 4294967296", 1, AsmKind::BadNumber),
+        ("li a0, -2147483649", 1, AsmKind::BadNumber),
+        // A label is no number, and a number no label.
+        (".equ x, 1\nnop\nj x", 3, AsmKind::UnknownName),
+        (".word x\n.equ x, 1", 1, AsmKind::UnknownName),
+        (".equ x, x", 1, AsmKind::UnknownName),
+        ("x: addi a0, a0, x", 1, AsmKind::UnknownName),
+        (".word 1x", 1, AsmKind::BadNumber),
+        // A name of 33 characters is none.
+        (
+            "aaaaaaaaaaaaaaaaaaaaaaaaaaaaaaaaa: nop",
+            1,
+            AsmKind::UnknownWord,
+        ),
+        ("j aaaaaaaaaaaaaaaaaaaaaaaaaaaaaaaaa", 1, AsmKind::Operands),
+        (
+            "li a0, aaaaaaaaaaaaaaaaaaaaaaaaaaaaaaaaa",
+            1,
+            AsmKind::BadNumber,
+        ),
+    ];
+    refused(&rt, rt.alloc(), &rows);
+}
+
+/// The choices of the language, each with a text that is accepted.
+#[test]
+fn accepted_forms(rt: HostRuntime) -> Result<(), Fail> {
+    let alloc = rt.alloc();
+    // Blanks may stand round brackets and before commas.
+    gives(&rt, alloc, "lw a0 , 4 ( sp )", &[0x0041_2503])?;
+    // Names of instructions and registers may be labels.
+    gives(
+        &rt,
+        alloc,
+        "nop: j nop\na0: j a0",
+        &[0x0000_006F, 0x0000_006F],
+    )?;
+    // Leading zeros, as many as one likes.
+    gives(&rt, alloc, "li a0, 00000000000000000000001", &[0x0010_0513])?;
+    gives(
+        &rt,
+        alloc,
+        "li a0, 0x00000000000000000000001\nli a0, -0",
+        &[0x0010_0513, 0x0000_0513],
+    )?;
+    // A name of 32 characters is one.
+    gives(
+        &rt,
+        alloc,
+        "aaaaaaaaaaaaaaaaaaaaaaaaaaaaaaaa: j aaaaaaaaaaaaaaaaaaaaaaaaaaaaaaaa",
+        &[0x0000_006F],
+    )?;
+    // A label may lie at a half word.
+    gives_bytes(
+        &rt,
+        alloc,
+        "j x\n.byte 1, 2\nx: .byte 3, 4",
+        &[0x6F, 0, 0x60, 0, 1, 2, 3, 4],
+    )?;
+    gives_bytes(
+        &rt,
+        alloc,
+        "beq a0, a1, x\n.byte 1, 2\nx: .byte 3, 4",
+        &[0x63, 0x03, 0xB5, 0x00, 1, 2, 3, 4],
+    )?;
+    // The entry is the label `start`, and no number of that name.
+    let labelled = assemble(alloc, b"nop\nstart: nop")?;
+    assert_eq!(rt; labelled.entry(), 0x1_0004);
+    let numbered = assemble(alloc, b".equ start, 0x10004\nnop\nnop")?;
+    assert_eq!(rt; numbered.entry(), 0x1_0000);
+    assert_eq!(rt; numbered.zero(), 0);
+    Ok(())
+}
+
+/// How a kind is written in a message.
+#[test]
+fn texts_of_kinds(rt: HostRuntime) -> Result<(), Fail> {
+    let alloc = rt.alloc();
+    let rows = [
+        (AsmKind::BadByte, "bad byte"),
+        (AsmKind::NameTaken, "name taken"),
+        (AsmKind::UnknownWord, "unknown word"),
+        (AsmKind::Operands, "operands"),
+        (AsmKind::BadRegister, "bad register"),
+        (AsmKind::BadNumber, "bad number"),
+        (AsmKind::UnknownName, "unknown name"),
+        (AsmKind::Unaligned, "unaligned"),
+        (AsmKind::TooLarge, "too large"),
+        (AsmKind::TooFar, "too far"),
+        (AsmKind::Entry, "entry"),
+    ];
+    for (kind, text) in rows {
+        let written = format!(in alloc; "{kind}")?;
+        assert_eq!(rt; written.as_str(), text);
+    }
+    Ok(())
+}
+
+/// A text of 1,048,576 bytes: 30,720 jumps, each with a label and to the label of another, and 69,632 labels more.
+fn long_text(alloc: Global) -> Result<String, Fail> {
+    let mut text = String::new(alloc);
+    for i in 0..30_720_u32 {
+        let other = 30_719 - i;
+        write!(&mut text, "l{i:05}:j l{other:05}\n")?;
+    }
+    for i in 0..69_632_u32 {
+        write!(&mut text, "m{i:05}:\n")?;
+    }
+    Ok(text)
+}
+
+#[test]
+fn long_text_of_short_lines(rt: HostRuntime) -> Result<(), Fail> {
+    let alloc = rt.alloc();
+    let text = long_text(alloc)?;
+    assert_eq!(rt; text.len(), 1_048_576);
+    let bytes = bytes_of(alloc, text.as_bytes())?;
+    assert_eq!(rt; bytes.len(), 122_880);
+    // The first jump goes to the last word.
+    assert_eq!(rt; &bytes[..4], [0x6F, 0xD0, 0xD1, 0x7F].as_slice());
+    Ok(())
+}
