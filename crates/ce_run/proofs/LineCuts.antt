@@ -7,7 +7,9 @@ use Rattle.std.proofs.lemmas.List.Splits.{slice_split_at, slice_split_none}
 use Rattle.std.proofs.lemmas.List.Quantifiers.{position-Some}
 use Rattle.std.proofs.lemmas.List.Sums.{fails_before_first}
 use Rattle.std.proofs.lemmas.Bool.Decides.{nat_tests}
-use Rattle.ce_run.specs.Lines.{lines_of, words_of}
+use Rattle.ce_run.specs.Lines.{lines_of}
+use Rattle.ce_run.specs.ImageBody.{separates, words_of}
+use Rattle.ce_run.specs.declared.form.digits.Digits.{Digits}
 
 -- no element passes
 abbrev Fails : (ℕ → Bool) → List ℕ → Type 0
@@ -45,15 +47,15 @@ pub lines_none : (text : List ℕ) → 0 < length text → position (λ b. eqb b
 lines_none [] l h = absurd (omega arith)
 lines_none (x ∷ xs) l h = lines_whole x xs (fails_all (λ b. eqb b 10) (x ∷ xs) h)
 
--- a line with a space is the word before the first, and the words of what follows
-pub words_some : (line : List ℕ) (i : ℕ) → position (λ b. eqb b 32) line ≡ Some i → words_of line ≡ take i line ∷ words_of (drop (i + 1) line)
-words_some line i h =
-    let f = cut_at (λ b. eqb b 32) line i h in
-    ap words_of f.2 ∙ slice_split_at (λ b. eqb b 32) (take i line) (get_or line i 0) (drop (i + 1) line) f.0 f.1
+-- a line with a separator is the word before the first, and the words of what follows
+pub words_some : (digits : Digits) (line : List ℕ) (i : ℕ) → position (separates digits) line ≡ Some i → words_of digits line ≡ take i line ∷ words_of digits (drop (i + 1) line)
+words_some digits line i h =
+    let f = cut_at (separates digits) line i h in
+    ap (words_of digits) f.2 ∙ slice_split_at (separates digits) (take i line) (get_or line i 0) (drop (i + 1) line) f.0 f.1
 
 -- a line without one is one word
-pub words_none : (line : List ℕ) → position (λ b. eqb b 32) line ≡ None → words_of line ≡ line ∷ []
-words_none line h = slice_split_none (λ b. eqb b 32) line (fails_all (λ b. eqb b 32) line h)
+pub words_none : (digits : Digits) (line : List ℕ) → position (separates digits) line ≡ None → words_of digits line ≡ line ∷ []
+words_none digits line h = slice_split_none (separates digits) line (fails_all (separates digits) line h)
 
 -- a text with a line feed is cut at it
 pub line_cut : (text : List ℕ) (i : ℕ) → position (λ b. eqb b 10) text ≡ Some i → text ≡ take i text ++ 10 ∷ drop (i + 1) text

@@ -5,7 +5,7 @@ use Rattle.std.specs.Str.{bytes_eq}
 use Rattle.ce_model.specs.Image.{ImageParts}
 use Rattle.ce_run.specs.Lines.{◌>>=◌, lines_of, after_prefix, before_suffix}
 use Rattle.ce_run.specs.Words.{is_name, count_of}
-use Rattle.ce_run.specs.ImageBody.{Describes}
+use Rattle.ce_run.specs.ImageBody.{Describes, ends_body}
 use Rattle.ce_run.specs.declared.form.BuiltForm.{BuiltForm}
 use Rattle.ce_run.specs.declared.form.image.ImageForm.{ImageForm}
 use Rattle.ce_run.specs.declared.form.image.ImageForm.TheVariants.{Hex, Asm, Rki}
@@ -59,10 +59,10 @@ run_line line = do
   digits ← after_prefix (codes "run ") line
   count_of digits
 
--- the text of the lines before the line `end`, each with its line feed, and the lines behind it
-abbrev pub body_of : List (List ℕ) → Option (List ℕ × List (List ℕ))
-body_of [] = None
-body_of (line ∷ lines) = if bytes_eq line (codes "end") then Some ([], lines) else option_map (λ body. (line ++ 10 ∷ body.0, body.1)) (body_of lines)
+-- the text of the lines before the one that ends the body, each with its line feed, and the lines behind it
+abbrev pub body_of : ImageForm → List (List ℕ) → Option (List ℕ × List (List ℕ))
+body_of form [] = None
+body_of form (line ∷ lines) = if ends_body form line then Some ([], lines) else option_map (λ body. (line ++ 10 ∷ body.0, body.1)) (body_of form lines)
 
 -- the user and the count in the commands of the built form
 unfoldable pub commands_of : List ℕ → List (List ℕ) → Option (List ℕ × ℕ)
@@ -84,7 +84,7 @@ head_of other = None
 unfoldable pub outline_of : List (List ℕ) → Option Outline
 outline_of lines = do
   head ← head_of lines
-  body ← body_of head.2
+  body ← body_of head.1 head.2
   commands ← commands_of head.0 body.1
   Some (outline head.0 head.1 body.0 commands.0 commands.1)
 

@@ -1,15 +1,25 @@
 -- The image that the body of a script's image describes, in each form.
-use Rattle.std.specs.Prelude.{◌≡◌, ℕ, List, [], ◌∷◌, ◌++◌, Option, Some, None, Ok, option_map}
+use Rattle.std.specs.Prelude.{◌≡◌, ℕ, ◌==◌, Bool, List, [], ◌∷◌, ◌++◌, Option, Some, None, Ok, codes, option_map}
+use Rattle.std.specs.List.{slice_split}
+use Rattle.std.specs.Str.{bytes_eq}
 use Rattle.std.specs.Int.{w32, to_le_bytes}
 use Rattle.ce_model.specs.Image.{ImageParts, IsImage, image_parts, image_start}
 use Rattle.rv_asm.specs.Assembly.{Assembles}
+use Rattle.rv_asm.specs.Line.{is_blank, code_of, trimmed}
 use Rattle.rv_image.specs.Rki1.{IsRki1}
 use Rattle.ce_run.specs.declared.form.digits.Digits.{Digits}
 use Rattle.ce_run.specs.declared.form.digits.Digits.TheVariants.{Word, Bytes}
 use Rattle.ce_run.specs.declared.form.image.ImageForm.{ImageForm}
 use Rattle.ce_run.specs.declared.form.image.ImageForm.TheVariants.{Hex, Asm, Rki}
-use Rattle.ce_run.specs.Lines.{◌>>=◌, lines_of, words_of}
+use Rattle.ce_run.specs.Lines.{◌>>=◌, lines_of}
 use Rattle.ce_run.specs.Words.{number_in, hex_word}
+
+-- the line that ends a body: of instruction words `end` and nothing else, and of the other forms a line whose only word is `end`
+abbrev pub ends_body : ImageForm → List ℕ → Bool
+ends_body Hex line = bytes_eq line (codes "end")
+ends_body other line = bytes_eq (trimmed (code_of line)) (codes "end")
+
+-- ---- words of digits
 
 -- these bytes in front of those
 abbrev pub with_front : List ℕ → Option (List ℕ) → Option (List ℕ)
@@ -31,9 +41,22 @@ abbrev pub word_bytes : Digits → List ℕ → Option (List ℕ)
 word_bytes Word word = option_map (to_le_bytes w32) (hex_word word)
 word_bytes Bytes word = digit_bytes word
 
+-- what stands between two words: a space between two instruction words, and else any blanks, since nothing writes no byte
+abbrev pub separates : Digits → ℕ → Bool
+separates Word byte = byte == 32
+separates Bytes byte = is_blank byte
+
+abbrev pub words_of : Digits → List ℕ → List (List ℕ)
+words_of digits line = slice_split (separates digits) line
+
+-- what a line has besides a comment, which lines of instruction words don't have
+abbrev pub part_of : Digits → List ℕ → List ℕ
+part_of Word line = line
+part_of Bytes line = code_of line
+
 -- the bytes of the words of a line
 abbrev pub line_bytes : Digits → List ℕ → Option (List ℕ)
-line_bytes digits line = gathered (word_bytes digits) (words_of line)
+line_bytes digits line = gathered (word_bytes digits) (words_of digits (part_of digits line))
 
 -- the bytes of all words of a body
 abbrev pub body_bytes : Digits → List ℕ → Option (List ℕ)

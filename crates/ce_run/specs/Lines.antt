@@ -1,6 +1,6 @@
 -- A text, its lines and their words.
 use Rattle.std.specs.Prelude.{ℕ, ◌-◌, List, [], ◌∷◌, Option, Some, None, if◌then◌else◌, ◌==◌, length, take, drop, option_and_then}
-use Rattle.std.specs.List.{onto_first, slice_split}
+use Rattle.std.specs.List.{onto_first}
 use Rattle.std.specs.Str.{bytes_eq}
 
 infixl 10 ◌>>=◌
@@ -11,10 +11,6 @@ o >>= f = option_and_then f o
 abbrev pub lines_of : List ℕ → List (List ℕ)
 lines_of [] = []
 lines_of (b ∷ bs) = if b == 10 then [] ∷ lines_of bs else onto_first b (lines_of bs)
-
--- the words of a line, with one space between
-abbrev pub words_of : List ℕ → List (List ℕ)
-words_of line = slice_split (λ b. b == 32) line
 
 -- what follows a prefix, where the text begins with it
 abbrev pub after_prefix : List ℕ → List ℕ → Option (List ℕ)

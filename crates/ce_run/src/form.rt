@@ -138,7 +138,7 @@ fn outline_of(text: &[u8]) -> Option<Outline<'_>>
     ensures shorter { IfSome result (λ it. length it.body.now ≤ length text.now) }
 {
     let (image, form, rest) = head_of(text)?;
-    let (body, rest) = body_of(rest)?;
+    let (body, rest) = body_of(form, rest)?;
     let (user, count) = commands_of(image, rest)?;
     Some(Outline {
         image,

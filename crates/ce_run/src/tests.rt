@@ -228,12 +228,17 @@ fn not_built(rt: HostRuntime) -> Result<(), Fail> {
     Ok(())
 }
 
-const COMMANDS: &str = "end\nuser alice\ngetcube 0\nspawn hello 0 0\nrun 10\n";
+const COMMANDS: &str = "user alice\ngetcube 0\nspawn hello 0 0\nrun 10\n";
+
+/// A script whose image has this form and body, with the line that ends it.
+fn run_body(alloc: Global, form: &str, body: &str, end: &str) -> Result<Ran, Fail> {
+    let parts = ["machine 0\nimage hello ", form, "\n", body, end, COMMANDS];
+    run_script(alloc, text(alloc, &parts)?.as_str())
+}
 
 /// A script whose image has this form and body.
 fn run_image(alloc: Global, form: &str, body: &str) -> Result<Ran, Fail> {
-    let parts = ["machine 0\nimage hello ", form, "\n", body, COMMANDS];
-    run_script(alloc, text(alloc, &parts)?.as_str())
+    run_body(alloc, form, body, "end\n")
 }
 
 /// The image of the example, as RKI1, with its entry and zero length as they are given.
@@ -276,6 +281,38 @@ fn forms_of_an_image(rt: HostRuntime) -> Result<(), Fail> {
         let ran = run_image(alloc, form, body)?;
         assert_eq!(rt; ran.status, 0, "{body}");
         assert_eq!(rt; ran.written.as_slice(), HELLO_REPORT.as_bytes(), "{body}");
+    }
+    Ok(())
+}
+
+/// What ends a body, and what may stand in one, in each form.
+#[test]
+fn bodies(rt: HostRuntime) -> Result<(), Fail> {
+    let alloc = rt.alloc();
+    let words = "02A00513 00E00893 00000073 00D00893 00000073\n";
+    let assembly = "li a0, 42\nli a7, 14\necall\nli a7, 13\necall\n";
+    let rki =
+        "# RKI1 \x01\n\n\t524b4931  00000100\t14000000 00000000 # header\r\n1305a002 9308e000 73000000 9308d000 73000000#\n";
+    let rows = [
+        ("asm", assembly, "end", 0),
+        ("asm", assembly, " \tend\r", 0),
+        ("asm", assembly, "end # of it", 0),
+        ("asm", assembly, "end#", 0),
+        ("asm", assembly, "end: nop\nend", 0),
+        ("asm", assembly, "end end\nend", 1),
+        ("asm", assembly, "End\nend", 1),
+        ("rki", rki, "end", 0),
+        ("rki", rki, "\tend # of it", 0),
+        ("rki", rki, "e nd\nend", 1),
+        ("hex", words, "end", 0),
+        ("hex", words, " end", 1),
+        ("hex", words, "end#", 1),
+        ("hex", words, "# end\nend", 1),
+        ("hex", words, "\nend", 1),
+    ];
+    for (form, body, end, status) in rows {
+        let ran = run_body(alloc, form, body, text(alloc, &[end, "\n"])?.as_str())?;
+        assert_eq!(rt; ran.status, status, "{form} {end}");
     }
     Ok(())
 }

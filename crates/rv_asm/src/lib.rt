@@ -21,6 +21,7 @@ mod table;
 pub use assembly::assemble;
 pub use fault::{AsmFault, AsmKind};
 pub use law::assembly_law;
+pub use line::{code_of, trimmed};
 
 #[cfg(test)]
 mod tests;

@@ -115,7 +115,7 @@ fn without_end_blanks(bytes: &[u8]) -> &[u8]
     rest
 }
 
-/// The bytes without the blanks at their ends.
+/// The bytes without the blanks (spaces, tabs and carriage returns) at their ends.
 #[tactic(auto, unfolding(crate::specs::Line::trimmed))]
 pub fn trimmed(bytes: &[u8]) -> &[u8]
     ensures { result.now ≡ trimmed bytes.now }
@@ -123,7 +123,7 @@ pub fn trimmed(bytes: &[u8]) -> &[u8]
     without_end_blanks(without_front_blanks(bytes))
 }
 
-/// What a line has before its comment.
+/// What a line has before its comment, which begins with `#`.
 #[tactic(auto, unfolding(crate::specs::Line::code_of))]
 pub fn code_of(line: &[u8]) -> &[u8]
     ensures { result.now ≡ code_of line.now }

@@ -149,7 +149,7 @@ fn data(rt: HostRuntime) -> Result<(), Fail> {
     )
 }
 
-/// The programs of the worked rows, and the ring of the load.
+/// The programs of the worked rows.
 #[test]
 fn programs(rt: HostRuntime) -> Result<(), Fail> {
     let alloc = rt.alloc();
@@ -190,7 +190,12 @@ fn programs(rt: HostRuntime) -> Result<(), Fail> {
         alloc,
         "li a7, 7\necall\nli a7, 13\necall\n",
         &[0x0070_0893, 0x0000_0073, 0x00D0_0893, 0x0000_0073],
-    )?;
+    )
+}
+
+/// A program that passes a token round a ring of nodes.
+#[test]
+fn ring(rt: HostRuntime) -> Result<(), Fail> {
     let ring =
         "loop: li a7, 7\n      ecall\n      mv s0, a0\n      li a7, 10\n      ecall\n      mv s1, a0\n      lw t0, 0(s0)\n\
       addi t1, s1, 1\n      add t0, t0, t1\n      sw t0, 0(s0)\n      lw t0, 4(s0)\n      addi t0, t0, -1\n      sw t0, 4(s0)\n\
@@ -198,7 +203,7 @@ fn programs(rt: HostRuntime) -> Result<(), Fail> {
       j pass\ndone: li a1, -1\npass: li a2, 0\n      mv a0, s0\n      li a7, 4\n      ecall\n      j loop\n";
     gives(
         &rt,
-        alloc,
+        rt.alloc(),
         ring,
         &[
             0x0070_0893,

@@ -5,7 +5,7 @@ ghost use Rattle.ce_model.specs.Image.{ImageParts};
 ghost use Rattle.ce_run.specs.Lines.{lines_of};
 ghost use Rattle.ce_run.specs.Words.{is_name};
 ghost use Rattle.ce_run.specs.BuiltForm.{name_of, form_of, image_line, body_of};
-ghost use Rattle.ce_run.specs.ImageBody.{Describes};
+ghost use Rattle.ce_run.specs.ImageBody.{Describes, ends_body};
 ghost use Rattle.ce_run.specs.declared.form.FormError.TheVariants.{NotBuilt};
 ghost use Rattle.ce_run.specs.declared.form.image.ImageForm.TheVariants as forms;
 
@@ -13,7 +13,7 @@ use super::FormError;
 use super::digits::{Digits, body_bytes};
 use super::lines::{after, next_line};
 use super::words::is_name;
-use rv_asm::assemble;
+use rv_asm::{assemble, code_of, trimmed};
 use rv_image::{Image, read};
 use std::alloc::Global;
 
@@ -66,16 +66,26 @@ pub(super) fn image_line(line: &[u8]) -> Option<(&[u8], ImageForm)>
     Some((name, form))
 }
 
-/// The text of an image's body, and the text behind its line `end`.
+/// Whether a line ends a body.
+fn ends_body(form: ImageForm, line: &[u8]) -> bool
+    ensures { result ≡ ends_body form line.now }
+{
+    match form {
+        ImageForm::Hex => line == b"end".as_slice(),
+        ImageForm::Asm | ImageForm::Rki => trimmed(code_of(line)) == b"end".as_slice(),
+    }
+}
+
+/// The text of an image's body, and the text behind the line that ends it.
 #[tactic(auto, using(crate::proofs::BodyText::goes_on, crate::proofs::BodyText::ends, crate::proofs::BodyText::has_no_end))]
-pub(super) fn body_of(text: &[u8]) -> Option<(&[u8], &[u8])>
-    ensures body { option_map (λ found. (found.0.now, lines_of found.1.now)) result ≡ body_of (lines_of text.now) }
+pub(super) fn body_of(form: ImageForm, text: &[u8]) -> Option<(&[u8], &[u8])>
+    ensures body { option_map (λ found. (found.0.now, lines_of found.1.now)) result ≡ body_of form (lines_of text.now) }
     ensures shorter { IfSome result (λ found. length found.0.now ≤ length text.now) }
 {
     let mut rest = text;
     'lines: loop {
         let (line, behind) = next_line(rest)?;
-        if line == b"end".as_slice() {
+        if ends_body(form, line) {
             return Some((&text[..text.len() - rest.len()], behind));
         }
         rest = behind;

@@ -1,7 +1,7 @@
 //! Lines, and what stands in them.
 ghost use Rattle.std.specs.Prelude.{◌≡◌, ◌∷◌, ◌++◌, ◌⊎◌, [], MatchOption, IfSome, ◌<◌, ◌==◌, length, position};
 ghost use Rattle.std.specs.Option.{option_copied};
-ghost use Rattle.ce_run.specs.Lines.{lines_of, words_of, after_prefix, before_suffix};
+ghost use Rattle.ce_run.specs.Lines.{lines_of, after_prefix, before_suffix};
 
 /// The place of the first `byte`.
 fn position_of(byte: u8, text: &[u8]) -> Option<usize>
@@ -23,18 +23,6 @@ pub(super) fn next_line(text: &[u8]) -> Option<(&[u8], &[u8])>
     match position_of(b'\n', text) {
         Some(end) => Some((&text[..end], &text[end + 1..])),
         None => Some((text, &[])),
-    }
-}
-
-/// The first word of a line, and what follows the space behind it, where there is one.
-#[tactic(auto, using(crate::proofs::LineCuts::words_some, crate::proofs::LineCuts::words_none))]
-pub(super) fn next_word(line: &[u8]) -> (&[u8], Option<&[u8]>)
-    ensures words { MatchOption result.1 (words_of line.now ≡ result.0.now ∷ []) (λ rest. words_of line.now ≡ result.0.now ∷ words_of rest.now) }
-    ensures shorter { MatchOption result.1 (result.0.now ≡ line.now) (λ rest. length rest.now < length line.now) }
-{
-    match position_of(b' ', line) {
-        Some(end) => (&line[..end], Some(&line[end + 1..])),
-        None => (line, None),
     }
 }
 
