@@ -89,17 +89,24 @@ fn hello(rt: HostRuntime) -> Result<(), Fail> {
     Ok(())
 }
 
+/// The image of the example, as RKI1.
+const HELLO_RKI1: &str =
+    "machine 0\nimage hello rki\n524b4931 00000100 14000000 00000000 1305a002 9308e000 73000000 9308d000 73000000\nend\n\
+    user alice\ngetcube 0\nspawn hello 0 0\nrun 10\n";
+
 #[test]
 fn hello_through_top(rt: HostRuntime) -> Result<(), Fail> {
     let alloc = rt.alloc();
-    let mut words = Vec::new(alloc);
-    words.push(String::from_str(alloc, "--serial")?)?;
-    let bytes = Vec::from_slice(alloc, HELLO.as_bytes())?;
-    let mut source = MemSource::new(bytes, Vec::new(alloc), 7);
-    let mut sink = MemSink::new(alloc, 4096, Vec::new(alloc), 7).map_err(|_| "no memory")?;
-    let ended = top(&rt, alloc, words.as_slice(), &mut source, &mut sink, &Open);
-    assert_eq!(rt; ended.status, 0);
-    assert_eq!(rt; sink.bytes(), HELLO_REPORT.as_bytes());
+    for script in [HELLO, HELLO_RKI1] {
+        let mut words = Vec::new(alloc);
+        words.push(String::from_str(alloc, "--serial")?)?;
+        let bytes = Vec::from_slice(alloc, script.as_bytes())?;
+        let mut source = MemSource::new(bytes, Vec::new(alloc), 7);
+        let mut sink = MemSink::new(alloc, 4096, Vec::new(alloc), 7).map_err(|_| "no memory")?;
+        let ended = top(&rt, alloc, words.as_slice(), &mut source, &mut sink, &Open);
+        assert_eq!(rt; ended.status, 0);
+        assert_eq!(rt; sink.bytes(), HELLO_REPORT.as_bytes());
+    }
     Ok(())
 }
 
