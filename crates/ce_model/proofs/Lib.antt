@@ -1,2 +1,3 @@
 pub mod HelloAlone
 pub mod OneMore
+pub mod OneMoreViews

@@ -1,7 +1,7 @@
 -- The definitions over a trace or a history, for one step more at the end.
 use Rattle.std.proofs.Common.{◌≡◌, ℕ, ◌+◌, List, [], ◌∷◌, ◌++◌, Option, Some, None, Bool, true, false, not, ◌&&◌, ◌||◌, ◌==◌, if◌then◌else◌, refl, ap, sym, ◌∙◌, subst, filter, reverse}
 use Rattle.std.specs.Prelude.{take_while, find, fold, option_map}
-use Rattle.std.specs.List.{list_any}
+use Rattle.std.specs.List.{list_all, list_any}
 use Rattle.std.proofs.lemmas.List.Sums.{fold-append, take_while-cons, sum_by-cons}
 use Rattle.std.proofs.lemmas.List.{reverse-append, map-append, append-nil, append_assoc}
 use Rattle.std.proofs.lemmas.List.Elements.{filter_map-append, filter-append}
@@ -14,7 +14,7 @@ use Rattle.ce_model.specs.declared.entry.What.{What}
 use Rattle.ce_model.specs.declared.entry.What.TheVariants.{Arm}
 use Rattle.ce_model.specs.declared.entry.Given.{Given}
 use Rattle.ce_model.specs.Node.{fresh}
-use Rattle.ce_model.specs.Cube.{Cube, HostCall, Solo, state, after_entry, sends_to, sent_to, item_of, taken_by, waiting_at, is_same_item, armed_of, dispatched_of, is_dispatch, is_arm, arm_count, starts_at, is_fresh, is_node, what_of, next_call, host_what, stepped, host_acts, node_acts, acted, acts, with_no_call, whole_trace, solo, host_call, host_calls, actors, IsAlone, last_of}
+use Rattle.ce_model.specs.Cube.{Cube, HostCall, Solo, state, after_entry, sends_to, sent_to, item_of, taken_by, waiting_at, is_same_item, armed_of, dispatched_of, is_dispatch, is_arm, arm_count, starts_at, is_fresh, is_node, what_of, next_call, host_what, stepped, host_acts, node_acts, acted, acts, with_no_call, whole_trace, solo, host_call, host_calls, actors, IsAlone, last_of, is_quiet, is_node_quiet, node_numbers}
 use Rattle.ce_model.specs.Machine.{MachineParts, opening, changed_by, after, Fits, AllFit, IsLawful}
 
 -- the node after one step more of the cube
@@ -230,3 +230,37 @@ waiting_at-taken r t entry item a e s =
 pub last_of-more : (actor : ℕ) (t : List Entry) (entry : Entry)
     → last_of actor (t ++ entry ∷ []) ≡ (if entry.actor == actor then Some entry else last_of actor t)
 last_of-more actor t entry = ap (find (λ (e : Entry). e.actor == actor)) (reverse-append t (entry ∷ []))
+
+-- ---- what another node is given
+
+pub taken_by-other : (r : ℕ) (t : List Entry) (entry : Entry) → (entry.actor == r) ≡ false → taken_by r (t ++ entry ∷ []) ≡ taken_by r t
+taken_by-other r t entry a =
+    filter_map-append (λ (x : Entry). if x.actor == r then item_of x.what else None) t (entry ∷ []) ∙ rw a (append-nil (taken_by r t))
+
+-- what waits at a node after a step of another actor
+pub waiting_at-other : (r : ℕ) (t : List Entry) (entry : Entry) → (entry.actor == r) ≡ false
+    → waiting_at r (t ++ entry ∷ []) ≡ waiting_at r t ++ filter (λ item. not (list_any (is_same_item item) (taken_by r t))) (sends_to r entry.what)
+unfolding waiting_at
+waiting_at-other r t entry a =
+    rw (taken_by-other r t entry a, sent_to-more r t entry)
+    (filter-append (λ item. not (list_any (is_same_item item) (taken_by r t))) (sent_to r t) (sends_to r entry.what))
+
+-- ---- the host's calls, and quiet
+
+pub host_calls-more : (t : List Entry) (entry : Entry) → host_calls (t ++ entry ∷ []) ≡ host_calls t ++ host_calls (entry ∷ [])
+host_calls-more t entry = filter_map-append (λ (e : Entry). if e.actor == HOST then host_call e.what else None) t (entry ∷ [])
+
+-- a node's quiet hangs on what waits there, and on the step where it is its own
+abbrev pub is_quiet_now : List Entry → Entry → ℕ → Bool
+is_quiet_now t entry r = is_node_quiet (waiting_at r (t ++ entry ∷ [])) (if entry.actor == r then Some entry else last_of r t)
+
+each_same : (p q : ℕ → Bool) (xs : List ℕ) → ((x : ℕ) → p x ≡ q x) → list_all p xs ≡ list_all q xs
+each_same p q [] h = refl
+each_same p q (x ∷ xs) h = ap (λ b. b && list_all p xs) (h x) ∙ ap (λ b. q x && b) (each_same p q xs h)
+
+pub is_quiet-more : (cube : Cube) (t : List Entry) (entry : Entry)
+    → is_quiet cube (t ++ entry ∷ []) ≡ list_all (is_quiet_now t entry) (node_numbers cube.dim)
+unfolding is_quiet
+is_quiet-more cube t entry =
+    each_same (λ r. is_node_quiet (waiting_at r (t ++ entry ∷ [])) (last_of r (t ++ entry ∷ []))) (is_quiet_now t entry) (node_numbers cube.dim)
+    (λ r. ap (is_node_quiet (waiting_at r (t ++ entry ∷ []))) (last_of-more r t entry))

@@ -145,7 +145,7 @@ is_eligible asking dead other = true
 abbrev pub has_no_eligible : ℕ → ℕ → List Given → Bool
 has_no_eligible asking dead items = not (list_any (is_eligible asking dead) items)
 
--- a node is quiet whose last step is this one: it asked for work, and got none, and nothing that waits can be given to it
+-- a node is quiet whose last step is this one: a Take answered Idle, by whose sets nothing that waits can be given to it
 abbrev pub is_quiet_after : List Given → What → Bool
 is_quiet_after items (Take asking dead poller Idle) = has_no_eligible asking dead items
 is_quiet_after items other = false

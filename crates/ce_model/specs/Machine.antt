@@ -32,7 +32,7 @@ pub record Held : Type 0 where
   pub dispatched : ℕ
 
 -- a node of the machine: what waits there, the ids that were started, the sets of its last Take, and whether its last step in
--- its present cube is a Take that got no work, or there is none
+-- its present cube is a Take answered Idle, or there is none
 pub record NodeState : Type 0 where
   pub queue : List Given
   pub spawned : List ℕ
@@ -66,7 +66,7 @@ held_by state user = find (λ cube. cube.grant.user == user) state.held
 abbrev pub is_free : MachineState → ℕ → Bool
 is_free state node = not (list_any (λ cube. is_inside cube.grant.sub node) state.held)
 
--- a node is quiet: its last step is a Take that got no work, and nothing that waits can be given to it
+-- a node is quiet: its last step, if any, is a Take answered Idle, and nothing that waits can be given to it
 abbrev pub is_quiet_at : MachineState → ℕ → Bool
 is_quiet_at state node = (node_at state node).idle && has_no_eligible (node_at state node).asking (node_at state node).dead (node_at state node).queue
 

@@ -33,8 +33,8 @@ pub record IsTurnStep (cube : Cube) (r : ℕ) (entry : Entry) : Type 0 where
   pub actor : entry.actor ≡ r
   pub same_turn : IsFalse (is_take entry.what)
 
--- one Take of the node, and behind it the node's steps up to its next Take. That the turn is whole follows where a Take
--- comes after it: a node asks for work only when its turn is over.
+-- One Take of the node, and behind it the node's steps up to its next Take. That the turn is whole follows: a node asks for
+-- work only when its turn is over, so it is where a Take comes after it, and in the last round of `run` no turn begins.
 abbrev pub IsTurn : Cube → ℕ → List Entry → Type 0
 IsTurn cube r [] = ⊥
 IsTurn cube r (first ∷ steps) =
@@ -81,7 +81,7 @@ pub record IsRun (kind : RoundKind) (cube : Cube) (count : ℕ) (answer : Answer
   pub steps : segment ≡ step_by cube HOST (Arm count) ∷ (joined rounds ++ (last ++ step_by cube HOST (Look found) ∷ []))
   pub reply : reply_by found ≡ Some answer
 
--- What a command in a cube replies, and the steps that it makes, by the trace before it. That a cube is held already, that
+-- What a command in a cube replies, and the steps that it makes, by the trace before it, which none needs yet. That a cube is held already, that
 -- an id was used, and that there is no such place, have no reply yet, so no such record is legal.
 abbrev pub IsCubeCommand : RoundKind → Cube → List Entry → Command → Answer → List Entry → Type 0
 IsCubeCommand kind cube t (Spawn image to) Done segment =

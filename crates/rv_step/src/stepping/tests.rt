@@ -60,7 +60,7 @@ fn check_results(rt: &impl Abort, memory: &mut PrivateMemory, rows: &[(u32, u32,
 }
 
 #[test]
-fn operations(rt: HostRuntime) -> Result<(), Fail> {
+fn operations_on_registers(rt: HostRuntime) -> Result<(), Fail> {
     let mut memory = PrivateMemory::new(rt.alloc())?;
     let rows = [
         // add
@@ -109,6 +109,15 @@ fn operations(rt: HostRuntime) -> Result<(), Fail> {
         // and
         (0x0020F1B3, ONES, MIN, MIN),
         (0x0020F1B3, 0xF0F0_F0F0, 0xFF00_FF00, 0xF000_F000),
+    ];
+    check_results(&rt, &mut memory, &rows);
+    Ok(())
+}
+
+#[test]
+fn operations_on_numbers(rt: HostRuntime) -> Result<(), Fail> {
+    let mut memory = PrivateMemory::new(rt.alloc())?;
+    let rows = [
         // addi by -1, 1, -2,048 and 2,047
         (0xFFF08193, 0, 0, ONES),
         (0xFFF08193, MIN, 0, MAX),
@@ -149,6 +158,15 @@ fn operations(rt: HostRuntime) -> Result<(), Fail> {
         (0x4000D193, MIN, 0, MIN),
         (0x41F0D193, MIN, 0, ONES),
         (0x41F0D193, MAX, 0, 0),
+    ];
+    check_results(&rt, &mut memory, &rows);
+    Ok(())
+}
+
+#[test]
+fn upper_numbers_and_x0(rt: HostRuntime) -> Result<(), Fail> {
+    let mut memory = PrivateMemory::new(rt.alloc())?;
+    let rows = [
         // lui 0x80000 and 0x7FFFF
         (0x800001B7, 0, 0, MIN),
         (0x7FFFF1B7, 0, 0, 0x7FFF_F000),
