@@ -45,10 +45,6 @@ gathered_bad {A} read item items from e h =
     ap (λ (xs : List A). gathered read xs) e
     ∙ ap (λ (v : Option (List ℕ)). v >>= (λ bytes. with_front bytes (gathered read items))) h
 
-pub gathered_none : {A : Type 0} → (read : A → Option (List ℕ)) (front : List ℕ) (from : List A) → from ≡ [] → with_front front (gathered read from) ≡ Some front
-gathered_none {A} read front from e =
-    ap (λ (xs : List A). with_front front (gathered read xs)) e ∙ ap (λ (xs : List ℕ). Some xs) (append-nil front)
-
 -- ---- digits
 
 -- two digits write a byte

@@ -7,7 +7,7 @@ use Rattle.ce_model.specs.declared.entry.Given.{Given}
 use Rattle.ce_model.specs.declared.entry.Found.{Found}
 use Rattle.ce_model.specs.declared.entry.What.TheVariants.{Arm, Look, Note, Spawn, Take}
 use Rattle.ce_model.specs.Subcubes.{extract, relative}
-use Rattle.ce_run.specs.OneCube.{the_node, IsInnerStep, IsOneCube, host_entry, node_entry, place_0}
+use Rattle.ce_run.specs.OneCube.{the_node, IsInnerStep, host_entry, node_entry, place_0}
 
 pub host_stays : relative the_node HOST ≡ HOST
 unfolding relative
@@ -35,8 +35,3 @@ spawn_inner image = record { user = refl; inside = refl; same = rw (host_stays, 
 pub all_more : (steps : List Entry) (entry : Entry) → AllByRecursion IsInnerStep steps → IsInnerStep entry → AllByRecursion IsInnerStep (steps ++ entry ∷ [])
 all_more [] entry h e = (e, tt)
 all_more (step ∷ steps) entry h e = (h.0, all_more steps entry h.1 e)
-
--- one step more
-pub one_more : (history : List Entry) (entry : Entry) → IsOneCube history → IsInnerStep entry → IsOneCube (history ++ entry ∷ [])
-one_more [] entry h e = absurd h
-one_more (first ∷ steps) entry h e = (h.0, all_more steps entry h.1 e)

@@ -1,7 +1,6 @@
 pub mod Body
 pub mod BodyText
 pub mod Digits
-pub mod FormParts
 pub mod HelloRow
 pub mod InnerSteps
 pub mod Known

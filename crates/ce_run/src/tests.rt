@@ -349,6 +349,22 @@ fn parts_of_an_image(rt: HostRuntime) -> Result<(), Fail> {
     Ok(())
 }
 
+/// A store over later code takes effect at once, and a jump to a half word ends the process.
+#[test]
+fn code_as_it_stands(rt: HostRuntime) -> Result<(), Fail> {
+    let alloc = rt.alloc();
+    let stores =
+        "li t0, 0x02A00513\nla t1, later\nsw t0, 0(t1)\nlater: li a0, 7\nli a7, 14\necall\nli a7, 13\necall\n";
+    let jumps = "j half\n.byte 1, 2\nhalf: .byte 0x13, 0x05\nli a7, 14\necall\n";
+    let silent = HELLO_REPORT.replace(alloc, "node 0 note 0 42\n", "")?;
+    for (body, report) in [(stores, HELLO_REPORT), (jumps, silent.as_str())] {
+        let ran = run_image(alloc, "asm", body)?;
+        assert_eq!(rt; ran.status, 0, "{body}");
+        assert_eq!(rt; ran.written.as_slice(), report.as_bytes(), "{body}");
+    }
+    Ok(())
+}
+
 /// An image that is refused, in each form.
 #[test]
 fn refused_images(rt: HostRuntime) -> Result<(), Fail> {

@@ -1,4 +1,4 @@
-use Rattle.std.proofs.Common.{◌≡◌, false, sym, ◌∙◌}
+use Rattle.std.proofs.Common.{◌≡◌, false}
 use Rattle.ce_run.specs.ImageBody.{ends_body}
 use Rattle.ce_run.proofs.BodyText.{goes_on}
 use Rattle.ce_run.proofs.form.image.body_of.Goals as goal
