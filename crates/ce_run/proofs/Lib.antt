@@ -13,3 +13,4 @@ pub mod OneScript
 pub mod Reaching
 pub mod ReportParts
 pub mod Saying
+pub mod UserSteps

@@ -78,7 +78,7 @@ spawned_stands image = record {
   queue_is = spawned_waiting;
   armed_is = spawned_armed;
   used_is = spawned_used;
-  rest_is = λ items. refl;
+  quiet_is = λ items. refl;
   after_is = spawned_after image;
 }
 

@@ -32,20 +32,20 @@ abbrev pub held_cube : ℕ → ℕ → Held
 held_cube armed used = record { number = 0; grant = first_grant; drained = false; armed = armed; dispatched = used }
 
 abbrev pub one_state : ℕ → ℕ → NodeState → MachineState
-one_state armed used at = record { grant_count = 1; held = held_cube armed used ∷ []; nodes = at ∷ [] }
+one_state armed used kept_of_node = record { grant_count = 1; held = held_cube armed used ∷ []; nodes = kept_of_node ∷ [] }
 
--- What holds of the trace t behind the grant: the history is one that the machine allows, the trace is the cube's own, and
--- both models agree on the node, on what waits there, on the counts and on rest.
-pub record Stands (image : ImageParts) (t : List Entry) (node : Node) (armed used : ℕ) (at : NodeState) : Type 0 where
+-- What holds of the trace t behind the grant: the history is one that the machine allows, the trace is the one that the cube
+-- gives alone, and what the machine keeps of the node and of the cube's counts is what the trace says of them.
+pub record Stands (image : ImageParts) (t : List Entry) (node : Node) (armed used : ℕ) (kept_of_node : NodeState) : Type 0 where
   pub inner : AllByRecursion IsInnerStep t
   pub lawful : IsLawful (one_machine image) (first_entry ∷ t)
   pub alone : IsAlone (one_cube image) t
   pub node_is : state (one_cube image) 0 t ≡ node
-  pub queue_is : waiting_at 0 t ≡ at.queue
+  pub queue_is : waiting_at 0 t ≡ kept_of_node.queue
   pub armed_is : armed_of t ≡ armed
   pub used_is : dispatched_of t ≡ used
-  pub rest_is : (items : List Given) → is_node_quiet items (last_of 0 t) ≡ (at.idle && has_no_eligible at.asking at.dead items)
-  pub after_is : after (one_machine image) (first_entry ∷ t) ≡ one_state armed used at
+  pub quiet_is : (items : List Given) → is_node_quiet items (last_of 0 t) ≡ (kept_of_node.idle && has_no_eligible kept_of_node.asking kept_of_node.dead items)
+  pub after_is : after (one_machine image) (first_entry ∷ t) ≡ one_state armed used kept_of_node
 
 of_cube : (parts : MachineParts) (history : List Entry) (st : MachineState) (cube : Held) (P : Held → Type 0)
     → after parts history ≡ st → held_by st 0 ≡ Some cube → P cube → HoldsCube parts history 0 P
@@ -65,21 +65,21 @@ quiet_by : (image : ImageParts) (t : List Entry) → is_quiet (one_cube image) t
 unfolding is_quiet
 quiet_by image t = both (is_node_quiet (waiting_at 0 t) (last_of 0 t))
 
-module _ (image : ImageParts) (t : List Entry) (node : Node) (armed used : ℕ) (at : NodeState) (s : Stands image t node armed used at) where
+module _ (image : ImageParts) (t : List Entry) (node : Node) (armed used : ℕ) (kept_of_node : NodeState) (s : Stands image t node armed used kept_of_node) where
   -- the machine after one step more
-  after_step : (entry : Entry) → after (one_machine image) (first_entry ∷ (t ++ entry ∷ [])) ≡ changed_by (one_state armed used at) entry
+  after_step : (entry : Entry) → after (one_machine image) (first_entry ∷ (t ++ entry ∷ [])) ≡ changed_by (one_state armed used kept_of_node) entry
   after_step entry = after-more (one_machine image) (first_entry ∷ t) entry ∙ ap (λ st. changed_by st entry) s.after_is
 
   -- a step that neither sends nor takes leaves what waits
-  queue_stays : (entry : Entry) → waiting_at 0 (t ++ entry ∷ []) ≡ waiting_at 0 t ++ [] → waiting_at 0 (t ++ entry ∷ []) ≡ at.queue
+  queue_stays : (entry : Entry) → waiting_at 0 (t ++ entry ∷ []) ≡ waiting_at 0 t ++ [] → waiting_at 0 (t ++ entry ∷ []) ≡ kept_of_node.queue
   queue_stays entry e = e ∙ append-nil (waiting_at 0 t) ∙ s.queue_is
 
-  rest_stays : (entry : Entry) → (entry.actor == 0) ≡ false → (items : List Given)
-      → is_node_quiet items (last_of 0 (t ++ entry ∷ [])) ≡ (at.idle && has_no_eligible at.asking at.dead items)
-  rest_stays entry a items =
-      ap (is_node_quiet items) (last_of-more 0 t entry ∙ ap (λ b. if b then Some entry else last_of 0 t) a) ∙ s.rest_is items
+  quiet_stays : (entry : Entry) → (entry.actor == 0) ≡ false → (items : List Given)
+      → is_node_quiet items (last_of 0 (t ++ entry ∷ [])) ≡ (kept_of_node.idle && has_no_eligible kept_of_node.asking kept_of_node.dead items)
+  quiet_stays entry a items =
+      ap (is_node_quiet items) (last_of-more 0 t entry ∙ ap (λ b. if b then Some entry else last_of 0 t) a) ∙ s.quiet_is items
 
-  pub arm_step : (count : ℕ) → count ≤ 1000000 → Stands image (t ++ host_entry (Arm count) ∷ []) node count 0 at
+  pub arm_step : (count : ℕ) → count ≤ 1000000 → Stands image (t ++ host_entry (Arm count) ∷ []) node count 0 kept_of_node
   arm_step count le =
       let entry : Entry = host_entry (Arm count) in
       record {
@@ -88,8 +88,8 @@ module _ (image : ImageParts) (t : List Entry) (node : Node) (armed used : ℕ) 
           lit< tt,
           (
             le,
-            of_cube (one_machine image) (first_entry ∷ t) (one_state armed used at) (held_cube armed used) _ s.after_is refl
-                (refl, answered (one_machine image) (first_entry ∷ t) (one_state armed used at) (held_cube armed used) HOST (Arm count) s.after_is refl refl),
+            of_cube (one_machine image) (first_entry ∷ t) (one_state armed used kept_of_node) (held_cube armed used) _ s.after_is refl
+                (refl, answered (one_machine image) (first_entry ∷ t) (one_state armed used kept_of_node) (held_cube armed used) HOST (Arm count) s.after_is refl refl),
           ),
         );
         alone = alone-more (one_cube image) t entry s.alone refl;
@@ -97,13 +97,13 @@ module _ (image : ImageParts) (t : List Entry) (node : Node) (armed used : ℕ) 
         queue_is = queue_stays entry (waiting_at-sent 0 t entry refl);
         armed_is = armed_of-more t entry count refl;
         used_is = dispatched_of-arm t entry refl;
-        rest_is = rest_stays entry refl;
+        quiet_is = quiet_stays entry refl;
         after_is = after_step entry;
       }
 
-  all_quiet_by : is_all_quiet (one_state armed used at) (held_cube armed used) ≡ (at.idle && has_no_eligible at.asking at.dead at.queue)
+  all_quiet_by : is_all_quiet (one_state armed used kept_of_node) (held_cube armed used) ≡ (kept_of_node.idle && has_no_eligible kept_of_node.asking kept_of_node.dead kept_of_node.queue)
   unfolding deposit
-  all_quiet_by = both (at.idle && has_no_eligible at.asking at.dead at.queue)
+  all_quiet_by = both (kept_of_node.idle && has_no_eligible kept_of_node.asking kept_of_node.dead kept_of_node.queue)
 
   -- what a node is given uses one dispatch where it is work
   abbrev used_after : Given → ℕ
@@ -123,17 +123,17 @@ module _ (image : ImageParts) (t : List Entry) (node : Node) (armed used : ℕ) 
   used_more dead Idle = dispatched_of-more t (node_entry (Take 0 dead None Idle)) refl ∙ zero-add (dispatched_of t) ∙ s.used_is
   used_more dead Spent = dispatched_of-more t (node_entry (Take 0 dead None Spent)) refl ∙ zero-add (dispatched_of t) ∙ s.used_is
 
-  rest_taken : (dead : ℕ) (given : Given) (items : List Given) → is_quiet_after items (Take 0 dead None given) ≡ (is_idle given && has_no_eligible 0 dead items)
-  rest_taken dead (Start pid number) items = refl
-  rest_taken dead (Mail pid number) items = refl
-  rest_taken dead (Kill pid) items = refl
-  rest_taken dead (Poll pid) items = refl
-  rest_taken dead Idle items = refl
-  rest_taken dead Spent items = refl
+  quiet_taken : (dead : ℕ) (given : Given) (items : List Given) → is_quiet_after items (Take 0 dead None given) ≡ (is_idle given && has_no_eligible 0 dead items)
+  quiet_taken dead (Start pid number) items = refl
+  quiet_taken dead (Mail pid number) items = refl
+  quiet_taken dead (Kill pid) items = refl
+  quiet_taken dead (Poll pid) items = refl
+  quiet_taken dead Idle items = refl
+  quiet_taken dead Spent items = refl
 
   after_taken : (dead : ℕ) (given : Given)
-      → changed_by (one_state armed used at) (node_entry (Take 0 dead None given))
-      ≡ one_state armed (used_after given) (asked 0 dead given at)
+      → changed_by (one_state armed used kept_of_node) (node_entry (Take 0 dead None given))
+      ≡ one_state armed (used_after given) (asked 0 dead given kept_of_node)
   after_taken dead (Start pid number) = refl
   after_taken dead (Mail pid number) = refl
   after_taken dead (Kill pid) = refl
@@ -156,9 +156,9 @@ module _ (image : ImageParts) (t : List Entry) (node : Node) (armed used : ℕ) 
   }
 
   pub take_step : (dead : ℕ) (given : Given) → (says node).call ≡ take_work 0 dead None
-      → offered (find (is_eligible 0 dead) at.queue) None (used == armed) ≡ given
+      → offered (find (is_eligible 0 dead) kept_of_node.queue) None (used == armed) ≡ given
       → Stands image (t ++ node_entry (Take 0 dead None given) ∷ []) (hears (image ∷ []) (says node).node (got given)) armed (used_after given)
-      (asked 0 dead given at)
+      (asked 0 dead given kept_of_node)
   take_step dead given h g =
       let what : What = Take 0 dead None given in
       let entry : Entry = node_entry what in
@@ -166,17 +166,17 @@ module _ (image : ImageParts) (t : List Entry) (node : Node) (armed used : ℕ) 
       ap (what_of t 0) (ap (λ n. (says n).call) s.node_is ∙ h)
       ∙ ap (λ given'. Take 0 dead None given') (
       ap (λ queue. offered (find (is_eligible 0 dead) queue) None (is_used_up t)) s.queue_is
-      ∙ ap (λ n. offered (find (is_eligible 0 dead) at.queue) None (n == armed_of t)) s.used_is
-      ∙ ap (λ n. offered (find (is_eligible 0 dead) at.queue) None (used == n)) s.armed_is
+      ∙ ap (λ n. offered (find (is_eligible 0 dead) kept_of_node.queue) None (n == armed_of t)) s.used_is
+      ∙ ap (λ n. offered (find (is_eligible 0 dead) kept_of_node.queue) None (used == n)) s.armed_is
       ∙ g
       ) in
       record {
         inner = all_more t entry s.inner (take_inner dead given);
         lawful = lawful-more (one_machine image) (first_entry ∷ t) entry s.lawful (
           lit< tt,
-          of_cube (one_machine image) (first_entry ∷ t) (one_state armed used at) (held_cube armed used) _ s.after_is refl (
+          of_cube (one_machine image) (first_entry ∷ t) (one_state armed used kept_of_node) (held_cube armed used) _ s.after_is refl (
             is_said what (take_work 0 dead None) h refl refl,
-            answered (one_machine image) (first_entry ∷ t) (one_state armed used at) (held_cube armed used) 0 what s.after_is refl
+            answered (one_machine image) (first_entry ∷ t) (one_state armed used kept_of_node) (held_cube armed used) 0 what s.after_is refl
                 (ap (λ given'. Some (Take 0 dead None given')) g),
           ),
         );
@@ -185,11 +185,11 @@ module _ (image : ImageParts) (t : List Entry) (node : Node) (armed used : ℕ) 
         queue_is = queue_taken entry (item_of what) refl refl refl ∙ ap (without (item_of what)) s.queue_is;
         armed_is = armed_of-stays t entry refl ∙ s.armed_is;
         used_is = used_more dead given;
-        rest_is = λ items. ap (is_node_quiet items) (last_of-more 0 t entry) ∙ rest_taken dead given items;
+        quiet_is = λ items. ap (is_node_quiet items) (last_of-more 0 t entry) ∙ quiet_taken dead given items;
         after_is = after_step entry ∙ after_taken dead given;
       }
 
-  pub note_step : (word : ℕ) → (says node).call ≡ note_word 0 word → Stands image (t ++ node_entry (Note 0 word) ∷ []) (hears (image ∷ []) (says node).node noted) armed used (busy at)
+  pub note_step : (word : ℕ) → (says node).call ≡ note_word 0 word → Stands image (t ++ node_entry (Note 0 word) ∷ []) (hears (image ∷ []) (says node).node noted) armed used (busy kept_of_node)
   note_step word h =
       let what : What = Note 0 word in
       let entry : Entry = node_entry what in
@@ -197,9 +197,9 @@ module _ (image : ImageParts) (t : List Entry) (node : Node) (armed used : ℕ) 
         inner = all_more t entry s.inner (note_inner word);
         lawful = lawful-more (one_machine image) (first_entry ∷ t) entry s.lawful (
           lit< tt,
-          of_cube (one_machine image) (first_entry ∷ t) (one_state armed used at) (held_cube armed used) _ s.after_is refl (
+          of_cube (one_machine image) (first_entry ∷ t) (one_state armed used kept_of_node) (held_cube armed used) _ s.after_is refl (
             is_said what (note_word 0 word) h refl refl,
-            answered (one_machine image) (first_entry ∷ t) (one_state armed used at) (held_cube armed used) 0 what s.after_is refl refl,
+            answered (one_machine image) (first_entry ∷ t) (one_state armed used kept_of_node) (held_cube armed used) 0 what s.after_is refl refl,
           ),
         );
         alone = alone-more (one_cube image) t entry s.alone
@@ -208,29 +208,29 @@ module _ (image : ImageParts) (t : List Entry) (node : Node) (armed used : ℕ) 
         queue_is = queue_stays entry (waiting_at-sent 0 t entry refl);
         armed_is = armed_of-stays t entry refl ∙ s.armed_is;
         used_is = dispatched_of-more t entry refl ∙ zero-add (dispatched_of t) ∙ s.used_is;
-        rest_is = λ items. ap (is_node_quiet items) (last_of-more 0 t entry);
+        quiet_is = λ items. ap (is_node_quiet items) (last_of-more 0 t entry);
         after_is = after_step entry;
       }
 
-  pub look_step : (quiet : Bool) (found : Found) → (at.idle && has_no_eligible at.asking at.dead at.queue) ≡ quiet
-      → found_where quiet (used == armed) ≡ found → Stands image (t ++ host_entry (Look found) ∷ []) node armed used at
+  pub look_step : (quiet : Bool) (found : Found) → (kept_of_node.idle && has_no_eligible kept_of_node.asking kept_of_node.dead kept_of_node.queue) ≡ quiet
+      → found_where quiet (used == armed) ≡ found → Stands image (t ++ host_entry (Look found) ∷ []) node armed used kept_of_node
   look_step quiet found q f =
       let what : What = Look found in
       let entry : Entry = host_entry what in
-      let quiet_is : is_quiet (one_cube image) t ≡ quiet =
-      quiet_by image t ∙ ap (λ queue. is_node_quiet queue (last_of 0 t)) s.queue_is ∙ s.rest_is at.queue ∙ q in
+      let cube_is_quiet : is_quiet (one_cube image) t ≡ quiet =
+      quiet_by image t ∙ ap (λ queue. is_node_quiet queue (last_of 0 t)) s.queue_is ∙ s.quiet_is kept_of_node.queue ∙ q in
       record {
         inner = all_more t entry s.inner (look_inner found);
         lawful = lawful-more (one_machine image) (first_entry ∷ t) entry s.lawful (
           lit< tt,
-          of_cube (one_machine image) (first_entry ∷ t) (one_state armed used at) (held_cube armed used) _ s.after_is refl (
+          of_cube (one_machine image) (first_entry ∷ t) (one_state armed used kept_of_node) (held_cube armed used) _ s.after_is refl (
             refl,
-            answered (one_machine image) (first_entry ∷ t) (one_state armed used at) (held_cube armed used) HOST what s.after_is refl
+            answered (one_machine image) (first_entry ∷ t) (one_state armed used kept_of_node) (held_cube armed used) HOST what s.after_is refl
                 (ap (λ b. Some (Look (found_where b (used == armed)))) (all_quiet_by ∙ q) ∙ ap (λ found'. Some (Look found')) f),
           ),
         );
         alone = alone-more (one_cube image) t entry s.alone (ap (λ w. Some (stepped (one_cube image) t [] HOST w)) (ap Look (
-            ap (λ b. found_where b (is_used_up t)) quiet_is
+            ap (λ b. found_where b (is_used_up t)) cube_is_quiet
             ∙ ap (λ n. found_where quiet (n == armed_of t)) s.used_is
             ∙ ap (λ n. found_where quiet (used == n)) s.armed_is
             ∙ f
@@ -239,6 +239,6 @@ module _ (image : ImageParts) (t : List Entry) (node : Node) (armed used : ℕ) 
         queue_is = queue_stays entry (waiting_at-sent 0 t entry refl);
         armed_is = armed_of-stays t entry refl ∙ s.armed_is;
         used_is = dispatched_of-more t entry refl ∙ zero-add (dispatched_of t) ∙ s.used_is;
-        rest_is = rest_stays entry refl;
+        quiet_is = quiet_stays entry refl;
         after_is = after_step entry;
       }

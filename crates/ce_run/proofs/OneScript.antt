@@ -51,6 +51,7 @@ pub of_script : (text : List ℕ) (form : BuiltForm) (P : Script → Type 0) →
 of_script text form P says p script is =
     subst P (ap script_of_form (one_form text form is.0 says is.1) ∙ sym is.2) p
 
+-- the same of what is kept of a run, where the source told its bytes
 pub of_kept : {R : Type 0} (kept : Option R) (left : Option (List ℕ)) (form : BuiltForm) (Q : List ℕ → Type 0) (P : R → Script → Type 0)
     → IfSome left (λ text. Q text × Says text form) → IfSome kept (λ k. P k (script_of_form form)) → IfSome kept (λ k. OfScript left (P k))
 of_kept None left form Q P says p = tt
