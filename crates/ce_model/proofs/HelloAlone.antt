@@ -7,7 +7,7 @@ use Rattle.ce_model.specs.declared.entry.Entry.{Entry}
 use Rattle.ce_model.specs.declared.entry.What.TheVariants.{Arm, Look, Spawn, Note, Take}
 use Rattle.ce_model.specs.declared.entry.Found.TheVariants.{Quiet}
 use Rattle.ce_model.specs.declared.entry.Given.TheVariants.{Start, Idle}
-use Rattle.ce_model.specs.Image.{ImageParts}
+use Rattle.rv_model.specs.Image.{ImageParts}
 use Rattle.ce_model.specs.Node.{Node, fresh, take_work, note_word, says, got, noted, hears}
 use Rattle.ce_model.specs.Cube.{Cube, spawns, arms, looks, step_by, state, waiting_at, armed_of, dispatched_of, is_quiet, is_fresh, acted, solo, IsAlone}
 

@@ -11,7 +11,7 @@ use Rattle.ce_model.specs.declared.entry.Found.{Found}
 use Rattle.ce_model.specs.declared.entry.Found.TheVariants.{Quiet, Spent as FoundSpent, Busy}
 use Rattle.ce_model.specs.declared.entry.Given.{Given}
 use Rattle.ce_model.specs.declared.entry.Given.TheVariants.{Start, Mail, Kill, Poll, Idle, Spent}
-use Rattle.ce_model.specs.Image.{ImageParts}
+use Rattle.rv_model.specs.Image.{ImageParts}
 use Rattle.ce_model.specs.Node.{Node, fresh, Call, take_work, note_word, says, Heard, got, noted, hears}
 
 -- a cube: whose it is, its dimension, and the images that its processes start from

@@ -1,12 +1,6 @@
 pub mod Cube
-pub mod Exec
-pub mod Image
-pub mod LittleEndian
 pub mod Machine
 pub mod Node
-pub mod Private
 pub mod Process
 pub mod Subcubes
 pub mod Views
-pub mod Word
-pub mod Words

@@ -10,7 +10,7 @@ use Rattle.ce_model.specs.declared.entry.What.{What}
 use Rattle.ce_model.specs.declared.entry.What.TheVariants.{Getcube, Peek, Drain, Freecube, Arm, Look, Spawn, Note, Take}
 use Rattle.ce_model.specs.declared.entry.Given.{Given}
 use Rattle.ce_model.specs.declared.entry.Given.TheVariants.{Start, Idle}
-use Rattle.ce_model.specs.Image.{ImageParts}
+use Rattle.rv_model.specs.Image.{ImageParts}
 use Rattle.ce_model.specs.Node.{Call, take_work, note_word}
 use Rattle.ce_model.specs.Subcubes.{relative, is_inside, all_nodes, first_free}
 use Rattle.ce_model.specs.Views.{Granted, what_in, view}

@@ -2,10 +2,10 @@
 use Rattle.std.specs.Prelude.{ℕ, ◌+◌, ◌*◌, ◌-◌, List, [], ◌∷◌, Option, Some, None, Bool, true, false, if◌then◌else◌, ◌==◌, replicate, slice_index, slice_set, slice_index_or}
 use Rattle.ce_model.specs.declared.process.Status.{Status}
 use Rattle.ce_model.specs.declared.process.Status.TheVariants.{Running, Asking, Polling, Stopped}
-use Rattle.ce_model.specs.declared.process.Stop.TheVariants.{Exited, Killed, NoCall, TurnSpent}
+use Rattle.rv_model.specs.declared.stop.Stop.TheVariants.{Exited, Killed, NoCall, TurnSpent}
 use Rattle.ce_model.specs.declared.entry.Given.{Given}
 use Rattle.ce_model.specs.declared.entry.Given.TheVariants.{Start, Mail, Kill, Poll, Idle, Spent}
-use Rattle.ce_model.specs.Image.{ImageParts, image_start}
+use Rattle.rv_model.specs.Image.{ImageParts, image_start}
 use Rattle.ce_model.specs.Process.{Process, unborn, started, ended, Reached, at_call, at_end, reached}
 
 -- the turn of a process: its id, and how many instructions and how many counted calls it may still make

@@ -3,11 +3,11 @@ use Rattle.std.specs.Prelude.{ℕ, zero, suc, List, []}
 use Rattle.std.specs.Prelude.{replicate, slice_set}
 use Rattle.ce_model.specs.declared.process.Status.{Status}
 use Rattle.ce_model.specs.declared.process.Status.TheVariants.{Unborn, Running, Stopped}
-use Rattle.ce_model.specs.declared.process.Stop.{Stop}
-use Rattle.ce_model.specs.declared.process.Stop.TheVariants.{TurnSpent}
-use Rattle.ce_model.specs.Exec.{Outcome, went, called, stopped, exec}
-use Rattle.ce_model.specs.Image.{ImageParts}
-use Rattle.ce_model.specs.Private.{private_access, with_loaded}
+use Rattle.rv_model.specs.declared.stop.Stop.{Stop}
+use Rattle.rv_model.specs.declared.stop.Stop.TheVariants.{TurnSpent}
+use Rattle.rv_model.specs.Exec.{Outcome, went, called, stopped, exec}
+use Rattle.rv_model.specs.Image.{ImageParts}
+use Rattle.rv_model.specs.Private.{private_access, with_loaded}
 
 -- what a process does, its registers, its pc, and its private memory
 pub record Process : Type 0 where

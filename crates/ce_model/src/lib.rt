@@ -1,17 +1,14 @@
-//! The plain types that the whole machine speaks of: places, blocks, nodes, instructions, states of a
-//! process, and the entries of a machine's history. It knows no rule; the rules are definitions in `specs/`.
+//! The plain types that the whole machine speaks of: places, blocks, nodes, states of a process, and the entries of
+//! a machine's history, with those of `rv_model`. It knows no rule; the rules are definitions in `specs/`.
 #![tactic(auto)]
 
 mod entry;
-mod inst;
 mod lists;
-mod memory;
 mod process;
 mod topology;
 
 pub use entry::{Entry, Found, Given, KillFound, What};
-pub use inst::{BranchOp, ImmOp, Inst, LoadOp, RegOp, StoreOp};
 pub use lists::{Bytes, Targets};
-pub use memory::NoMemory;
-pub use process::{Status, Stop};
+pub use process::Status;
+pub use rv_model::{BranchOp, ImmOp, Inst, LoadOp, NoMemory, RegOp, Stop, StoreOp};
 pub use topology::{BlockId, HOST, NodeSet, Place, Subcube};

@@ -7,7 +7,7 @@ use Rattle.ce_model.specs.declared.entry.Entry.{Entry}
 use Rattle.ce_model.specs.declared.entry.What.TheVariants.{Arm, Look, Note, Take}
 use Rattle.ce_model.specs.declared.entry.Found.TheVariants.{Quiet as FoundQuiet, Spent as FoundSpent}
 use Rattle.ce_model.specs.declared.entry.Given.TheVariants.{Start, Idle, Spent as GivenSpent}
-use Rattle.ce_model.specs.Image.{ImageParts}
+use Rattle.rv_model.specs.Image.{ImageParts}
 use Rattle.ce_model.specs.Node.{Node, fresh, got, noted, hears, says, take_work}
 use Rattle.ce_model.specs.Subcubes.{deposit, extract, first_free, subcubes}
 use Rattle.ce_model.specs.Views.{Granted as Grant}

@@ -10,7 +10,7 @@ use Rattle.ce_model.specs.declared.entry.What.TheVariants.{Arm, Look, Note, Take
 use Rattle.ce_model.specs.declared.entry.Found.{Found}
 use Rattle.ce_model.specs.declared.entry.Given.{Given}
 use Rattle.ce_model.specs.declared.entry.Given.TheVariants.{Start, Mail, Kill, Poll, Idle, Spent}
-use Rattle.ce_model.specs.Image.{ImageParts}
+use Rattle.rv_model.specs.Image.{ImageParts}
 use Rattle.ce_model.specs.Node.{Node, Call, got, noted, hears, says, note_word, take_work}
 use Rattle.ce_model.specs.Subcubes.{relative, extract, deposit}
 use Rattle.ce_model.specs.Views.{what_in, view}

@@ -1,6 +1,6 @@
 -- A text is one script at most.
 use Rattle.std.proofs.Common.{◌≡◌, ℕ, List, Option, Some, None, IfSome, Ok, Result, ap, sym, ◌∙◌, subst}
-use Rattle.ce_model.specs.Image.{ImageParts, image_parts, image_start}
+use Rattle.rv_model.specs.Image.{ImageParts, image_parts, image_start}
 use Rattle.rv_asm.specs.declared.fault.AsmFault.{AsmFault}
 use Rattle.rv_asm.specs.Assembly.{Assembly, assembled, IsLaidOut}
 use Rattle.rv_asm.specs.Spelling.{Spells}

@@ -1,7 +1,7 @@
 -- What a node with a running process says, by what its process comes to.
 use Rattle.std.proofs.Common.{◌≡◌, ℕ, ◌-◌, ◌==◌, true, false, List, [], ◌∷◌, None, slice_index, refl, ap, sym, subst}
-use Rattle.ce_model.specs.declared.process.Stop.{Stop}
-use Rattle.ce_model.specs.declared.process.Stop.TheVariants.{Exited, NoCall, TurnSpent}
+use Rattle.rv_model.specs.declared.stop.Stop.{Stop}
+use Rattle.rv_model.specs.declared.stop.Stop.TheVariants.{Exited, NoCall, TurnSpent}
 use Rattle.ce_model.specs.Process.{at_call, at_end, ended, reached}
 use Rattle.ce_model.specs.Node.{Node, Saying, take_work, note_word, says, hears}
 use Rattle.ce_run.specs.declared.process.Process.{Process}

@@ -2,7 +2,7 @@
 -- `user NAME`; `getcube 0`; `spawn NAME 0 0`; `run N`.
 use Rattle.std.specs.Prelude.{◌≡◌, ℕ, ◌-◌, List, [], ◌∷◌, ◌++◌, Option, Some, None, ◌&&◌, if◌then◌else◌, length, take, drop, codes, option_map}
 use Rattle.std.specs.Str.{bytes_eq}
-use Rattle.ce_model.specs.Image.{ImageParts}
+use Rattle.rv_model.specs.Image.{ImageParts}
 use Rattle.ce_run.specs.Lines.{◌>>=◌, lines_of, after_prefix, before_suffix}
 use Rattle.ce_run.specs.Words.{is_name, count_of}
 use Rattle.ce_run.specs.ImageBody.{Describes, ends_body}

@@ -8,7 +8,7 @@ use Rattle.ce_model.specs.declared.entry.What.{What}
 use Rattle.ce_model.specs.declared.entry.What.TheVariants.{Getcube as AskedCube, Arm, Look, Spawn as Spawned, Take}
 use Rattle.ce_model.specs.declared.entry.Found.{Found}
 use Rattle.ce_model.specs.declared.entry.Found.TheVariants.{Quiet as FoundQuiet, Spent as FoundSpent, Busy}
-use Rattle.ce_model.specs.Image.{ImageParts}
+use Rattle.rv_model.specs.Image.{ImageParts}
 use Rattle.ce_model.specs.Views.{Granted, entry_in}
 use Rattle.ce_model.specs.Cube.{Cube, node_numbers, is_place, step_by, is_dispatch}
 use Rattle.ce_model.specs.Machine.{cube_of}

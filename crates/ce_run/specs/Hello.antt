@@ -3,7 +3,7 @@ use Rattle.std.specs.Prelude.{ℕ, List, [], ◌∷◌, ◌++◌, None, true, co
 use Rattle.ce_model.specs.declared.entry.What.TheVariants.{Arm, Look, Spawn, Note, Take}
 use Rattle.ce_model.specs.declared.entry.Found.TheVariants.{Quiet as FoundQuiet}
 use Rattle.ce_model.specs.declared.entry.Given.TheVariants.{Start, Idle}
-use Rattle.ce_model.specs.Image.{image_parts}
+use Rattle.rv_model.specs.Image.{image_parts}
 use Rattle.ce_run.specs.declared.form.BuiltForm.{BuiltForm}
 use Rattle.ce_run.specs.declared.record.Record.{Record}
 use Rattle.ce_run.specs.declared.record.Command.TheVariants.{Getcube as AskCube, Spawn as AskSpawn, Run}

@@ -3,7 +3,7 @@ use Rattle.std.specs.Prelude.{◌≡◌, ℕ, ◌==◌, Bool, List, [], ◌∷�
 use Rattle.std.specs.List.{slice_split}
 use Rattle.std.specs.Str.{bytes_eq}
 use Rattle.std.specs.Int.{w32, to_le_bytes}
-use Rattle.ce_model.specs.Image.{ImageParts, IsImage, image_parts, image_start}
+use Rattle.rv_model.specs.Image.{ImageParts, IsImage, image_parts, image_start}
 use Rattle.rv_asm.specs.Assembly.{Assembles}
 use Rattle.rv_asm.specs.Line.{is_blank, code_of, trimmed}
 use Rattle.rv_image.specs.Rki1.{IsRki1}

@@ -2,7 +2,7 @@
 use Rattle.std.specs.Prelude.{◌≡◌, ℕ, ◌==◌, List, None, map, filter, zip, length, unwrap_or}
 use Rattle.std.specs.List.{AllByRecursion, enumerate_from}
 use Rattle.ce_model.specs.declared.entry.Entry.{Entry}
-use Rattle.ce_model.specs.Image.{ImageParts}
+use Rattle.rv_model.specs.Image.{ImageParts}
 use Rattle.ce_model.specs.Views.{Granted, grants_of, view}
 use Rattle.ce_model.specs.Cube.{IsAlone}
 use Rattle.ce_model.specs.Machine.{MachineParts, IsLawful, cube_of}

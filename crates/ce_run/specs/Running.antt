@@ -1,10 +1,10 @@
 -- The process and the node of the model that a running process stands for.
 use Rattle.std.specs.Prelude.{◌≡◌, [], ◌∷◌, Some, None, replicate}
-use Rattle.ce_model.specs.declared.process.Stop.{Stop}
+use Rattle.rv_model.specs.declared.stop.Stop.{Stop}
 use Rattle.ce_model.specs.declared.process.Status.TheVariants.{Running}
 use Rattle.ce_model.specs.declared.entry.Given.TheVariants.{Start}
 use Rattle.ce_model.specs.Process.{Process as ModelProcess, unborn, ended}
-use Rattle.ce_model.specs.Image.{ImageParts}
+use Rattle.rv_model.specs.Image.{ImageParts}
 use Rattle.ce_model.specs.Node.{Node, fresh, got, hears}
 use Rattle.ce_run.specs.declared.process.Process.{Process}
 

@@ -1,6 +1,6 @@
 -- What a script says.
 use Rattle.std.specs.Prelude.{◌≡◌, ℕ, List, [], ◌∷◌, Option, Some, IfSome}
-use Rattle.ce_model.specs.Image.{ImageParts}
+use Rattle.rv_model.specs.Image.{ImageParts}
 use Rattle.ce_run.specs.declared.record.Command.{Command}
 use Rattle.ce_run.specs.declared.record.Command.TheVariants.{Getcube, Spawn, Run}
 use Rattle.ce_run.specs.declared.form.BuiltForm.{BuiltForm}

@@ -6,11 +6,9 @@ ghost use Rattle.ce_run.specs.Running.{process_of, running_node, ended_node, IsS
 
 use ce_model::{NoMemory, Stop};
 use rv_image::Image;
+use rv_model::PRIVATE_END;
 use rv_step::{Event, PrivateMemory, Regs, step};
 use std::alloc::Global;
-
-/// The first value of the stack pointer: the end of a process's memory.
-const STACK: u32 = 0x0003_0000;
 
 /// The registers of the calling convention: the stack pointer, and those in which a kernel call finds its
 /// argument and its number.
@@ -49,7 +47,7 @@ impl Process {
         let mut memory = PrivateMemory::new(alloc)?;
         memory.load_image(image.loaded());
         let mut registers = Regs::new();
-        registers.set(SP, STACK);
+        registers.set(SP, PRIVATE_END);
         Ok(Process {
             registers,
             pc: image.entry(),

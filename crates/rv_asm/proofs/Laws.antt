@@ -4,7 +4,7 @@ use Rattle.std.specs.Int.{w32, to_le_bytes, from_le_bytes}
 use Rattle.std.proofs.lemmas.List.{take_at}
 use Rattle.std.proofs.lemmas.Nat.{from_le_bytes-to_le_bytes_4}
 use Rattle.std.proofs.Math.Seq.{drop-append-add}
-use Rattle.ce_model.specs.Words.{dec}
+use Rattle.rv_model.specs.Words.{dec}
 use Rattle.rv_inst.proofs.Joined.{one_word}
 use Rattle.rv_asm.specs.SecondPass.{Instruction, Plain}
 use Rattle.rv_asm.specs.Law.{parts_size, word_at, InstructionsDecode, OneSpelling}

@@ -1,6 +1,6 @@
 -- The image that a text describes.
 use Rattle.std.specs.Prelude.{◌≡◌, ℕ, not, List, Option, Some, None, Result, Ok, Err, codes}
-use Rattle.ce_model.specs.Image.{ImageParts, image_start}
+use Rattle.rv_model.specs.Image.{ImageParts, image_start}
 use Rattle.rv_image.specs.Fault.{is_entry}
 use Rattle.rv_asm.specs.declared.fault.AsmKind.TheVariants.{Entry}
 use Rattle.rv_asm.specs.declared.fault.AsmFault.{AsmFault}

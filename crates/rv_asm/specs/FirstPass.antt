@@ -1,7 +1,7 @@
 -- The first pass: each line is judged, and its statements get their places.
 use Rattle.std.specs.Prelude.{◌≡◌, ℕ, ◌+◌, ◌%◌, Bool, not, ◌&&◌, ◌==◌, nat_lt, if◌then◌else◌, List, [], ◌∷◌, ◌++◌, Option, Some, None, Result, Ok, Err, bytes_eq, codes}
 use Rattle.std.specs.List.{list_all, list_any}
-use Rattle.ce_model.specs.Image.{image_start, image_room}
+use Rattle.rv_model.specs.Image.{image_start, image_room}
 use Rattle.rv_asm.specs.declared.fault.AsmKind.{AsmKind}
 use Rattle.rv_asm.specs.declared.fault.AsmKind.TheVariants.{BadByte, NameTaken, UnknownWord, Unaligned, TooLarge}
 use Rattle.rv_asm.specs.declared.fault.AsmFault.{AsmFault}

@@ -1,8 +1,8 @@
 -- What is assembled decodes to what was written.
 use Rattle.std.specs.Prelude.{◌≡◌, ℕ, ◌+◌, List, [], ◌∷◌, ◌++◌, length, take, drop, Some}
 use Rattle.std.specs.Int.{w32, from_le_bytes}
-use Rattle.ce_model.specs.declared.inst.Inst.{Inst}
-use Rattle.ce_model.specs.Words.{dec}
+use Rattle.rv_model.specs.declared.inst.Inst.{Inst}
+use Rattle.rv_model.specs.Words.{dec}
 use Rattle.rv_asm.specs.SecondPass.{Part, Instruction, Plain}
 use Rattle.rv_asm.specs.Spelling.{Spells}
 

@@ -1,7 +1,7 @@
 -- Operands of statements.
 use Rattle.std.specs.Prelude.{◌≡◌, ℕ, ◌-◌, ◌^◌, ◌%◌, Bool, false, not, ◌&&◌, ◌==◌, if◌then◌else◌, List, [], ◌∷◌, Option, Some, None, Result, Ok, Err, length, ℤ, pos, negsuc, int_le}
-use Rattle.ce_model.specs.declared.inst.ImmOp.{ImmOp}
-use Rattle.ce_model.specs.declared.inst.ImmOp.TheVariants.{Slli, Srli, Srai}
+use Rattle.rv_model.specs.declared.inst.ImmOp.{ImmOp}
+use Rattle.rv_model.specs.declared.inst.ImmOp.TheVariants.{Slli, Srli, Srai}
 use Rattle.rv_asm.specs.declared.fault.AsmKind.{AsmKind}
 use Rattle.rv_asm.specs.declared.fault.AsmKind.TheVariants.{Operands, BadRegister, BadNumber, UnknownName}
 use Rattle.rv_asm.specs.declared.symbols.Symbol.{Symbol}

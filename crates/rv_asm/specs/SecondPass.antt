@@ -1,8 +1,8 @@
 -- The second pass: each statement becomes instructions or bytes.
 use Rattle.std.specs.Prelude.{ℕ, ◌+◌, ◌%◌, Bool, not, ◌&&◌, ◌==◌, List, [], ◌∷◌, ◌++◌, map, replicate, Option, Some, None, Result, Ok, Err, ℤ, pos, ◌-ℤ◌, neg_ℤ, int_le, int_lt, unsigned_abs}
 use Rattle.std.specs.Int.{w32, to_le_bytes}
-use Rattle.ce_model.specs.declared.inst.Inst.{Inst}
-use Rattle.ce_model.specs.declared.inst.Inst.TheVariants as insts
+use Rattle.rv_model.specs.declared.inst.Inst.{Inst}
+use Rattle.rv_model.specs.declared.inst.Inst.TheVariants as insts
 use Rattle.rv_asm.specs.declared.fault.AsmKind.{AsmKind}
 use Rattle.rv_asm.specs.declared.fault.AsmKind.TheVariants.{UnknownName, TooFar}
 use Rattle.rv_asm.specs.declared.fault.AsmFault.{AsmFault}

@@ -1,7 +1,7 @@
 -- The bytes of an image, and its parts.
 use Rattle.std.specs.Prelude.{◌≡◌, ℕ, ◌^◌, ◌<◌, List, [], ◌∷◌, ◌++◌, Some, Result, Ok, Err}
 use Rattle.std.specs.Int.{w32, to_le_bytes}
-use Rattle.ce_model.specs.Words.{dec}
+use Rattle.rv_model.specs.Words.{dec}
 use Rattle.rv_asm.specs.declared.fault.AsmKind.{AsmKind}
 use Rattle.rv_asm.specs.declared.fault.AsmFault.{AsmFault}
 use Rattle.rv_asm.specs.declared.fault.Halt.{Halt}

@@ -1,10 +1,11 @@
 -- What each statement means.
 use Rattle.std.specs.Prelude.{ℕ, ◌+◌, ◌*◌, ◌/◌, ◌-◌, ◌^◌, ◌%◌, Bool, not, ◌||◌, nat_lt, nat_le, if◌then◌else◌, List, [], ◌∷◌, map, Option, Some, None, Result, Ok, ℤ, pos, negsuc, unsigned_abs}
-use Rattle.ce_model.specs.declared.inst.Inst.{Inst}
-use Rattle.ce_model.specs.declared.inst.Inst.TheVariants as insts
-use Rattle.ce_model.specs.declared.inst.ImmOp.{ImmOp}
-use Rattle.ce_model.specs.declared.inst.ImmOp.TheVariants.{Addi}
-use Rattle.ce_model.specs.Words.{sign_extended}
+use Rattle.rv_model.specs.declared.inst.Inst.{Inst}
+use Rattle.rv_model.specs.declared.inst.Inst.TheVariants as insts
+use Rattle.rv_model.specs.declared.inst.ImmOp.{ImmOp}
+use Rattle.rv_model.specs.declared.inst.ImmOp.TheVariants.{Addi}
+use Rattle.rv_model.specs.Image.{image_room}
+use Rattle.rv_model.specs.Words.{sign_extended}
 use Rattle.rv_asm.specs.declared.fault.AsmKind.{AsmKind}
 use Rattle.rv_asm.specs.declared.fault.AsmKind.TheVariants.{Operands, BadNumber}
 use Rattle.rv_asm.specs.declared.symbols.Symbol.{Symbol}
@@ -127,11 +128,11 @@ byte_value names piece = do
   n ← ranged (negsuc 127) (pos 255) (number names piece)
   Ok (statements.Byte (byte_of n))
 
--- `n` of `.zero`, from 0 to 122,880
+-- `n` of `.zero`, from 0 to the most bytes that an image may take up
 unfoldable pub zero_count : Names → List ℕ → Result ℕ AsmKind
 zero_count names operands = do
   part ← one_piece operands
-  n ← ranged (pos 0) (pos 122880) (number names part)
+  n ← ranged (pos 0) (pos image_room) (number names part)
   Ok (unsigned_abs n)
 
 -- ---- the table

@@ -9,10 +9,8 @@ use crate::first_pass::first_pass;
 use crate::second_pass::second_pass;
 use crate::symbols::{Symbol, Symbols};
 use rv_image::Image;
+use rv_model::PRIVATE_START;
 use std::alloc::Global;
-
-/// Where an image begins.
-const START: u32 = 0x0001_0000;
 
 /// The label `start`, and the start of the image where no line has it.
 fn entry_of(symbols: &Symbols) -> u32
@@ -20,7 +18,7 @@ fn entry_of(symbols: &Symbols) -> u32
 {
     match symbols.meaning(b"start") {
         Some(Symbol::Label(address)) => address,
-        Some(Symbol::Number(_)) | None => START,
+        Some(Symbol::Number(_)) | None => PRIVATE_START,
     }
 }
 

@@ -3,7 +3,7 @@
 ghost use Rattle.std.specs.Prelude.{◌≡◌};
 ghost use Rattle.rv_asm.specs.declared.fault.Halt.TheVariants.{Memory, Fault};
 
-use ce_model::NoMemory;
+use rv_model::NoMemory;
 use std::alloc::{AllocError, AllocFailed};
 use thiserror::Error;
 

@@ -15,13 +15,8 @@ use crate::name::is_name;
 use crate::operand::{both, name_piece, number, two_pieces};
 use crate::statement::{Placed, Statement, statements_of};
 use crate::symbols::{Symbol, Symbols};
+use rv_model::{IMAGE_ROOM, PRIVATE_START};
 use std::alloc::Global;
-
-/// Where an image begins.
-const START: u32 = 0x0001_0000;
-
-/// How many bytes an image may take up.
-const ROOM: u32 = 122_880;
 
 fn size_of(statement: &Statement) -> u32
     ensures { result ≡ size_of statement.now }
@@ -61,7 +56,7 @@ fn place(layout: &mut Layout, line: u32, statement: Statement) -> Result<(), Hal
         return Err(Halt::Fault(AsmKind::Unaligned));
     }
     let size = size_of(&statement);
-    if size > ROOM - layout.size {
+    if size > IMAGE_ROOM - layout.size {
         return Err(Halt::Fault(AsmKind::TooLarge));
     }
     layout.statements.push(Placed { line, statement })?;
@@ -173,7 +168,7 @@ fn labelled(
     if !is_name(label) {
         return Err(Halt::Fault(AsmKind::UnknownWord));
     }
-    let address = START + layout.size;
+    let address = PRIVATE_START + layout.size;
     define(layout, label, Symbol::Label(address))?;
     statement(alloc, layout, line, trimmed(rest))
 }

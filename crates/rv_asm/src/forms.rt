@@ -11,7 +11,7 @@ use crate::operand::{
     both, memory, name_piece, number, one_piece, ranged, register, three_pieces, two_pieces,
 };
 use crate::symbols::Symbols;
-use ce_model::ImmOp;
+use rv_model::{IMAGE_ROOM, ImmOp};
 
 /// A number from -2^31 to 2^32 - 1, modulo 2^32.
 pub fn word_of(number: i64) -> u32
@@ -149,12 +149,12 @@ pub fn one_label(operands: &[u8]) -> Result<&[u8], AsmKind>
     Ok(label)
 }
 
-/// `n` from 0 to 122,880.
+/// `n` from 0 to the most bytes that an image may take up.
 #[tactic(auto, unfolding(crate::specs::Statements::zero_count))]
 pub fn zero_count(symbols: &Symbols, operands: &[u8]) -> Result<u32, AsmKind>
     ensures { result ≡ zero_count (names_of symbols.now) operands.now }
 {
     let n = one_piece(operands)?;
-    let n = ranged(0, 122_880, number(symbols, n))?;
+    let n = ranged(0, i64::from(IMAGE_ROOM), number(symbols, n))?;
     Ok(n as u32)
 }

@@ -1,6 +1,7 @@
 //! What is laid out in the first pass.
 
 ghost use Rattle.std.specs.Prelude.{◌≡◌, ◌≤◌, sum_by};
+ghost use Rattle.rv_model.specs.Image.{image_room};
 ghost use Rattle.rv_asm.specs.Sizes.{size_of};
 
 use crate::statement::Placed;
@@ -14,5 +15,5 @@ pub struct Layout {
     /// How many bytes the statements take.
     pub size: u32,
     ghost counted: { size ≡ sum_by (λ placed. size_of placed.statement) statements.items },
-    ghost fits: { size ≤ 122_880 },
+    ghost fits: { size ≤ image_room },
 }

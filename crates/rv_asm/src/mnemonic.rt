@@ -5,7 +5,7 @@ ghost use Rattle.rv_asm.specs.Sound.{IsSoundWord};
 ghost use Rattle.rv_asm.specs.Words.{mnemonic_of};
 
 use crate::table::look_up;
-use ce_model::{BranchOp, ImmOp, Inst, LoadOp, RegOp, StoreOp};
+use rv_model::{BranchOp, ImmOp, Inst, LoadOp, RegOp, StoreOp};
 
 /// What a statement's word asks for. `.equ`, which lays nothing, is not among them.
 #[derive(Clone, Copy, Debug)]

@@ -3,7 +3,7 @@
 ghost use Rattle.std.specs.Prelude.{◌≡◌, ◌+◌, ◌^◌, ◌≤◌, ◌∷◌, [], ◌++◌, replicate, vec_len, pos, neg_ℤ, ◌≤ℤ◌, ◌<ℤ◌, Ok, IfOk, OnOk};
 ghost use Rattle.std.specs.Int.{w32, to_le_bytes};
 ghost use Rattle.rv_inst.specs.Valid.{IsRegister, IsEven, IsValid};
-ghost use Rattle.ce_model.specs.Image.{image_start};
+ghost use Rattle.rv_model.specs.Image.{image_start, image_room};
 ghost use Rattle.rv_asm.specs.Symbols.{names_of};
 ghost use Rattle.rv_asm.specs.Sizes.{size_of};
 ghost use Rattle.rv_asm.specs.Sound.{IsSound, ArePlacedSound};
@@ -16,12 +16,9 @@ use crate::layout::Layout;
 use crate::name::Name;
 use crate::statement::{Statement, two_instructions};
 use crate::symbols::{Symbol, Symbols};
-use ce_model::{BranchOp, Inst};
 use rv_inst::encode;
+use rv_model::{BranchOp, Inst, PRIVATE_START};
 use std::alloc::{AllocError, Global};
-
-/// Where an image begins.
-const START: u32 = 0x0001_0000;
 
 /// A jump goes less than so many bytes forward, and at most so many backward.
 const JUMP_REACH: u32 = 1 << 20;
@@ -84,11 +81,11 @@ fn put(out: &mut Vec<u8>, inst: Inst) -> Result<(), Halt>
 #[tactic(auto, unfolding(crate::specs::SecondPass::parts_of))]
 fn put_jump(out: &mut Vec<u8>, symbols: &Symbols, rd: u8, label: &Name) -> Result<(), Halt>
     requires register { IsRegister rd }
-    requires room { vec_len out.old ≤ 122_880 }
+    requires room { vec_len out.old ≤ image_room }
     ensures parts { Appends result out.old.items out.new.items (parts_of (names_of symbols.now) (image_start + vec_len out.old) (statements.Jal rd label.now)) }
     ensures size { OnOk result (vec_len out.new ≡ vec_len out.old + 4) }
 {
-    let address = START + out.len() as u32;
+    let address = PRIVATE_START + out.len() as u32;
     let target = address_of(symbols, label)?;
     let offset = offset_to(JUMP_REACH, address, target)?;
     put(out, Inst::Jal { rd, offset })
@@ -106,11 +103,11 @@ fn put_branch(
 ) -> Result<(), Halt>
     requires first { IsRegister rs1 }
     requires second { IsRegister rs2 }
-    requires room { vec_len out.old ≤ 122_880 }
+    requires room { vec_len out.old ≤ image_room }
     ensures parts { Appends result out.old.items out.new.items (parts_of (names_of symbols.now) (image_start + vec_len out.old) (statements.Branch op rs1 rs2 label.now)) }
     ensures size { OnOk result (vec_len out.new ≡ vec_len out.old + 4) }
 {
-    let address = START + out.len() as u32;
+    let address = PRIVATE_START + out.len() as u32;
     let target = address_of(symbols, label)?;
     let offset = offset_to(BRANCH_REACH, address, target)?;
     put(
@@ -151,7 +148,7 @@ fn put_label(out: &mut Vec<u8>, symbols: &Symbols, label: &Name) -> Result<(), H
 #[tactic(auto, unfolding(crate::specs::SecondPass::parts_of))]
 fn put_statement(out: &mut Vec<u8>, symbols: &Symbols, statement: &Statement) -> Result<(), Halt>
     requires sound { IsSound statement.now }
-    requires room { vec_len out.old ≤ 122_880 }
+    requires room { vec_len out.old ≤ image_room }
     ensures parts { Appends result out.old.items out.new.items (parts_of (names_of symbols.now) (image_start + vec_len out.old) statement.now) }
     ensures size { OnOk result (vec_len out.new ≡ vec_len out.old + size_of statement.now) }
 {

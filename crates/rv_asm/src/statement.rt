@@ -23,7 +23,7 @@ use crate::mnemonic::Mnemonic;
 use crate::name::{Name, is_name};
 use crate::operand::{earlier, no_piece, number, ranged};
 use crate::symbols::{Symbol, Symbols};
-use ce_model::{BranchOp, ImmOp, Inst, LoadOp, RegOp, StoreOp};
+use rv_model::{BranchOp, ImmOp, Inst, LoadOp, RegOp, StoreOp};
 use std::alloc::{AllocError, Global};
 
 /// What is laid at one place. `.word a, b` is laid as `.word a` and `.word b`, and `li` as its instructions.

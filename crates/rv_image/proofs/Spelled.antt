@@ -8,10 +8,10 @@ use Rattle.std.proofs.lemmas.Bool.Decides.{Decides-eqb}
 use Rattle.std.proofs.lemmas.List.{take-append-drop, length-take, length-drop, get_or-drop, get_or-take, get_or_past, drop-drop}
 use Rattle.std.proofs.lemmas.Nat.{le_bytes_4, from_le_bytes-to_le_bytes_4}
 use Rattle.std.proofs.lemmas.Slice.Eq.{starts_is}
-use Rattle.ce_model.specs.declared.memory.NoMemory.{NoMemory}
+use Rattle.rv_model.specs.declared.memory.NoMemory.{NoMemory}
 use Rattle.rv_image.specs.declared.fault.ImageFault.{ImageFault}
 use Rattle.rv_image.specs.declared.fault.ImageFault.TheVariants.{Short, Magic, TooLarge, Length, Entry, Memory}
-use Rattle.ce_model.specs.Image.{ImageParts, IsImage, image_room}
+use Rattle.rv_model.specs.Image.{ImageParts, IsImage, image_room}
 use Rattle.rv_image.specs.Fault.{first_fault, is_too_large, is_entry, named_cause}
 use Rattle.rv_image.specs.Rki1.{magic_bytes, spelling, IsRki1, number_at, entry_field, loaded_field, zero_field, fields_of, fault_of}
 

@@ -2,7 +2,7 @@
 use Rattle.std.specs.Prelude.{◌≡◌, ℕ, ◌+◌, ◌%◌, Bool, ◌&&◌, not, ◌==◌, nat_lt, nat_le, if◌then◌else◌, List, [], ◌∷◌, length, Option, Some, None, Result, Ok, Err}
 use Rattle.rv_image.specs.declared.fault.ImageFault.{ImageFault}
 use Rattle.rv_image.specs.declared.fault.ImageFault.TheVariants.{TooLarge, Entry, Memory}
-use Rattle.ce_model.specs.Image.{ImageParts, image_start, image_room}
+use Rattle.rv_model.specs.Image.{ImageParts, image_start, image_room}
 
 -- the first fault of a table whose test is true
 abbrev pub first_fault : List (Bool × ImageFault) → Option ImageFault

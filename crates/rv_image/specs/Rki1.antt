@@ -4,7 +4,7 @@ use Rattle.std.specs.List.{starts_with}
 use Rattle.std.specs.Int.{w32, to_le_bytes, from_le_bytes}
 use Rattle.rv_image.specs.declared.fault.ImageFault.{ImageFault}
 use Rattle.rv_image.specs.declared.fault.ImageFault.TheVariants.{Short, Magic, TooLarge, Length, Entry}
-use Rattle.ce_model.specs.Image.{ImageParts, IsImage, image_parts}
+use Rattle.rv_model.specs.Image.{ImageParts, IsImage, image_parts}
 use Rattle.rv_image.specs.Fault.{first_fault, is_too_large, is_entry}
 
 -- `RKI1`

@@ -3,7 +3,7 @@
 ghost use Rattle.std.specs.Prelude.{◌≡◌};
 ghost use Rattle.rv_image.specs.declared.fault.ImageFault.TheVariants.{Memory};
 
-use ce_model::NoMemory;
+use rv_model::NoMemory;
 use std::alloc::AllocError;
 use thiserror::Error;
 

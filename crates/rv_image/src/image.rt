@@ -2,23 +2,19 @@
 
 ghost use Rattle.std.specs.Prelude.{◌≡◌, ◌↔◌, IsOk, IfOk};
 ghost use Rattle.std.specs.Result.{result_err};
-ghost use Rattle.ce_model.specs.Image.{IsImage, image_parts};
+ghost use Rattle.rv_model.specs.Image.{IsImage, image_parts};
 ghost use Rattle.rv_image.specs.Fault.{is_too_large, is_entry, parts_fault};
 
 mod rki1;
 
 use crate::ImageFault;
-use ce_model::NoMemory;
 pub use rki1::{read, write};
+use rv_model::{IMAGE_ROOM, NoMemory, PRIVATE_START};
 use std::alloc::Global;
 use std::marker::Model;
 
-/// Where private memory, and so each image, begins.
-const START: u32 = 0x0001_0000;
-
-/// How many bytes an image may take up: private memory without its last 8,192 bytes, which are left to the
-/// stack.
-const ROOM: usize = 122_880;
+/// How many bytes an image may take up.
+const ROOM: usize = IMAGE_ROOM as usize;
 
 /// What a process is started from. Its loaded bytes stand from 0x0001_0000 on, the start of private memory, with
 /// bytes of value 0 behind them; together they are 122,880 bytes at most. The process begins at the entry, a
@@ -31,7 +27,7 @@ pub struct Image {
 }
 
 impl Model for Image {
-    ghost use Rattle.ce_model.specs.Image.{ImageParts, IsImage, image_parts};
+    ghost use Rattle.rv_model.specs.Image.{ImageParts, IsImage, image_parts};
 
     ghost Value = { ImageParts };
 
@@ -51,7 +47,9 @@ fn is_too_large(loaded_len: usize, zero_len: usize) -> bool
 fn is_entry(address: u32, loaded_len: usize) -> bool
     ensures { result ≡ is_entry address loaded_len }
 {
-    address.is_multiple_of(4) && address >= START && (address - START) as usize + 4 <= loaded_len
+    address.is_multiple_of(4)
+        && address >= PRIVATE_START
+        && (address - PRIVATE_START) as usize + 4 <= loaded_len
 }
 
 impl Image {

@@ -1,12 +1,12 @@
 -- What words are decoded to: some words, and a word of each form by the fields that its row fixes.
 use Rattle.std.proofs.Common.{◌≡◌, ℕ, pos, Some, None, refl}
-use Rattle.ce_model.specs.declared.inst.Inst.TheVariants.{Lui, Auipc, Jal, Jalr, Branch, Load, Store, OpImm, Op, Fence, Ecall, Ebreak}
-use Rattle.ce_model.specs.declared.inst.BranchOp.TheVariants.{Beq}
-use Rattle.ce_model.specs.declared.inst.LoadOp.TheVariants.{Lw}
-use Rattle.ce_model.specs.declared.inst.StoreOp.TheVariants.{Sw}
-use Rattle.ce_model.specs.declared.inst.ImmOp.TheVariants.{Addi, Srai}
-use Rattle.ce_model.specs.declared.inst.RegOp.TheVariants.{Add}
-use Rattle.ce_model.specs.Words.{opcode_of, funct3_of, funct7_of, rd_of, rs1_of, rs2_of, i_immediate, s_immediate, b_immediate, u_immediate, j_immediate, table, dec}
+use Rattle.rv_model.specs.declared.inst.Inst.TheVariants.{Lui, Auipc, Jal, Jalr, Branch, Load, Store, OpImm, Op, Fence, Ecall, Ebreak}
+use Rattle.rv_model.specs.declared.inst.BranchOp.TheVariants.{Beq}
+use Rattle.rv_model.specs.declared.inst.LoadOp.TheVariants.{Lw}
+use Rattle.rv_model.specs.declared.inst.StoreOp.TheVariants.{Sw}
+use Rattle.rv_model.specs.declared.inst.ImmOp.TheVariants.{Addi, Srai}
+use Rattle.rv_model.specs.declared.inst.RegOp.TheVariants.{Add}
+use Rattle.rv_model.specs.Words.{opcode_of, funct3_of, funct7_of, rd_of, rs1_of, rs2_of, i_immediate, s_immediate, b_immediate, u_immediate, j_immediate, table, dec}
 
 -- ---- words
 

@@ -3,19 +3,19 @@ use Rattle.std.proofs.Common.{◌≡◌, ℕ, ◌+◌, ◌*◌, ◌%◌, ◌^◌
 use Rattle.std.specs.Int.{w32, cast_unsigned}
 use Rattle.std.proofs.lemmas.Int.{ints}
 use Rattle.std.proofs.lemmas.Bool.Decides.{nat_tests}
-use Rattle.ce_model.specs.declared.inst.Inst.{Inst}
-use Rattle.ce_model.specs.declared.inst.Inst.TheVariants.{Lui, Auipc, Jal, Jalr, Branch, Load, Store, OpImm, Op, Fence, Ecall, Ebreak}
-use Rattle.ce_model.specs.declared.inst.BranchOp.{BranchOp}
-use Rattle.ce_model.specs.declared.inst.BranchOp.TheVariants.{Beq, Bne, Blt, Bge, Bltu, Bgeu}
-use Rattle.ce_model.specs.declared.inst.LoadOp.{LoadOp}
-use Rattle.ce_model.specs.declared.inst.LoadOp.TheVariants.{Lb, Lh, Lw, Lbu, Lhu}
-use Rattle.ce_model.specs.declared.inst.StoreOp.{StoreOp}
-use Rattle.ce_model.specs.declared.inst.StoreOp.TheVariants.{Sb, Sh, Sw}
-use Rattle.ce_model.specs.declared.inst.ImmOp.{ImmOp}
-use Rattle.ce_model.specs.declared.inst.ImmOp.TheVariants.{Addi, Slti, Sltiu, Xori, Ori, Andi, Slli, Srli, Srai}
-use Rattle.ce_model.specs.declared.inst.RegOp.{RegOp}
-use Rattle.ce_model.specs.declared.inst.RegOp.TheVariants.{Add, Sll, Slt, Sltu, Xor, Srl, Or, And, Sub, Sra}
-use Rattle.ce_model.specs.Words.{cut, opcode_of, funct3_of, funct7_of, rd_of, rs1_of, rs2_of, sign_extended, i_immediate, s_immediate, b_immediate, u_immediate, j_immediate, table, dec}
+use Rattle.rv_model.specs.declared.inst.Inst.{Inst}
+use Rattle.rv_model.specs.declared.inst.Inst.TheVariants.{Lui, Auipc, Jal, Jalr, Branch, Load, Store, OpImm, Op, Fence, Ecall, Ebreak}
+use Rattle.rv_model.specs.declared.inst.BranchOp.{BranchOp}
+use Rattle.rv_model.specs.declared.inst.BranchOp.TheVariants.{Beq, Bne, Blt, Bge, Bltu, Bgeu}
+use Rattle.rv_model.specs.declared.inst.LoadOp.{LoadOp}
+use Rattle.rv_model.specs.declared.inst.LoadOp.TheVariants.{Lb, Lh, Lw, Lbu, Lhu}
+use Rattle.rv_model.specs.declared.inst.StoreOp.{StoreOp}
+use Rattle.rv_model.specs.declared.inst.StoreOp.TheVariants.{Sb, Sh, Sw}
+use Rattle.rv_model.specs.declared.inst.ImmOp.{ImmOp}
+use Rattle.rv_model.specs.declared.inst.ImmOp.TheVariants.{Addi, Slti, Sltiu, Xori, Ori, Andi, Slli, Srli, Srai}
+use Rattle.rv_model.specs.declared.inst.RegOp.{RegOp}
+use Rattle.rv_model.specs.declared.inst.RegOp.TheVariants.{Add, Sll, Slt, Sltu, Xor, Srl, Or, And, Sub, Sra}
+use Rattle.rv_model.specs.Words.{cut, opcode_of, funct3_of, funct7_of, rd_of, rs1_of, rs2_of, sign_extended, i_immediate, s_immediate, b_immediate, u_immediate, j_immediate, table, dec}
 use Rattle.rv_inst.proofs.Rows.{rule}
 
 -- ---- the word of an instruction

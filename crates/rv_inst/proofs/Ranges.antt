@@ -3,9 +3,9 @@ use Rattle.std.proofs.Common.{◌≡◌, ℕ, ◌^◌, ◌<◌, true, ◌&&◌, 
 use Rattle.std.specs.Prelude.{IfSome}
 use Rattle.std.proofs.lemmas.Int.{ints}
 use Rattle.std.proofs.lemmas.Bool.Decides.{nat_tests}
-use Rattle.ce_model.specs.declared.inst.Inst.{Inst}
-use Rattle.ce_model.specs.declared.inst.Inst.TheVariants.{Fence}
-use Rattle.ce_model.specs.Words.{opcode_of, funct3_of, rd_of, rs1_of, rs2_of, i_immediate, s_immediate, b_immediate, u_immediate, j_immediate, table, dec}
+use Rattle.rv_model.specs.declared.inst.Inst.{Inst}
+use Rattle.rv_model.specs.declared.inst.Inst.TheVariants.{Fence}
+use Rattle.rv_model.specs.Words.{opcode_of, funct3_of, rd_of, rs1_of, rs2_of, i_immediate, s_immediate, b_immediate, u_immediate, j_immediate, table, dec}
 use Rattle.rv_inst.specs.Valid.{IsUpper, IsTwelveBits, IsShiftAmount, IsBranchOffset, IsJumpOffset, IsValid}
 use Rattle.rv_inst.proofs.Rows.{rule}
 

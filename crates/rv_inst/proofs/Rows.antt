@@ -2,8 +2,8 @@
 use Rattle.std.proofs.Common.{◌≡◌, ℕ, true, false, cond, List, [], ◌∷◌, Some, refl, subst}
 use Rattle.std.specs.Prelude.{find, option_map}
 use Rattle.std.specs.List.{AllByRecursion}
-use Rattle.ce_model.specs.declared.inst.Inst.{Inst}
-use Rattle.ce_model.specs.Words.{Row, matches}
+use Rattle.rv_model.specs.declared.inst.Inst.{Inst}
+use Rattle.rv_model.specs.Words.{Row, matches}
 
 -- what holds of the meaning of each row that the word matches holds of the word's instruction
 pub rule : (P : Inst → Type 0) (word : ℕ) (rows : List Row) → AllByRecursion (λ row. matches word row ≡ true → P (row.meaning word)) rows → (i : Inst) → option_map (λ row. row.meaning word) (find (matches word) rows) ≡ Some i → P i

@@ -4,7 +4,7 @@ use Rattle.std.specs.Prelude.{filter, find, option_map, All, IsTrue}
 use Rattle.std.specs.List.{list_any, list_all, AllByRecursion}
 use Rattle.std.proofs.lemmas.List.Elements.{All-from_recursion, recursion_from_All}
 use Rattle.std.proofs.lemmas.Bool.Decides.{nat_tests}
-use Rattle.ce_model.specs.Words.{cut, Fixed, Row, matches, table, dec}
+use Rattle.rv_model.specs.Words.{cut, Fixed, Row, matches, table, dec}
 
 abbrev holds : ℕ → Fixed → Bool
 holds word field = cut field.low field.width word == field.value

@@ -1,10 +1,10 @@
 -- The instructions that a word can hold: the ranges of their operands.
 use Rattle.std.specs.Prelude.{◌≡◌, ℕ, ◌%◌, ◌^◌, ◌<◌, ℤ, pos, negsuc, ◌≤ℤ◌, unsigned_abs}
-use Rattle.ce_model.specs.declared.inst.Inst.{Inst}
-use Rattle.ce_model.specs.declared.inst.Inst.TheVariants.{Lui, Auipc, Jal, Jalr, Branch, Load, Store, OpImm, Op, Fence, Ecall, Ebreak}
-use Rattle.ce_model.specs.declared.inst.ImmOp.{ImmOp}
-use Rattle.ce_model.specs.declared.inst.ImmOp.TheVariants.{Addi, Slti, Sltiu, Xori, Ori, Andi, Slli, Srli, Srai}
-use Rattle.ce_model.specs.Words.{opcode_of, funct3_of}
+use Rattle.rv_model.specs.declared.inst.Inst.{Inst}
+use Rattle.rv_model.specs.declared.inst.Inst.TheVariants.{Lui, Auipc, Jal, Jalr, Branch, Load, Store, OpImm, Op, Fence, Ecall, Ebreak}
+use Rattle.rv_model.specs.declared.inst.ImmOp.{ImmOp}
+use Rattle.rv_model.specs.declared.inst.ImmOp.TheVariants.{Addi, Slti, Sltiu, Xori, Ori, Andi, Slli, Srli, Srai}
+use Rattle.rv_model.specs.Words.{opcode_of, funct3_of}
 
 -- one of the 32 registers
 abbrev pub IsRegister : ℕ → Type 0

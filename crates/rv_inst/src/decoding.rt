@@ -1,21 +1,21 @@
 //! Words to instructions.
 ghost use Rattle.std.specs.Prelude.{◌≡◌, ◌⊎◌, pos, option_map, IfSome};
-ghost use Rattle.ce_model.specs.Words.{opcode_of, funct3_of, rd_of, rs1_of, rs2_of, i_immediate, s_immediate, b_immediate, dec};
+ghost use Rattle.rv_model.specs.Words.{opcode_of, funct3_of, rd_of, rs1_of, rs2_of, i_immediate, s_immediate, b_immediate, dec};
 ghost use Rattle.rv_inst.specs.Valid.{IsValid};
-ghost use Rattle.ce_model.specs.declared.inst.Inst.TheVariants.{Branch, Load, Store, OpImm, Op};
+ghost use Rattle.rv_model.specs.declared.inst.Inst.TheVariants.{Branch, Load, Store, OpImm, Op};
 
 use crate::fields::{
     b_immediate, funct3, funct7, i_immediate, j_immediate, opcode, rd, rs1, rs2, s_immediate,
     u_immediate,
 };
 use crate::opcodes::{AUIPC, BRANCH, JAL, JALR, LOAD, LUI, MISC_MEM, OP, OP_IMM, STORE, SYSTEM};
-use ce_model::{BranchOp, ImmOp, Inst, LoadOp, RegOp, StoreOp};
+use rv_model::{BranchOp, ImmOp, Inst, LoadOp, RegOp, StoreOp};
 
 /// The instruction that a word is, by the standard's table of RV32I (RISC-V unprivileged specification, "RV32I Base
 /// Integer Instruction Set" and "RV32/64G Instruction Set Listings"). `None` comes exactly for a word that matches no row
 /// of the table, as each word of another extension. What is decoded is valid. A fence is one whatever its other fields
 /// are, and ECALL and EBREAK are one word each.
-#[tactic(auto, unfolding(ce_model::specs::Words::dec, ce_model::specs::Words::table))]
+#[tactic(auto, unfolding(rv_model::specs::Words::dec, rv_model::specs::Words::table))]
 pub fn decode(word: u32) -> Option<Inst>
     ensures listed { result ≡ dec word }
     ensures valid { IfSome result IsValid }
@@ -46,7 +46,7 @@ pub fn decode(word: u32) -> Option<Inst>
 }
 
 /// The instruction of a word of opcode `JALR`.
-#[tactic(auto, unfolding(ce_model::specs::Words::dec, ce_model::specs::Words::table))]
+#[tactic(auto, unfolding(rv_model::specs::Words::dec, rv_model::specs::Words::table))]
 fn jalr(word: u32) -> Option<Inst>
     requires { opcode_of word ≡ JALR }
     ensures listed { result ≡ dec word }
@@ -79,7 +79,7 @@ fn branch(word: u32) -> Option<Inst>
 }
 
 /// The condition of a branch.
-#[tactic(auto, unfolding(ce_model::specs::Words::dec, ce_model::specs::Words::table))]
+#[tactic(auto, unfolding(rv_model::specs::Words::dec, rv_model::specs::Words::table))]
 fn branch_op(word: u32) -> Option<BranchOp>
     requires { opcode_of word ≡ BRANCH }
     ensures { dec word
@@ -108,7 +108,7 @@ fn load(word: u32) -> Option<Inst>
 }
 
 /// What a load reads, and how it is extended.
-#[tactic(auto, unfolding(ce_model::specs::Words::dec, ce_model::specs::Words::table))]
+#[tactic(auto, unfolding(rv_model::specs::Words::dec, rv_model::specs::Words::table))]
 fn load_op(word: u32) -> Option<LoadOp>
     requires { opcode_of word ≡ LOAD }
     ensures { dec word
@@ -136,7 +136,7 @@ fn store(word: u32) -> Option<Inst>
 }
 
 /// How much a store writes.
-#[tactic(auto, unfolding(ce_model::specs::Words::dec, ce_model::specs::Words::table))]
+#[tactic(auto, unfolding(rv_model::specs::Words::dec, rv_model::specs::Words::table))]
 fn store_op(word: u32) -> Option<StoreOp>
     requires { opcode_of word ≡ STORE }
     ensures { dec word
@@ -151,7 +151,7 @@ fn store_op(word: u32) -> Option<StoreOp>
 }
 
 /// The instruction of a word of opcode `OP_IMM`. A shift is the minor opcodes 001 and 101.
-#[tactic(auto, unfolding(ce_model::specs::Words::dec, ce_model::specs::Words::table))]
+#[tactic(auto, unfolding(rv_model::specs::Words::dec, rv_model::specs::Words::table))]
 fn op_imm(word: u32) -> Option<Inst>
     requires { opcode_of word ≡ OP_IMM }
     ensures listed { result ≡ dec word }
@@ -186,7 +186,7 @@ fn shift_imm(word: u32) -> Option<Inst>
 }
 
 /// The direction of a shift, and what is shifted in.
-#[tactic(auto, unfolding(ce_model::specs::Words::dec, ce_model::specs::Words::table))]
+#[tactic(auto, unfolding(rv_model::specs::Words::dec, rv_model::specs::Words::table))]
 fn shift_op(word: u32) -> Option<ImmOp>
     requires opcode { opcode_of word ≡ OP_IMM }
     requires minor { (funct3_of word ≡ 0b001) ⊎ (funct3_of word ≡ 0b101) }
@@ -213,7 +213,7 @@ fn op(word: u32) -> Option<Inst>
 }
 
 /// The operation on two registers.
-#[tactic(auto, unfolding(ce_model::specs::Words::dec, ce_model::specs::Words::table))]
+#[tactic(auto, unfolding(rv_model::specs::Words::dec, rv_model::specs::Words::table))]
 fn reg_op(word: u32) -> Option<RegOp>
     requires { opcode_of word ≡ OP }
     ensures { dec word ≡ option_map (λ o. Op o (rd_of word) (rs1_of word) (rs2_of word)) result }
@@ -234,7 +234,7 @@ fn reg_op(word: u32) -> Option<RegOp>
 }
 
 /// The instruction of a word of opcode `MISC_MEM`.
-#[tactic(auto, unfolding(ce_model::specs::Words::dec, ce_model::specs::Words::table))]
+#[tactic(auto, unfolding(rv_model::specs::Words::dec, rv_model::specs::Words::table))]
 fn fence(word: u32) -> Option<Inst>
     requires { opcode_of word ≡ MISC_MEM }
     ensures listed { result ≡ dec word }
@@ -247,7 +247,7 @@ fn fence(word: u32) -> Option<Inst>
 }
 
 /// The instruction of a word of opcode `SYSTEM`. Two words alone have one.
-#[tactic(auto, unfolding(ce_model::specs::Words::dec, ce_model::specs::Words::table))]
+#[tactic(auto, unfolding(rv_model::specs::Words::dec, rv_model::specs::Words::table))]
 fn system(word: u32) -> Option<Inst>
     requires { opcode_of word ≡ SYSTEM }
     ensures listed { result ≡ dec word }

@@ -1,12 +1,12 @@
 //! Instructions to words.
 ghost use Rattle.std.specs.Prelude.{◌≡◌, ◌<◌, ◌^◌, ℕ, pos};
-ghost use Rattle.ce_model.specs.Words.{opcode_of, funct3_of, funct7_of, rd_of, rs1_of, rs2_of, i_immediate, s_immediate, b_immediate, dec};
+ghost use Rattle.rv_model.specs.Words.{opcode_of, funct3_of, funct7_of, rd_of, rs1_of, rs2_of, i_immediate, s_immediate, b_immediate, dec};
 ghost use Rattle.rv_inst.specs.Valid.{IsRegister, IsShiftAmount, IsValid};
-ghost use Rattle.ce_model.specs.declared.inst.Inst.TheVariants.{Branch, Load, Store, OpImm, Op};
+ghost use Rattle.rv_model.specs.declared.inst.Inst.TheVariants.{Branch, Load, Store, OpImm, Op};
 
 use crate::layout::{b_word, i_word, j_word, r_word, s_word, u_word};
 use crate::opcodes::{AUIPC, BRANCH, JAL, JALR, LOAD, LUI, OP, OP_IMM, STORE};
-use ce_model::{BranchOp, ImmOp, Inst, LoadOp, RegOp, StoreOp};
+use rv_model::{BranchOp, ImmOp, Inst, LoadOp, RegOp, StoreOp};
 
 /// The word of a valid instruction: the only one that is decoded to the instruction (RISC-V unprivileged specification,
 /// "Base Instruction Formats" and "RV32/64G Instruction Set Listings").
@@ -50,7 +50,7 @@ fn word_of(inst: Inst) -> u32
 }
 
 /// The minor opcode of a branch.
-#[tactic(auto, unfolding(ce_model::specs::Words::dec, ce_model::specs::Words::table))]
+#[tactic(auto, unfolding(rv_model::specs::Words::dec, rv_model::specs::Words::table))]
 fn branch_funct3(op: BranchOp) -> u32
     ensures small { result < 8 }
     ensures row { (word : ℕ) → opcode_of word ≡ BRANCH → funct3_of word ≡ result
@@ -67,7 +67,7 @@ fn branch_funct3(op: BranchOp) -> u32
 }
 
 /// The minor opcode of a load.
-#[tactic(auto, unfolding(ce_model::specs::Words::dec, ce_model::specs::Words::table))]
+#[tactic(auto, unfolding(rv_model::specs::Words::dec, rv_model::specs::Words::table))]
 fn load_funct3(op: LoadOp) -> u32
     ensures small { result < 8 }
     ensures row { (word : ℕ) → opcode_of word ≡ LOAD → funct3_of word ≡ result
@@ -83,7 +83,7 @@ fn load_funct3(op: LoadOp) -> u32
 }
 
 /// The minor opcode of a store.
-#[tactic(auto, unfolding(ce_model::specs::Words::dec, ce_model::specs::Words::table))]
+#[tactic(auto, unfolding(rv_model::specs::Words::dec, rv_model::specs::Words::table))]
 fn store_funct3(op: StoreOp) -> u32
     ensures small { result < 8 }
     ensures row { (word : ℕ) → opcode_of word ≡ STORE → funct3_of word ≡ result
@@ -97,7 +97,7 @@ fn store_funct3(op: StoreOp) -> u32
 }
 
 /// The word of an operation on a register and an immediate.
-#[tactic(auto, unfolding(ce_model::specs::Words::dec, ce_model::specs::Words::table))]
+#[tactic(auto, unfolding(rv_model::specs::Words::dec, rv_model::specs::Words::table))]
 fn op_imm(op: ImmOp, rd: u8, rs1: u8, imm: i32) -> u32
     requires { IsValid (OpImm op rd rs1 imm) }
     ensures { dec result ≡ Some (OpImm op rd rs1 imm) }
@@ -133,7 +133,7 @@ fn shift_word(funct3: u32, funct7: u32, rd: u8, rs1: u8, amount: i32) -> u32
 }
 
 /// The two minor opcodes of an operation on two registers.
-#[tactic(auto, unfolding(ce_model::specs::Words::dec, ce_model::specs::Words::table))]
+#[tactic(auto, unfolding(rv_model::specs::Words::dec, rv_model::specs::Words::table))]
 fn op_functs(op: RegOp) -> (u32, u32)
     ensures small { (result.0 < 8) × (result.1 < 128) }
     ensures row { (word : ℕ) → opcode_of word ≡ OP → funct3_of word ≡ result.0 → funct7_of word ≡ result.1

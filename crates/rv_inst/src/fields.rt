@@ -1,7 +1,7 @@
 //! The fields of an instruction word, and the immediates that lie in it (RISC-V unprivileged specification, "Base
 //! Instruction Formats" and "Immediate Encoding Variants").
 ghost use Rattle.std.specs.Prelude.{◌≡◌, ◌<◌};
-ghost use Rattle.ce_model.specs.Words.{cut, opcode_of, rd_of, funct3_of, rs1_of, rs2_of, funct7_of, i_immediate, s_immediate, b_immediate, u_immediate, j_immediate};
+ghost use Rattle.rv_model.specs.Words.{cut, opcode_of, rd_of, funct3_of, rs1_of, rs2_of, funct7_of, i_immediate, s_immediate, b_immediate, u_immediate, j_immediate};
 
 /// The `width` bits of a word from bit `low` up.
 #[tactic(auto, using(crate::proofs::Masks::masked))]

@@ -1,8 +1,8 @@
 //! Laws of the table of instructions, each the contract of a function that does nothing.
 ghost use Rattle.std.specs.Prelude.{◌≡◌, ◌<◌, ◌≤◌, ◌^◌, ℕ, length, filter, All, IfSome, IsTrue};
-ghost use Rattle.ce_model.specs.Words.{matches, table, dec};
+ghost use Rattle.rv_model.specs.Words.{matches, table, dec};
 ghost use Rattle.rv_inst.specs.Valid.{IsValid};
-ghost use Rattle.ce_model.specs.declared.inst.Inst.{Inst};
+ghost use Rattle.rv_model.specs.declared.inst.Inst.{Inst};
 
 /// The table is unambiguous: a word matches at most one row.
 #[tactic(auto, using(crate::proofs::Unambiguous::table_at_most_one))]

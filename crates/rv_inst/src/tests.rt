@@ -1,5 +1,5 @@
 use crate::{decode, encode, is_valid};
-use ce_model::{BranchOp, ImmOp, Inst, LoadOp, RegOp, StoreOp};
+use rv_model::{BranchOp, ImmOp, Inst, LoadOp, RegOp, StoreOp};
 
 // The operands in the order of the fields of `Inst`.
 macro_rules! jal {

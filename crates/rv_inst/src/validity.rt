@@ -4,7 +4,7 @@ ghost use Rattle.rv_inst.specs.Valid.{IsRegister, IsUpper, IsTwelveBits, IsBranc
 
 use crate::fields::{funct3, opcode};
 use crate::opcodes::MISC_MEM;
-use ce_model::{ImmOp, Inst};
+use rv_model::{ImmOp, Inst};
 
 /// Whether a word can hold the instruction: registers are below 32, the immediates of `Lui` and `Auipc` are multiples of
 /// 4,096, the offset of a jump is even and from -1,048,576 to 1,048,574, that of a branch is even and from -4,096 to

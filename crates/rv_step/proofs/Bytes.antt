@@ -2,12 +2,7 @@
 use Rattle.std.proofs.Common.{◌≡◌, ℕ, suc, ◌+◌, ◌*◌, ◌≤◌, ◌<◌, List, length, get_or, arith, refl}
 use Rattle.std.proofs.Math.Seq.{drop-cons}
 use Rattle.std.proofs.Math.Numerals.{add-one}
-use Rattle.ce_model.specs.LittleEndian.{number_at}
-use Rattle.ce_model.specs.Private.{private_size}
-
-pub private_size_lem : private_size ≡ 131072
-unfolding private_size
-private_size_lem = refl
+use Rattle.rv_model.specs.LittleEndian.{number_at}
 
 number_at-none : (bytes : List ℕ) (i : ℕ) → number_at bytes i 0 ≡ 0
 unfolding number_at

@@ -1,7 +1,7 @@
 -- Addresses of private memory, and the one test that tells them.
 use Rattle.std.proofs.Common.{◌≡◌, ℕ, ◌+◌, ◌-◌, ◌*◌, ◌/◌, ◌%◌, ◌^◌, ◌<◌, ◌≤◌, bit_and, arith, inl, inr, ◌∙◌, ap}
 use Rattle.std.proofs.lemmas.Nat.{and_mask, and_block, pow_below}
-use Rattle.ce_model.specs.Exec.{IsAccessSize}
+use Rattle.rv_model.specs.Exec.{IsAccessSize}
 
 -- the bits from bit 17 on, and those of a mask below
 high_and_low : (n s : ℕ) → n < 2 ^ 32 → s < 2 ^ 17 → bit_and n (32767 * 2 ^ 17 + s) ≡ n / 2 ^ 17 * 2 ^ 17 + bit_and (n % 2 ^ 17) s

@@ -2,7 +2,7 @@
 use Rattle.std.specs.Prelude.{ℕ, List, ⊤}
 use Rattle.rv_step.specs.declared.event.Event.{Event}
 use Rattle.rv_step.specs.declared.event.Event.TheVariants.{Went, Call, Stopped}
-use Rattle.ce_model.specs.Exec.{Outcome, went, called, stopped}
+use Rattle.rv_model.specs.Exec.{Outcome, went, called, stopped}
 
 -- the outcome of a step that answered this event and left these registers, this pc and this memory
 abbrev pub outcome_of : {M : Type 0} → Event → List ℕ → ℕ → M → Outcome M

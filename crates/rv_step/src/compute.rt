@@ -1,9 +1,9 @@
 //! What instructions compute from the values of registers.
 ghost use Rattle.std.specs.Prelude.{◌≡◌, ◌^◌, ◌<◌};
-ghost use Rattle.ce_model.specs.Exec.{is_taken, imm_result, reg_result, extended, load_size};
-ghost use Rattle.ce_model.specs.Word.{shifted_right_signed};
+ghost use Rattle.rv_model.specs.Exec.{is_taken, imm_result, reg_result, extended, load_size};
+ghost use Rattle.rv_model.specs.Word.{shifted_right_signed};
 
-use ce_model::{BranchOp, ImmOp, LoadOp, RegOp};
+use rv_model::{BranchOp, ImmOp, LoadOp, RegOp};
 
 /// Whether a branch is taken, from the values of rs1 and rs2.
 pub(crate) fn is_taken(op: BranchOp, a: u32, b: u32) -> bool

@@ -1,4 +1,4 @@
-use ce_model::Stop;
+use rv_model::Stop;
 
 /// What a step came to.
 #[derive(Clone, Copy, Debug, PartialEq, Eq)]

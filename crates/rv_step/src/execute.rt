@@ -1,15 +1,15 @@
 //! What one decoded instruction does.
 ghost use Rattle.std.specs.Prelude.{◌≡◌, ◌%◌, ◌==◌, if◌then◌else◌};
 ghost use Rattle.rv_inst.specs.Valid.{IsValid, IsRegister};
-ghost use Rattle.ce_model.specs.Exec.{performed, with_reg, next_pc};
+ghost use Rattle.rv_model.specs.Exec.{performed, with_reg, next_pc};
 ghost use Rattle.rv_step.specs.Stepped.{outcome_of, OnStopped};
 
 use crate::compute::{extended, imm_result, is_taken, reg_result};
 use crate::{Event, Memory, Regs};
-use ce_model::{Inst, LoadOp, Stop, StoreOp};
+use rv_model::{Inst, LoadOp, Stop, StoreOp};
 
 /// Does the instruction `inst`, which stands at `pc`.
-#[tactic(auto, unfolding(ce_model::specs::Exec::performed))]
+#[tactic(auto, unfolding(rv_model::specs::Exec::performed))]
 pub(crate) fn execute<M: Memory>(inst: Inst, regs: &mut Regs, pc: &mut u32, memory: &mut M) -> Event
     requires { IsValid inst }
     ensures done { outcome_of result regs.new.x pc.new (M.holds memory.new)
@@ -91,7 +91,7 @@ fn jump(rd: u8, target: u32, regs: &mut Regs, pc: &mut u32) -> Event
 }
 
 /// Does a load.
-#[tactic(auto, unfolding(ce_model::specs::Exec::performed))]
+#[tactic(auto, unfolding(rv_model::specs::Exec::performed))]
 fn load<M: Memory>(
     op: LoadOp,
     rd: u8,
@@ -121,7 +121,7 @@ fn load<M: Memory>(
 }
 
 /// Does a store.
-#[tactic(auto, unfolding(ce_model::specs::Exec::performed))]
+#[tactic(auto, unfolding(rv_model::specs::Exec::performed))]
 fn store<M: Memory>(
     op: StoreOp,
     rs1: u8,

@@ -1,7 +1,7 @@
 ghost use Rattle.std.specs.Prelude.{◌≡◌, ◌<◌, ◌^◌, IfOk, OnOk, IfErr, OnErr, Ok, Err};
-ghost use Rattle.ce_model.specs.Exec.{Access, IsAccessSize};
+ghost use Rattle.rv_model.specs.Exec.{Access, IsAccessSize};
 
-use ce_model::Stop;
+use rv_model::Stop;
 
 /// The memory of a process, as its instructions see it. Each refusal is the cause for which the process stops, and
 /// changes nothing.

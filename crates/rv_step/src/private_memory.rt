@@ -1,21 +1,17 @@
 ghost use Rattle.std.specs.Prelude.{◌≡◌, ◌≤◌, ◌<◌, ◌+◌, ◌-◌, ◌*◌, ◌/◌, ◌%◌, ◌^◌, ◌++◌, ◌==◌, ◌&&◌, take, drop, ℕ, IfOk, IfSome, length, replicate, Some, None, if◌then◌else◌};
-ghost use Rattle.ce_model.specs.Exec.{IsAccessSize};
-ghost use Rattle.ce_model.specs.Private.{private_size, is_private, checked_access, with_loaded};
-ghost use Rattle.ce_model.specs.LittleEndian.{number_at, with_number_at};
+ghost use Rattle.rv_model.specs.Exec.{IsAccessSize};
+ghost use Rattle.rv_model.specs.Image.{image_room};
+ghost use Rattle.rv_model.specs.declared.limits.TheConstants.{PRIVATE_START, PRIVATE_SIZE};
+ghost use Rattle.rv_model.specs.Private.{private_size, is_private, checked_access, with_loaded};
+ghost use Rattle.rv_model.specs.LittleEndian.{number_at, with_number_at};
 
 use crate::Memory;
-use ce_model::{NoMemory, Stop};
+use rv_model::{NoMemory, PRIVATE_SIZE, PRIVATE_START, Stop};
 use std::alloc::Global;
 use std::marker::Model;
 
-/// The address at which private memory begins.
-const BASE: u32 = 0x1_0000;
-
-/// How many bytes it has.
-const SIZE: usize = 0x2_0000;
-
 /// The bits of an offset that are 0 within the memory.
-const OUTSIDE: u32 = 0xFFFE_0000;
+const OUTSIDE: u32 = !(PRIVATE_SIZE - 1);
 
 /// The private memory of a process that used no window: 131,072 bytes at the addresses 0x0001_0000 to 0x0002_FFFF.
 /// A load or store whose address isn't a multiple of its size is refused as `Misaligned`, and any other one outside these
@@ -28,17 +24,18 @@ pub struct PrivateMemory {
 
 impl Model for PrivateMemory {
     ghost use Rattle.std.specs.Prelude.{◌≡◌, List, ℕ, vec_len};
+    ghost use Rattle.rv_model.specs.declared.limits.TheConstants.{PRIVATE_SIZE};
 
     ghost Value = { List ℕ };
 
     ghost view = { λ memory. memory.bytes.items };
 
-    ghost invariant = { λ memory. vec_len memory.bytes ≡ 131072 };
+    ghost invariant = { λ memory. vec_len memory.bytes ≡ PRIVATE_SIZE };
 }
 
 impl PrivateMemory {
     /// Memory of zeros. `NoMemory` may come at any time.
-    #[tactic(auto, using(crate::proofs::Bytes::private_size_lem))]
+    #[tactic(auto, using(rv_model::proofs::PrivateSize::private_size_lem))]
     pub fn new(alloc: Global) -> Result<PrivateMemory, NoMemory>
         ensures { IfOk result (λ memory. memory ≡ replicate private_size 0) }
     {
@@ -47,9 +44,9 @@ impl PrivateMemory {
     }
 
     /// Makes the first bytes those of `loaded`, which are 122,880 at most, and all others 0. Each byte is written once.
-    #[tactic(auto, unfolding(ce_model::specs::Private::private_size))]
+    #[tactic(auto, unfolding(rv_model::specs::Private::private_size))]
     pub fn load_image(&mut self, loaded: &[u8])
-        requires { length loaded.now ≤ 122880 }
+        requires { length loaded.now ≤ image_room }
         ensures { self.new ≡ with_loaded loaded.now }
     {
         overwrite(self.bytes.as_mut_slice(), loaded);
@@ -58,18 +55,18 @@ impl PrivateMemory {
     /// All the bytes, that at address 0x0001_0000 first.
     pub fn bytes(&self) -> &[u8]
         ensures value { result.now ≡ self.now }
-        ensures len { length result.now ≡ 131072 }
+        ensures len { length result.now ≡ PRIVATE_SIZE }
     {
         self.bytes.as_slice()
     }
 }
 
 /// How many bytes private memory has, as a number that proofs don't compute with.
-#[tactic(auto, unfolding(ce_model::specs::Private::private_size))]
+#[tactic(auto, unfolding(rv_model::specs::Private::private_size))]
 fn size() -> usize
     ensures { result ≡ private_size }
 {
-    SIZE
+    PRIVATE_SIZE as usize
 }
 
 /// Makes the first bytes those of `front`, and all others 0.
@@ -84,7 +81,7 @@ fn overwrite(bytes: &mut [u8], front: &[u8])
 
 impl Memory for PrivateMemory {
     ghost use Rattle.std.specs.Prelude.{List, ℕ};
-    ghost use Rattle.ce_model.specs.Private.{private_access};
+    ghost use Rattle.rv_model.specs.Private.{private_access};
 
     ghost Space = { List ℕ };
 
@@ -116,10 +113,10 @@ impl Memory for PrivateMemory {
 #[inline]
 fn offset_of(addr: u32, size: u32) -> Option<usize>
     requires { IsAccessSize size }
-    ensures value { result ≡ (if addr % size == 0 && is_private addr then Some (addr - 0x1_0000) else None) }
-    ensures within { IfSome result (λ offset. offset + size ≤ 131072) }
+    ensures value { result ≡ (if addr % size == 0 && is_private addr then Some (addr - PRIVATE_START) else None) }
+    ensures within { IfSome result (λ offset. offset + size ≤ PRIVATE_SIZE) }
 {
-    let offset = addr.wrapping_sub(BASE);
+    let offset = addr.wrapping_sub(PRIVATE_START);
     if misplaced(offset, size) == 0 {
         Some(offset as usize)
     } else {
@@ -133,7 +130,7 @@ fn offset_of(addr: u32, size: u32) -> Option<usize>
 #[inline]
 fn misplaced(offset: u32, size: u32) -> u32
     requires { IsAccessSize size }
-    ensures { result ≡ offset / 0x2_0000 * 0x2_0000 + offset % size }
+    ensures { result ≡ offset / PRIVATE_SIZE * PRIVATE_SIZE + offset % size }
 {
     offset & (OUTSIDE + (size - 1))
 }
@@ -143,7 +140,7 @@ fn misplaced(offset: u32, size: u32) -> u32
 fn place(addr: u32, size: u32) -> Result<usize, Stop>
     requires { IsAccessSize size }
     ensures value { result ≡ checked_access addr size (λ offset. offset) }
-    ensures within { IfOk result (λ offset. offset + size ≤ 131072) }
+    ensures within { IfOk result (λ offset. offset + size ≤ PRIVATE_SIZE) }
 {
     match offset_of(addr, size) {
         Some(offset) => Ok(offset),
@@ -182,7 +179,7 @@ fn word_at(bytes: &[u8], offset: usize) -> u32
 }
 
 /// Writes the lowest `size` bytes of `value` from `offset` on.
-#[tactic(auto, unfolding(ce_model::specs::LittleEndian::with_number_at))]
+#[tactic(auto, unfolding(rv_model::specs::LittleEndian::with_number_at))]
 fn write(bytes: &mut [u8], offset: usize, size: u32, value: u32)
     requires size { IsAccessSize size }
     requires within { offset + size ≤ length bytes.old }

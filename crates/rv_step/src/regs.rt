@@ -9,7 +9,7 @@ pub struct Regs {
 }
 
 impl Regs {
-    ghost use Rattle.ce_model.specs.Exec.{reg, with_reg};
+    ghost use Rattle.rv_model.specs.Exec.{reg, with_reg};
 
     /// All registers 0.
     pub fn new() -> Regs

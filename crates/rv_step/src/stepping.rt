@@ -1,18 +1,18 @@
 ghost use Rattle.std.specs.Prelude.{◌≡◌};
-ghost use Rattle.ce_model.specs.Exec.{exec};
+ghost use Rattle.rv_model.specs.Exec.{exec};
 ghost use Rattle.rv_step.specs.Stepped.{outcome_of, OnStopped};
 
 use crate::execute::execute;
 use crate::{Event, Memory, Regs};
-use ce_model::Stop;
 use rv_inst::decode;
+use rv_model::Stop;
 
 /// Does the instruction at `pc` ("RV32I Base Integer Instruction Set"). The tests come in this order, and the first that
 /// fits stops the process with nothing changed: the memory refuses the fetch; the word is no instruction
 /// (`Illegal`); a jump or a taken branch goes to an address that isn't a multiple of 4 (`Target`, with the jump's own
 /// pc); the memory refuses the load or the store; the instruction is EBREAK (`Break`). Otherwise the instruction is
 /// done, and the pc is its target or the next instruction. An ECALL changes nothing but the pc.
-#[tactic(auto, unfolding(ce_model::specs::Exec::exec))]
+#[tactic(auto, unfolding(rv_model::specs::Exec::exec))]
 pub fn step<M: Memory>(regs: &mut Regs, pc: &mut u32, memory: &mut M) -> Event
     ensures done { outcome_of result regs.new.x pc.new (M.holds memory.new)
         ≡ exec M.access regs.old.x pc.old (M.holds memory.old) }

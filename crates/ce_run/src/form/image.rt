@@ -1,7 +1,7 @@
 //! The image of a script: its line, its body up to `end`, and what that describes.
 ghost use Rattle.std.specs.Prelude.{◌≡◌, ◌<◌, ◌≤◌, ◌^◌, true, IfOk, IfSome, IsErrOf, length};
 ghost use Rattle.std.specs.Option.{option_copied, option_map};
-ghost use Rattle.ce_model.specs.Image.{ImageParts};
+ghost use Rattle.rv_model.specs.Image.{ImageParts};
 ghost use Rattle.ce_run.specs.Lines.{lines_of};
 ghost use Rattle.ce_run.specs.Words.{is_name};
 ghost use Rattle.ce_run.specs.BuiltForm.{name_of, form_of, image_line, body_of};
@@ -15,10 +15,8 @@ use super::lines::{after, next_line};
 use super::words::is_name;
 use rv_asm::{assemble, code_of, trimmed};
 use rv_image::{Image, read};
+use rv_model::PRIVATE_START;
 use std::alloc::Global;
-
-/// Where images of instruction words begin, and are entered.
-const START: u32 = 0x0001_0000;
 
 /// How the body of an image is written.
 #[derive(Clone, Copy)]
@@ -98,7 +96,7 @@ fn image_of_words(alloc: Global, body: &[u8]) -> Result<Image, FormError>
     ensures not_built { IsErrOf result NotBuilt → (image : ImageParts) → ¬ Describes forms.Hex body.now image }
 {
     let bytes = body_bytes(alloc, Digits::Word, body)?;
-    Ok(Image::of_parts(START, bytes, 0)?)
+    Ok(Image::of_parts(PRIVATE_START, bytes, 0)?)
 }
 
 /// The image of a body in assembly.

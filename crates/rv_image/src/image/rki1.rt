@@ -2,13 +2,13 @@
 
 ghost use Rattle.std.specs.Prelude.{◌≡◌, ◌+◌, ◌≤◌, IfOk, length};
 ghost use Rattle.std.specs.Result.{result_err};
-ghost use Rattle.ce_model.specs.Image.{ImageParts, image_parts};
+ghost use Rattle.rv_model.specs.Image.{ImageParts, image_parts};
 ghost use Rattle.rv_image.specs.Fault.{named_cause, Gives};
 ghost use Rattle.rv_image.specs.Rki1.{IsRki1, number_at, fields_of, fault_of};
 
 use super::{Image, is_entry, is_too_large};
 use crate::ImageFault;
-use ce_model::NoMemory;
+use rv_model::NoMemory;
 use std::alloc::Global;
 
 /// With these bytes RKI1 begins.

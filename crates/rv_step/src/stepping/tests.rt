@@ -1,7 +1,7 @@
 // The expected values were worked out by hand from the RISC-V unprivileged specification.
 use super::*;
 use crate::PrivateMemory;
-use ce_model::Stop;
+use rv_model::Stop;
 use std::process::Abort;
 use std::test::Fail;
 

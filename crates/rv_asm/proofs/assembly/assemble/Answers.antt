@@ -1,5 +1,5 @@
 use Rattle.std.proofs.Common.{◌≡◌, length, sym, ap, subst, ◌∙◌, arith, rules}
-use Rattle.ce_model.specs.Image.{ImageParts}
+use Rattle.rv_model.specs.Image.{ImageParts}
 use Rattle.rv_asm.specs.LaidOut.{laid_out}
 use Rattle.rv_asm.specs.Spelling.{Spells}
 use Rattle.rv_asm.specs.Assembly.{entry_of, Assembly}

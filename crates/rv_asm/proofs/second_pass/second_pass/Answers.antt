@@ -1,6 +1,6 @@
 use Rattle.std.proofs.Common.{◌≡◌, ℕ, ◌+◌, vec_len, Ok, sym, subst, arith, length, drop}
 use Rattle.std.proofs.lemmas.Grind.{common_steps}
-use Rattle.ce_model.specs.Image.{image_start}
+use Rattle.rv_model.specs.Image.{image_start}
 use Rattle.rv_asm.specs.declared.statement.Placed.{Placed}
 use Rattle.rv_asm.specs.Symbols.{names_of}
 use Rattle.rv_asm.specs.Sizes.{size_of}

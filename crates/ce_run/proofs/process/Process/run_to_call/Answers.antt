@@ -1,5 +1,5 @@
 use Rattle.std.proofs.Common.{◌≡◌, ◌-◌, suc, sym, ◌∙◌, arith}
-use Rattle.ce_model.specs.Exec.{went, called, stopped}
+use Rattle.rv_model.specs.Exec.{went, called, stopped}
 use Rattle.ce_run.specs.Running.{process_of}
 use Rattle.ce_run.proofs.Reaching.{reached_by, reached_spent}
 use Rattle.ce_run.proofs.process.Process.run_to_call.Goals as goal

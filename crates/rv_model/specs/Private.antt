@@ -1,29 +1,30 @@
--- The private memory of a process: 131,072 bytes, from address 0x0001_0000 on. A process that used no window has no
--- other memory.
+-- The private memory of a process, the addresses from `PRIVATE_START` up to `PRIVATE_END`. A process that used no window has
+-- no other memory.
 use Rattle.std.specs.Prelude.{ℕ, ◌-◌, ◌%◌, Bool, ◌&&◌, nat_le, nat_lt, ◌==◌, if◌then◌else◌, List, ◌++◌, length, replicate, Result, Ok, Err}
-use Rattle.ce_model.specs.declared.process.Stop.{Stop}
-use Rattle.ce_model.specs.declared.process.Stop.TheVariants.{Fetch, Misaligned, Unmapped}
-use Rattle.ce_model.specs.LittleEndian.{number_at, with_number_at}
-use Rattle.ce_model.specs.Exec.{Access}
+use Rattle.rv_model.specs.declared.stop.Stop.{Stop}
+use Rattle.rv_model.specs.declared.stop.Stop.TheVariants.{Fetch, Misaligned, Unmapped}
+use Rattle.rv_model.specs.declared.limits.TheConstants.{PRIVATE_START, PRIVATE_SIZE, PRIVATE_END}
+use Rattle.rv_model.specs.LittleEndian.{number_at, with_number_at}
+use Rattle.rv_model.specs.Exec.{Access}
 
 -- how many bytes private memory has
 unfoldable pub private_size : ℕ
-private_size = 131072
+private_size = PRIVATE_SIZE
 
--- an address in private memory, which ends before 0x0003_0000
+-- an address in private memory
 abbrev pub is_private : ℕ → Bool
-is_private a = nat_le 0x1_0000 a && nat_lt a 0x3_0000
+is_private a = nat_le PRIVATE_START a && nat_lt a PRIVATE_END
 
 -- instructions are fetched from private memory alone, at a multiple of 4
 abbrev pub word_fetched : List ℕ → ℕ → Result ℕ Stop
 word_fetched bytes pc =
-    if pc % 4 == 0 && is_private pc then Ok (number_at bytes (pc - 0x1_0000) 4) else Err (Fetch pc)
+    if pc % 4 == 0 && is_private pc then Ok (number_at bytes (pc - PRIVATE_START) 4) else Err (Fetch pc)
 
 -- an access of `size` bytes at an address, which is made by the offset in private memory: it must be at a multiple of
 -- the size, and then be private, since no window was used
 abbrev pub checked_access : {X : Type 0} → ℕ → ℕ → (ℕ → X) → Result X Stop
 checked_access a size made =
-    if a % size == 0 then (if is_private a then Ok (made (a - 0x1_0000)) else Err (Unmapped a)) else Err (Misaligned a)
+    if a % size == 0 then (if is_private a then Ok (made (a - PRIVATE_START)) else Err (Unmapped a)) else Err (Misaligned a)
 
 -- what private memory answers
 abbrev pub private_access : Access (List ℕ)

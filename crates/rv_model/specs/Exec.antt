@@ -2,22 +2,22 @@
 -- the order of the tests are this project's own.
 use Rattle.std.specs.Prelude.{◌≡◌, ◌⊎◌, ℕ, ◌*◌, ◌/◌, ◌%◌, ◌^◌, Bool, not, nat_lt, ◌==◌, if◌then◌else◌, List, slice_index, slice_set, bit_and, bit_or, bit_xor, Result, Ok, Err, ok_or, ℤ}
 use Rattle.std.specs.Int.{w8, w16, w32, cast_signed, cast_unsigned}
-use Rattle.ce_model.specs.declared.process.Stop.{Stop}
-use Rattle.ce_model.specs.declared.process.Stop.TheVariants.{Illegal, Target, Break}
-use Rattle.ce_model.specs.declared.inst.Inst.{Inst}
-use Rattle.ce_model.specs.declared.inst.Inst.TheVariants.{Lui, Auipc, Jal, Jalr, Branch, Load, Store, OpImm, Op, Fence, Ecall, Ebreak}
-use Rattle.ce_model.specs.declared.inst.BranchOp.{BranchOp}
-use Rattle.ce_model.specs.declared.inst.BranchOp.TheVariants.{Beq, Bne, Blt, Bge, Bltu, Bgeu}
-use Rattle.ce_model.specs.declared.inst.LoadOp.{LoadOp}
-use Rattle.ce_model.specs.declared.inst.LoadOp.TheVariants.{Lb, Lh, Lw, Lbu, Lhu}
-use Rattle.ce_model.specs.declared.inst.StoreOp.{StoreOp}
-use Rattle.ce_model.specs.declared.inst.StoreOp.TheVariants.{Sb, Sh, Sw}
-use Rattle.ce_model.specs.declared.inst.ImmOp.{ImmOp}
-use Rattle.ce_model.specs.declared.inst.ImmOp.TheVariants.{Addi, Slti, Sltiu, Xori, Ori, Andi, Slli, Srli, Srai}
-use Rattle.ce_model.specs.declared.inst.RegOp.{RegOp}
-use Rattle.ce_model.specs.declared.inst.RegOp.TheVariants.{Add, Sll, Slt, Sltu, Xor, Srl, Or, And, Sub, Sra}
-use Rattle.ce_model.specs.Words.{dec}
-use Rattle.ce_model.specs.Word.{wrapping_sum, wrapping_difference, is_less_signed, one_if, shifted_left, shifted_right, shifted_right_signed}
+use Rattle.rv_model.specs.declared.stop.Stop.{Stop}
+use Rattle.rv_model.specs.declared.stop.Stop.TheVariants.{Illegal, Target, Break}
+use Rattle.rv_model.specs.declared.inst.Inst.{Inst}
+use Rattle.rv_model.specs.declared.inst.Inst.TheVariants.{Lui, Auipc, Jal, Jalr, Branch, Load, Store, OpImm, Op, Fence, Ecall, Ebreak}
+use Rattle.rv_model.specs.declared.inst.BranchOp.{BranchOp}
+use Rattle.rv_model.specs.declared.inst.BranchOp.TheVariants.{Beq, Bne, Blt, Bge, Bltu, Bgeu}
+use Rattle.rv_model.specs.declared.inst.LoadOp.{LoadOp}
+use Rattle.rv_model.specs.declared.inst.LoadOp.TheVariants.{Lb, Lh, Lw, Lbu, Lhu}
+use Rattle.rv_model.specs.declared.inst.StoreOp.{StoreOp}
+use Rattle.rv_model.specs.declared.inst.StoreOp.TheVariants.{Sb, Sh, Sw}
+use Rattle.rv_model.specs.declared.inst.ImmOp.{ImmOp}
+use Rattle.rv_model.specs.declared.inst.ImmOp.TheVariants.{Addi, Slti, Sltiu, Xori, Ori, Andi, Slli, Srli, Srai}
+use Rattle.rv_model.specs.declared.inst.RegOp.{RegOp}
+use Rattle.rv_model.specs.declared.inst.RegOp.TheVariants.{Add, Sll, Slt, Sltu, Xor, Srl, Or, And, Sub, Sra}
+use Rattle.rv_model.specs.Words.{dec}
+use Rattle.rv_model.specs.Word.{wrapping_sum, wrapping_difference, is_less_signed, one_if, shifted_left, shifted_right, shifted_right_signed}
 
 -- what a memory answers: the word at a pc, the `size` bytes at an address as a number, and the memory
 -- once the lowest `size` bytes of a number are stored at an address; or why it stops the process instead

@@ -1,0 +1,13 @@
+//! The plain types of the instruction set that all crates speak of: instructions, why a process stops, the sizes of a
+//! process's memory, and the one answer where memory runs out. It knows no rule; the rules are definitions in `specs/`.
+#![tactic(auto)]
+
+mod inst;
+mod limits;
+mod memory;
+mod stop;
+
+pub use inst::{BranchOp, ImmOp, Inst, LoadOp, RegOp, StoreOp};
+pub use limits::{IMAGE_ROOM, PRIVATE_END, PRIVATE_SIZE, PRIVATE_START};
+pub use memory::NoMemory;
+pub use stop::Stop;
