@@ -1,6 +1,1 @@
-pub mod Cube
-pub mod Machine
-pub mod Node
-pub mod Process
 pub mod Subcubes
-pub mod Views

@@ -2,7 +2,7 @@
 use Rattle.std.proofs.Common.{◌≡◌, codes, refl, arith}
 use Rattle.std.specs.Fmt.{digits}
 use Rattle.ce_model.specs.Subcubes.{extract, relative}
-use Rattle.ce_model.specs.Views.{view}
+use Rattle.ce_run.specs.Small.Views.{view}
 use Rattle.rv_model.specs.Image.{IsImage, image_parts}
 use Rattle.ce_run.specs.BuiltForm.{outline, outline_of, head_of, image_line, user_line, spawn_line, run_line, commands_of, Says}
 use Rattle.ce_run.specs.declared.form.image.ImageForm.TheVariants.{Hex}

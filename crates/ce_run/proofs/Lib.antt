@@ -13,4 +13,5 @@ pub mod OneScript
 pub mod Reaching
 pub mod ReportParts
 pub mod Saying
+pub mod Small
 pub mod UserSteps

@@ -5,7 +5,7 @@ use Rattle.std.proofs.Math.Numerals.{one-add}
 use Rattle.ce_model.specs.declared.entry.Entry.{Entry}
 use Rattle.ce_model.specs.declared.entry.What.{What}
 use Rattle.ce_model.specs.declared.entry.What.TheVariants.{Getcube, Peek, Drain, Freecube, Arm, Look, HostTake, Send, Spawn, Kill, Note, Take}
-use Rattle.ce_model.specs.Views.{granted, grants_of, is_drain, is_outside, entry_in, trace_of, view}
+use Rattle.ce_run.specs.Small.Views.{granted, grants_of, is_drain, is_outside, entry_in, trace_of, view}
 use Rattle.ce_run.specs.OneCube.{the_node, first_grant, first_entry, IsInnerStep, IsOneCube}
 
 -- an inner step grants nothing

@@ -8,11 +8,11 @@ use Rattle.ce_model.specs.declared.entry.What.TheVariants.{Arm, Look, Note, Take
 use Rattle.ce_model.specs.declared.entry.Found.TheVariants.{Quiet as FoundQuiet, Spent as FoundSpent}
 use Rattle.ce_model.specs.declared.entry.Given.TheVariants.{Start, Idle, Spent as GivenSpent}
 use Rattle.rv_model.specs.Image.{ImageParts}
-use Rattle.ce_model.specs.Node.{Node, fresh, got, noted, hears, says, take_work}
+use Rattle.ce_run.specs.Small.Node.{Node, fresh, got, noted, hears, says, take_work}
 use Rattle.ce_model.specs.Subcubes.{deposit, extract, first_free, subcubes}
-use Rattle.ce_model.specs.Views.{Granted as Grant}
-use Rattle.ce_model.specs.Cube.{IsAlone, acted, armed_of, dispatched_of, is_fresh, solo, state, waiting_at}
-use Rattle.ce_model.specs.Machine.{NodeState, IsLawful, after}
+use Rattle.ce_run.specs.Small.Views.{Granted as Grant}
+use Rattle.ce_run.specs.Small.Cube.{IsAlone, acted, armed_of, dispatched_of, is_fresh, solo, state, waiting_at}
+use Rattle.ce_run.specs.Small.Machine.{NodeState, IsLawful, after}
 use Rattle.ce_run.specs.declared.record.Command.TheVariants.{Getcube as AskCube, Spawn as AskSpawn, Run}
 use Rattle.ce_run.specs.declared.record.Answer.{Answer}
 use Rattle.ce_run.specs.declared.record.Record.{Record}

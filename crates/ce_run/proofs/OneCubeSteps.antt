@@ -11,12 +11,12 @@ use Rattle.ce_model.specs.declared.entry.Found.{Found}
 use Rattle.ce_model.specs.declared.entry.Given.{Given}
 use Rattle.ce_model.specs.declared.entry.Given.TheVariants.{Start, Mail, Kill, Poll, Idle, Spent}
 use Rattle.rv_model.specs.Image.{ImageParts}
-use Rattle.ce_model.specs.Node.{Node, Call, got, noted, hears, says, note_word, take_work}
+use Rattle.ce_run.specs.Small.Node.{Node, Call, got, noted, hears, says, note_word, take_work}
 use Rattle.ce_model.specs.Subcubes.{relative, extract, deposit}
-use Rattle.ce_model.specs.Views.{what_in, view}
-use Rattle.ce_model.specs.Cube.{Cube, IsAlone, has_no_eligible, armed_of, dispatched_of, found_where, is_eligible, is_quiet, is_used_up, is_same_item, is_work, item_of, last_of, next_call, offered, is_node_quiet, is_quiet_after, sends_to, state, stepped, taken_by, waiting_at, what_of}
-use Rattle.ce_model.specs.Machine.{NodeState, Held, IsAnswered, IsLawful, IsSaid, MachineParts, MachineState, HoldsCube, after, answered_in, asked, busy, changed_by, held_by, is_all_quiet, is_idle, node_call, without}
-use Rattle.ce_model.proofs.OneMore.{after-more, alone-more, armed_of-more, armed_of-stays, dispatched_of-arm, dispatched_of-more, last_of-more, lawful-more, state-more, waiting_at-sent, waiting_at-taken}
+use Rattle.ce_run.specs.Small.Views.{what_in, view}
+use Rattle.ce_run.specs.Small.Cube.{Cube, IsAlone, has_no_eligible, armed_of, dispatched_of, found_where, is_eligible, is_quiet, is_used_up, is_same_item, is_work, item_of, last_of, next_call, offered, is_node_quiet, is_quiet_after, sends_to, state, stepped, taken_by, waiting_at, what_of}
+use Rattle.ce_run.specs.Small.Machine.{NodeState, Held, IsAnswered, IsLawful, IsSaid, MachineParts, MachineState, HoldsCube, after, answered_in, asked, busy, changed_by, held_by, is_all_quiet, is_idle, node_call, without}
+use Rattle.ce_run.proofs.Small.OneMore.{after-more, alone-more, armed_of-more, armed_of-stays, dispatched_of-arm, dispatched_of-more, last_of-more, lawful-more, state-more, waiting_at-sent, waiting_at-taken}
 use Rattle.ce_run.specs.OneCube.{the_node, first_entry, first_grant, host_entry, node_entry, IsInnerStep}
 use Rattle.ce_run.proofs.InnerSteps.{all_more, arm_inner, look_inner, note_inner, take_inner, node_stays}
 use Rattle.ce_run.proofs.OneCubeFacts.{whole_view}

@@ -3,7 +3,7 @@ use Rattle.std.proofs.Common.{◌≡◌, ℕ, suc, List, refl, ap, ◌∙◌}
 use Rattle.rv_model.specs.declared.stop.Stop.TheVariants.{TurnSpent}
 use Rattle.rv_model.specs.Exec.{Outcome, exec}
 use Rattle.rv_model.specs.Private.{private_access}
-use Rattle.ce_model.specs.Process.{Process, at_end, ended, led_to, reached}
+use Rattle.ce_run.specs.Small.Process.{Process, at_end, ended, led_to, reached}
 
 reached_step : (n : ℕ) (p : Process) → reached (suc n) p ≡ led_to (reached n) n p (exec private_access p.regs p.pc p.memory)
 unfolding reached

@@ -6,7 +6,7 @@ use Rattle.std.proofs.lemmas.Fmt.{decimal_digit}
 use Rattle.std.proofs.lemmas.List.{append-nil}
 use Rattle.std.proofs.lemmas.Grind.{common_steps}
 use Rattle.ce_model.specs.declared.entry.Entry.{Entry}
-use Rattle.ce_model.specs.Views.{view}
+use Rattle.ce_run.specs.Small.Views.{view}
 use Rattle.ce_run.specs.declared.form.BuiltForm.{BuiltForm}
 use Rattle.ce_run.specs.declared.record.Record.{Record}
 use Rattle.ce_run.specs.Script.{script_of_form}

@@ -2,8 +2,8 @@
 use Rattle.std.proofs.Common.{◌≡◌, ℕ, ◌-◌, ◌==◌, true, false, List, [], ◌∷◌, None, slice_index, refl, ap, sym, subst}
 use Rattle.rv_model.specs.declared.stop.Stop.{Stop}
 use Rattle.rv_model.specs.declared.stop.Stop.TheVariants.{Exited, NoCall, TurnSpent}
-use Rattle.ce_model.specs.Process.{at_call, at_end, ended, reached}
-use Rattle.ce_model.specs.Node.{Node, Saying, take_work, note_word, says, hears}
+use Rattle.ce_run.specs.Small.Process.{at_call, at_end, ended, reached}
+use Rattle.ce_run.specs.Small.Node.{Node, Saying, take_work, note_word, says, hears}
 use Rattle.ce_run.specs.declared.process.Process.{Process}
 use Rattle.ce_run.specs.OneCube.{Notes}
 use Rattle.ce_run.specs.Running.{process_of, running_node, ended_node}

@@ -9,9 +9,9 @@ use Rattle.ce_model.specs.declared.entry.What.TheVariants.{Getcube as AskedCube,
 use Rattle.ce_model.specs.declared.entry.Found.{Found}
 use Rattle.ce_model.specs.declared.entry.Found.TheVariants.{Quiet as FoundQuiet, Spent as FoundSpent, Busy}
 use Rattle.rv_model.specs.Image.{ImageParts}
-use Rattle.ce_model.specs.Views.{Granted, entry_in}
-use Rattle.ce_model.specs.Cube.{Cube, node_numbers, is_place, step_by, is_dispatch}
-use Rattle.ce_model.specs.Machine.{cube_of}
+use Rattle.ce_run.specs.Small.Views.{Granted, entry_in}
+use Rattle.ce_run.specs.Small.Cube.{Cube, node_numbers, is_place, step_by, is_dispatch}
+use Rattle.ce_run.specs.Small.Machine.{cube_of}
 use Rattle.ce_run.specs.declared.record.Command.{Command}
 use Rattle.ce_run.specs.declared.record.Command.TheVariants.{Getcube, Spawn, Run}
 use Rattle.ce_run.specs.declared.record.Answer.{Answer}

@@ -3,9 +3,9 @@ use Rattle.std.specs.Prelude.{◌≡◌, ℕ, ◌==◌, List, None, map, filter,
 use Rattle.std.specs.List.{AllByRecursion, enumerate_from}
 use Rattle.ce_model.specs.declared.entry.Entry.{Entry}
 use Rattle.rv_model.specs.Image.{ImageParts}
-use Rattle.ce_model.specs.Views.{Granted, grants_of, view}
-use Rattle.ce_model.specs.Cube.{IsAlone}
-use Rattle.ce_model.specs.Machine.{MachineParts, IsLawful, cube_of}
+use Rattle.ce_run.specs.Small.Views.{Granted, grants_of, view}
+use Rattle.ce_run.specs.Small.Cube.{IsAlone}
+use Rattle.ce_run.specs.Small.Machine.{MachineParts, IsLawful, cube_of}
 use Rattle.ce_run.specs.declared.record.Command.{Command}
 use Rattle.ce_run.specs.declared.record.Answer.{Answer}
 use Rattle.ce_run.specs.declared.record.Record.{Record}

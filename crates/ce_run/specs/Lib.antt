@@ -12,5 +12,6 @@ pub mod Lines
 pub mod OneCube
 pub mod Running
 pub mod Script
+pub mod Small
 pub mod Text
 pub mod Words

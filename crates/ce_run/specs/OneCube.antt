@@ -12,9 +12,9 @@ use Rattle.ce_model.specs.declared.entry.Found.TheVariants.{Quiet, Spent as Foun
 use Rattle.ce_model.specs.declared.entry.Given.{Given}
 use Rattle.ce_model.specs.declared.entry.Given.TheVariants.{Start, Idle, Spent as GivenSpent}
 use Rattle.ce_run.specs.declared.machine.Machine.{Machine}
-use Rattle.ce_model.specs.Views.{Granted, is_outside, entry_in}
+use Rattle.ce_run.specs.Small.Views.{Granted, is_outside, entry_in}
 use Rattle.rv_model.specs.Image.{ImageParts}
-use Rattle.ce_model.specs.Node.{Node, fresh, got, noted, hears, says, note_word, take_work}
+use Rattle.ce_run.specs.Small.Node.{Node, fresh, got, noted, hears, says, note_word, take_work}
 use Rattle.ce_run.specs.declared.record.Answer.{Answer}
 use Rattle.ce_run.specs.declared.record.Answer.TheVariants.{Granted as AnswerGranted, Ok as Done, Quiet as AnswerQuiet, Spent as AnswerSpent}
 use Rattle.ce_run.specs.declared.record.Command.{Command}

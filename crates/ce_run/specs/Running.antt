@@ -3,9 +3,9 @@ use Rattle.std.specs.Prelude.{◌≡◌, [], ◌∷◌, Some, None, replicate}
 use Rattle.rv_model.specs.declared.stop.Stop.{Stop}
 use Rattle.ce_model.specs.declared.process.Status.TheVariants.{Running}
 use Rattle.ce_model.specs.declared.entry.Given.TheVariants.{Start}
-use Rattle.ce_model.specs.Process.{Process as ModelProcess, unborn, ended}
+use Rattle.ce_run.specs.Small.Process.{Process as ModelProcess, unborn, ended}
 use Rattle.rv_model.specs.Image.{ImageParts}
-use Rattle.ce_model.specs.Node.{Node, fresh, got, hears}
+use Rattle.ce_run.specs.Small.Node.{Node, fresh, got, hears}
 use Rattle.ce_run.specs.declared.process.Process.{Process}
 
 -- the process of the model

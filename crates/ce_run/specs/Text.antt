@@ -12,7 +12,7 @@ use Rattle.ce_model.specs.declared.entry.Found.{Found}
 use Rattle.ce_model.specs.declared.entry.Found.TheVariants.{Quiet as FoundQuiet, Spent as FoundSpent, Busy}
 use Rattle.ce_model.specs.declared.entry.Given.{Given}
 use Rattle.ce_model.specs.declared.entry.Given.TheVariants.{Start, Mail, Kill, Poll, Idle, Spent as GivenSpent}
-use Rattle.ce_model.specs.Views.{Granted, grants_of, view}
+use Rattle.ce_run.specs.Small.Views.{Granted, grants_of, view}
 use Rattle.ce_run.specs.declared.record.Command.{Command}
 use Rattle.ce_run.specs.declared.record.Command.TheVariants.{Getcube, Spawn, Run}
 use Rattle.ce_run.specs.declared.record.Answer.{Answer}

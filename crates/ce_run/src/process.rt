@@ -1,7 +1,7 @@
 //! The one process: its registers, its memory, and its run from one kernel call to the next.
 ghost use Rattle.std.specs.Prelude.{◌≡◌, ◌<◌, Ok, None, IfOk, IfErr, MatchOption};
-ghost use Rattle.ce_model.specs.Process.{at_call, at_end, ended, reached};
-ghost use Rattle.ce_model.specs.Node.{says, note_word, take_work};
+ghost use Rattle.ce_run.specs.Small.Process.{at_call, at_end, ended, reached};
+ghost use Rattle.ce_run.specs.Small.Node.{says, note_word, take_work};
 ghost use Rattle.ce_run.specs.Running.{process_of, running_node, ended_node, IsStart};
 
 use ce_model::{NoMemory, Stop};
@@ -40,7 +40,7 @@ pub(crate) struct Process {
 
 impl Process {
     /// The process that starts from an image, at the image's entry.
-    #[tactic(auto, unfolding(ce_model::specs::Node::hears))]
+    #[tactic(auto, unfolding(crate::specs::Small::Node::hears))]
     pub(crate) fn start(alloc: Global, image: &Image) -> Result<Process, NoMemory>
         ensures { IfOk result (IsStart image.now) }
     {

@@ -1,5 +1,5 @@
 use Rattle.std.proofs.Common.{◌≡◌}
-use Rattle.ce_model.specs.Process.{reached}
+use Rattle.ce_run.specs.Small.Process.{reached}
 use Rattle.ce_run.specs.Running.{process_of}
 use Rattle.ce_run.proofs.process.Process.run_to_call.Given as goal
 

@@ -1,3 +1,6 @@
+-- The model cut to one node and one process, which is all that runs today. It is private to this crate, and goes with the
+-- private machine.
+--
 -- The definitions of a cube alone, computed on a worked row: the cube of the script that notes 42, by its host's calls and
 -- the order of its actors, gives the row's trace. What the node says is a premise, so that no memory is computed.
 use Rattle.std.proofs.Common.{◌≡◌, List, [], ◌∷◌, Some, None, true, refl}
@@ -8,8 +11,8 @@ use Rattle.ce_model.specs.declared.entry.What.TheVariants.{Arm, Look, Spawn, Not
 use Rattle.ce_model.specs.declared.entry.Found.TheVariants.{Quiet}
 use Rattle.ce_model.specs.declared.entry.Given.TheVariants.{Start, Idle}
 use Rattle.rv_model.specs.Image.{ImageParts}
-use Rattle.ce_model.specs.Node.{Node, fresh, take_work, note_word, says, got, noted, hears}
-use Rattle.ce_model.specs.Cube.{Cube, spawns, arms, looks, step_by, state, waiting_at, armed_of, dispatched_of, is_quiet, is_fresh, acted, solo, IsAlone}
+use Rattle.ce_run.specs.Small.Node.{Node, fresh, take_work, note_word, says, got, noted, hears}
+use Rattle.ce_run.specs.Small.Cube.{Cube, spawns, arms, looks, step_by, state, waiting_at, armed_of, dispatched_of, is_quiet, is_fresh, acted, solo, IsAlone}
 
 -- the cube of user 0, of one node and one image
 abbrev pub one_cube : ImageParts → Cube

@@ -1,3 +1,6 @@
+-- The model cut to one node and one process, which is all that runs today. It is private to this crate, and goes with the
+-- private machine.
+--
 -- What the history of the machine is for one cube.
 use Rattle.std.specs.Prelude.{ℕ, ◌-◌, List, [], ◌∷◌, map, filter, take_while, Option, Some, None, Bool, true, false, not, ◌&&◌, ◌==◌, nat_lt, if◌then◌else◌}
 use Rattle.std.specs.List.{filter_map}

@@ -1,3 +1,6 @@
+-- The model cut to one node and one process, which is all that runs today. It is private to this crate, and goes with the
+-- private machine.
+--
 -- One cube alone: its trace, each node's state after a trace, what waits at a node, and the answer that a trace gives to a
 -- call. A trace is a list of steps with the cube's own numbers for its nodes.
 use Rattle.std.specs.Prelude.{◌≡◌, ℕ, ◌/◌, ◌%◌, ◌^◌, List, [], ◌∷◌, ◌++◌, Option, Some, None, Bool, true, false, not, ◌&&◌, ◌||◌, ◌==◌, nat_lt, if◌then◌else◌, length, map, reverse, filter, filter_map, find, flat_map, take_while, count_by, fold, slice_index, option_map}
@@ -12,7 +15,7 @@ use Rattle.ce_model.specs.declared.entry.Found.TheVariants.{Quiet, Spent as Foun
 use Rattle.ce_model.specs.declared.entry.Given.{Given}
 use Rattle.ce_model.specs.declared.entry.Given.TheVariants.{Start, Mail, Kill, Poll, Idle, Spent}
 use Rattle.rv_model.specs.Image.{ImageParts}
-use Rattle.ce_model.specs.Node.{Node, fresh, Call, take_work, note_word, says, Heard, got, noted, hears}
+use Rattle.ce_run.specs.Small.Node.{Node, fresh, Call, take_work, note_word, says, Heard, got, noted, hears}
 
 -- a cube: whose it is, its dimension, and the images that its processes start from
 pub record Cube : Type 0 where

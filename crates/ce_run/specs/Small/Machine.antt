@@ -1,3 +1,6 @@
+-- The model cut to one node and one process, which is all that runs today. It is private to this crate, and goes with the
+-- private machine.
+--
 -- The physical machine: its state after a history, and the histories that it allows. A history is a list of steps with the
 -- machine's own numbers for its nodes.
 use Rattle.std.specs.Prelude.{◌≡◌, ℕ, ◌+◌, ◌^◌, ◌<◌, ◌≤◌, List, [], ◌∷◌, ◌++◌, Option, Some, None, Bool, true, false, not, ◌&&◌, ◌==◌, if◌then◌else◌, IsTrue, IsSomeAnd, length, map, filter, find, fold, replicate, slice_index_or, slice_set}
@@ -11,10 +14,10 @@ use Rattle.ce_model.specs.declared.entry.What.TheVariants.{Getcube, Peek, Drain,
 use Rattle.ce_model.specs.declared.entry.Given.{Given}
 use Rattle.ce_model.specs.declared.entry.Given.TheVariants.{Start, Idle}
 use Rattle.rv_model.specs.Image.{ImageParts}
-use Rattle.ce_model.specs.Node.{Call, take_work, note_word}
+use Rattle.ce_run.specs.Small.Node.{Call, take_work, note_word}
 use Rattle.ce_model.specs.Subcubes.{relative, is_inside, all_nodes, first_free}
-use Rattle.ce_model.specs.Views.{Granted, what_in, view}
-use Rattle.ce_model.specs.Cube.{Cube, is_same_item, item_in, is_work, is_eligible, has_no_eligible, offered, found_where, next_call}
+use Rattle.ce_run.specs.Small.Views.{Granted, what_in, view}
+use Rattle.ce_run.specs.Small.Cube.{Cube, is_same_item, item_in, is_work, is_eligible, has_no_eligible, offered, found_where, next_call}
 
 -- a machine: its dimension, which is 6 at most, how many users it has, and its images
 pub record MachineParts : Type 0 where

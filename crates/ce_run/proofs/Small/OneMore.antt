@@ -1,3 +1,6 @@
+-- The model cut to one node and one process, which is all that runs today. It is private to this crate, and goes with the
+-- private machine.
+--
 -- The definitions over a trace or a history, for one step more at the end.
 use Rattle.std.proofs.Common.{◌≡◌, ℕ, ◌+◌, List, [], ◌∷◌, ◌++◌, Option, Some, None, Bool, true, false, not, ◌&&◌, ◌||◌, ◌==◌, if◌then◌else◌, refl, ap, sym, ◌∙◌, subst, filter, reverse}
 use Rattle.std.specs.Prelude.{take_while, find, fold, option_map}
@@ -13,9 +16,9 @@ use Rattle.ce_model.specs.declared.entry.Entry.{Entry}
 use Rattle.ce_model.specs.declared.entry.What.{What}
 use Rattle.ce_model.specs.declared.entry.What.TheVariants.{Arm}
 use Rattle.ce_model.specs.declared.entry.Given.{Given}
-use Rattle.ce_model.specs.Node.{fresh}
-use Rattle.ce_model.specs.Cube.{Cube, HostCall, Solo, state, after_entry, sends_to, sent_to, item_of, taken_by, waiting_at, is_same_item, armed_of, dispatched_of, is_dispatch, is_arm, arm_count, starts_at, is_fresh, is_node, what_of, next_call, host_what, stepped, host_acts, node_acts, acted, acts, with_no_call, whole_trace, solo, host_call, host_calls, actors, IsAlone, last_of, is_quiet, is_node_quiet, node_numbers}
-use Rattle.ce_model.specs.Machine.{MachineParts, opening, changed_by, after, Fits, AllFit, IsLawful}
+use Rattle.ce_run.specs.Small.Node.{fresh}
+use Rattle.ce_run.specs.Small.Cube.{Cube, HostCall, Solo, state, after_entry, sends_to, sent_to, item_of, taken_by, waiting_at, is_same_item, armed_of, dispatched_of, is_dispatch, is_arm, arm_count, starts_at, is_fresh, is_node, what_of, next_call, host_what, stepped, host_acts, node_acts, acted, acts, with_no_call, whole_trace, solo, host_call, host_calls, actors, IsAlone, last_of, is_quiet, is_node_quiet, node_numbers}
+use Rattle.ce_run.specs.Small.Machine.{MachineParts, opening, changed_by, after, Fits, AllFit, IsLawful}
 
 -- the node after one step more of the cube
 pub state-more : (cube : Cube) (r : ℕ) (t : List Entry) (entry : Entry)

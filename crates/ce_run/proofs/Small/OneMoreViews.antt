@@ -1,3 +1,6 @@
+-- The model cut to one node and one process, which is all that runs today. It is private to this crate, and goes with the
+-- private machine.
+--
 -- What a history grants and what it is for one cube, for one step more at the end.
 use Rattle.std.proofs.Common.{◌≡◌, ℕ, ◌-◌, List, [], ◌∷◌, ◌++◌, Option, Some, None, Bool, true, false, not, ◌&&◌, ◌==◌, if◌then◌else◌, refl, ap, sym, ◌∙◌, filter, map, cond}
 use Rattle.std.specs.Prelude.{take_while, option_map}
@@ -7,7 +10,7 @@ use Rattle.std.proofs.lemmas.List.{append-nil, map-append}
 use Rattle.std.proofs.lemmas.List.Elements.{filter-append, filter_map-append}
 use Rattle.std.proofs.lemmas.List.Sums.{take_while-cons}
 use Rattle.ce_model.specs.declared.entry.Entry.{Entry}
-use Rattle.ce_model.specs.Views.{Granted, granted_by, grants_of, is_drain, is_outside, entry_in, trace_of, from_grant, view}
+use Rattle.ce_run.specs.Small.Views.{Granted, granted_by, grants_of, is_drain, is_outside, entry_in, trace_of, from_grant, view}
 
 pub grants_of-more : (history : List Entry) (entry : Entry) → grants_of (history ++ entry ∷ []) ≡ grants_of history ++ grants_of (entry ∷ [])
 grants_of-more history entry = filter_map-append granted_by history (entry ∷ [])

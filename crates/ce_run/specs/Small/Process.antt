@@ -1,8 +1,12 @@
+-- The model cut to one node and one process, which is all that runs today. It is private to this crate, and goes with the
+-- private machine.
+--
 -- A process: its state, and its run to the next call of the kernel.
 use Rattle.std.specs.Prelude.{ℕ, zero, suc, List, []}
 use Rattle.std.specs.Prelude.{replicate, slice_set}
 use Rattle.ce_model.specs.declared.process.Status.{Status}
 use Rattle.ce_model.specs.declared.process.Status.TheVariants.{Unborn, Running, Stopped}
+use Rattle.rv_model.specs.declared.limits.TheConstants.{PRIVATE_END}
 use Rattle.rv_model.specs.declared.stop.Stop.{Stop}
 use Rattle.rv_model.specs.declared.stop.Stop.TheVariants.{TurnSpent}
 use Rattle.rv_model.specs.Exec.{Outcome, went, called, stopped, exec}
@@ -25,7 +29,7 @@ unborn = record { status = Unborn; regs = replicate 32 0; pc = 0; memory = with_
 abbrev pub started : ImageParts → Process
 started image = record {
   status = Running;
-  regs = slice_set (replicate 32 0) 2 0x3_0000;
+  regs = slice_set (replicate 32 0) 2 PRIVATE_END;
   pc = image.entry;
   memory = with_loaded image.loaded;
 }

@@ -1,3 +1,6 @@
+-- The model cut to one node and one process, which is all that runs today. It is private to this crate, and goes with the
+-- private machine.
+--
 -- A node: what it says to the machine next, and what it becomes by the answer.
 use Rattle.std.specs.Prelude.{ℕ, ◌+◌, ◌*◌, ◌-◌, List, [], ◌∷◌, Option, Some, None, Bool, true, false, if◌then◌else◌, ◌==◌, replicate, slice_index, slice_set, slice_index_or}
 use Rattle.ce_model.specs.declared.process.Status.{Status}
@@ -6,7 +9,7 @@ use Rattle.rv_model.specs.declared.stop.Stop.TheVariants.{Exited, Killed, NoCall
 use Rattle.ce_model.specs.declared.entry.Given.{Given}
 use Rattle.ce_model.specs.declared.entry.Given.TheVariants.{Start, Mail, Kill, Poll, Idle, Spent}
 use Rattle.rv_model.specs.Image.{ImageParts, image_start}
-use Rattle.ce_model.specs.Process.{Process, unborn, started, ended, Reached, at_call, at_end, reached}
+use Rattle.ce_run.specs.Small.Process.{Process, unborn, started, ended, Reached, at_call, at_end, reached}
 
 -- the turn of a process: its id, and how many instructions and how many counted calls it may still make
 pub record Turn : Type 0 where

@@ -1,3 +1,0 @@
-pub mod HelloAlone
-pub mod OneMore
-pub mod OneMoreViews
