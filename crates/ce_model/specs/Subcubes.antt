@@ -1,8 +1,10 @@
 -- The subcubes of a machine, and the numbers by which a cube knows its nodes.
-use Rattle.std.specs.Prelude.{ℕ, ◌+◌, ◌*◌, ◌/◌, ◌%◌, ◌^◌, zero, suc, ◌==◌, if◌then◌else◌, Bool, List, map, filter, find, flat_map, Option}
+use Rattle.std.specs.Prelude.{◌≡◌, ℕ, ◌+◌, ◌*◌, ◌/◌, ◌%◌, ◌^◌, ◌<◌, zero, suc, ◌==◌, if◌then◌else◌, Bool, List, map, filter, find, flat_map, Option}
 use Rattle.std.specs.List.{list_all, range_with_len}
 use Rattle.ce_model.specs.declared.topology.TheConstants.{HOST}
+use Rattle.ce_model.specs.declared.topology.NodeSet.{NodeSet}
 use Rattle.ce_model.specs.declared.topology.Subcube.{Subcube}
+use Rattle.ce_model.specs.Limits.{greatest_dim}
 
 -- the bits of n at the one bits of the mask, moved together from the lowest up; for numbers of so many bits
 abbrev pub extracted : ℕ → ℕ → ℕ → ℕ
@@ -12,7 +14,7 @@ extracted (suc bits) n mask =
 
 -- the relative number of a node of a subcube
 unfoldable pub extract : ℕ → ℕ → ℕ
-extract n mask = extracted 6 n mask
+extract n mask = extracted greatest_dim n mask
 
 -- the number by which a cube knows a node of the machine; its host keeps the number
 unfoldable pub relative : Subcube → ℕ → ℕ
@@ -25,7 +27,7 @@ deposited (suc bits) r mask =
     if mask % 2 == 1 then r % 2 + 2 * deposited bits (r / 2) (mask / 2) else 2 * deposited bits r (mask / 2)
 
 unfoldable pub deposit : ℕ → ℕ → ℕ
-deposit r mask = deposited 6 r mask
+deposit r mask = deposited greatest_dim r mask
 
 -- the node of the machine that a cube knows as r
 abbrev pub node_of : Subcube → ℕ → ℕ
@@ -34,6 +36,14 @@ node_of sub r = sub.base + deposit r sub.mask
 -- the node is one of the subcube's
 abbrev pub is_inside : Subcube → ℕ → Bool
 is_inside sub node = node_of sub (extract node sub.mask) == node
+
+-- node n is in a set of nodes where its word has bit n
+abbrev pub has_node : NodeSet → ℕ → Bool
+has_node nodes n = nodes.0 / 2 ^ n % 2 == 1
+
+-- each one bit of n is a one bit of the mask
+pub record IsPart (n mask : ℕ) : Type 0 where
+  pub ones : (place : ℕ) → n / 2 ^ place % 2 ≡ 1 → mask / 2 ^ place % 2 ≡ 1
 
 -- how many one bits a number of so many bits has
 abbrev pub ones_of : ℕ → ℕ → ℕ
@@ -44,6 +54,13 @@ ones_of (suc bits) n = n % 2 + ones_of bits (n / 2)
 abbrev pub is_base : ℕ → ℕ → Bool
 is_base mask base = extract base mask == 0
 
+-- the mask and the base name a subcube of dimension d of a machine of dimension dim
+pub record IsSubcube (dim d : ℕ) (sub : Subcube) : Type 0 where
+  pub mask_within : sub.mask < 2 ^ dim
+  pub base_within : sub.base < 2 ^ dim
+  pub dimension : ones_of greatest_dim sub.mask ≡ d
+  pub apart : extract sub.base sub.mask ≡ 0
+
 abbrev pub subcube_at : ℕ → ℕ → Subcube
 subcube_at mask base = record { mask = mask; base = base }
 
@@ -53,7 +70,7 @@ with_mask count mask = map (subcube_at mask) (filter (is_base mask) (range_with_
 
 -- the subcubes of dimension d of a machine of dimension dim, by rising mask, and those of one mask by rising base
 unfoldable pub subcubes : (dim d : ℕ) → List Subcube
-subcubes dim d = flat_map (with_mask (2 ^ dim)) (filter (λ mask. ones_of 6 mask == d) (range_with_len 0 (2 ^ dim)))
+subcubes dim d = flat_map (with_mask (2 ^ dim)) (filter (λ mask. ones_of greatest_dim mask == d) (range_with_len 0 (2 ^ dim)))
 
 -- all nodes of a subcube of dimension d pass a test
 abbrev pub all_nodes : (ℕ → Bool) → ℕ → Subcube → Bool

@@ -1,18 +1,18 @@
 use crate::{Bytes, Place, Subcube, Targets};
 
-/// One step of the machine: who made it, what it was, and what was answered. In the machine's history actors,
-/// places and homes of blocks are physical numbers; in the trace of one cube they are relative ones.
+/// An entry of the machine's history: who made it, what it was, and what was answered. In the machine's history
+/// actors, places and homes of blocks are physical numbers; in the trace of one cube they are relative ones.
 #[derive(Debug, Drop)]
 pub struct Entry {
-    /// The user whose step it was, 0 to 7.
+    /// The user whose entry it is, below `GREATEST_USERS`.
     pub user: u32,
     /// The node, or `HOST` for the user's host.
     pub actor: u32,
-    /// The step and its answer.
+    /// The call and its answer.
     pub what: What,
 }
 
-/// A step and its answer.
+/// A call and its answer.
 #[derive(Debug, Drop)]
 pub enum What {
     /// The host asked for a cube of dimension `dim`, and got `sub`, or nothing where none was free.
@@ -26,7 +26,7 @@ pub enum What {
     Drain,
     /// The host gave its cube back.
     Freecube,
-    /// The host allowed `count` more dispatches, 1,000,000 at most; earlier leave ends.
+    /// The host allowed `count` dispatches, `GREATEST_COUNT` at most; the count begins anew.
     Arm {
         count: u32,
     },
@@ -46,8 +46,8 @@ pub enum What {
         to: Targets,
         bytes: Bytes,
     },
-    /// Process `pid` started image `image` as the process `to`; not `fresh` where that id was used before, and
-    /// then nothing was started.
+    /// Process `pid` had image `image` started as the process `to`; not `fresh` where that id was spawned before,
+    /// and then nothing is started.
     Spawn {
         pid: u32,
         image: u32,
@@ -78,11 +78,11 @@ pub enum What {
 /// What a look at a cube finds.
 #[derive(Clone, Copy, Debug, PartialEq, Eq)]
 pub enum Found {
-    /// No node has work.
+    /// Each node was found idle by its last entry, or has none, and nothing that waits can be given to it.
     Quiet,
-    /// There is work, and the allowed dispatches are used up.
+    /// It isn't quiet, and the allowed dispatches are used up.
     Spent,
-    /// There is work, and leave to do it.
+    /// It isn't quiet, and dispatches are allowed still.
     Busy,
 }
 
@@ -91,7 +91,7 @@ pub enum Found {
 pub enum KillFound {
     /// The kill is on its way.
     Killed,
-    /// No process was ever started there.
+    /// No process was ever spawned there.
     Unused,
     /// A kill was accepted before.
     Already,

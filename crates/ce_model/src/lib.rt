@@ -3,11 +3,17 @@
 #![tactic(auto)]
 
 mod entry;
+mod limits;
 mod lists;
 mod process;
 mod topology;
 
 pub use entry::{Entry, Found, Given, KillFound, What};
+pub use limits::{
+    BLOCK_ROOM, GREATEST_COUNT, GREATEST_DIMENSION, GREATEST_IMAGES, GREATEST_TARGETS,
+    GREATEST_USERS, HOME_BLOCKS, HOST_HOME, PROCESS_COUNT, TURN_CALLS, TURN_INSTRUCTIONS,
+    WINDOW_BASE, WINDOW_COUNT, WINDOW_SIZE,
+};
 pub use lists::{Bytes, Targets};
 pub use process::Status;
 pub use rv_model::{BranchOp, ImmOp, Inst, LoadOp, NoMemory, RegOp, Stop, StoreOp};

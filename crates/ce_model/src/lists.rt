@@ -3,7 +3,7 @@ ghost use Rattle.std.specs.Prelude.{◌≡◌};
 use crate::{BlockId, Place};
 use std::marker::Model;
 
-/// The bytes of a message, 4,096 at most. Contracts see it as their list.
+/// The bytes of a message, `BLOCK_ROOM` at most. Contracts see it as their list.
 #[derive(Debug, Drop)]
 pub struct Bytes {
     items: Vec<u8>,

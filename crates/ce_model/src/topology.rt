@@ -2,7 +2,7 @@
 pub const HOST: u32 = 0xFFFF_FFFF;
 
 /// Where a process is: a node and a process id. In a cube nodes are relative numbers below 2^d, or `HOST`;
-/// in the machine's history they are physical numbers. Process ids are 0 to 7.
+/// in the machine's history they are physical numbers. Process ids are below `PROCESS_COUNT`.
 #[derive(Clone, Copy, Debug, PartialEq, Eq)]
 pub struct Place {
     /// The node, or `HOST`.
@@ -14,9 +14,9 @@ pub struct Place {
 /// The name of a message block: where it lies when nobody uses it, and its number there.
 #[derive(Clone, Copy, Debug, PartialEq, Eq)]
 pub struct BlockId {
-    /// A node's number, or for the host of user u 256 + u (256 in the trace of one cube).
+    /// A node's number, or for the host of user u `HOST_HOME` + u (`HOST_HOME` in the trace of one cube).
     pub home: u32,
-    /// 0 to 31.
+    /// Below `HOME_BLOCKS`.
     pub index: u32,
 }
 
@@ -24,9 +24,9 @@ pub struct BlockId {
 /// no bit in common with `base`.
 #[derive(Clone, Copy, Debug, PartialEq, Eq)]
 pub struct Subcube {
-    /// The directions in which the subcube extends, one bit each; below 64.
+    /// The directions in which the subcube extends, one bit each; below 2^`GREATEST_DIMENSION`.
     pub mask: u32,
-    /// The number of its relative node 0; below 64.
+    /// The number of its relative node 0; below 2^`GREATEST_DIMENSION`.
     pub base: u32,
 }
 

@@ -1,6 +1,7 @@
 -- The definitions, computed on a worked row.
 use Rattle.std.proofs.Common.{◌≡◌, codes, refl, arith}
 use Rattle.std.specs.Fmt.{digits}
+use Rattle.ce_model.specs.Limits.{greatest_dim}
 use Rattle.ce_model.specs.Subcubes.{extract, relative}
 use Rattle.ce_run.specs.Small.Views.{view}
 use Rattle.rv_model.specs.Image.{IsImage, image_parts}
@@ -21,5 +22,5 @@ hello_is_built = (outline (codes "hello") Hex hello_body (codes "alice") 10, ref
 
 -- the record has this text
 pub hello_is_reported : report (script_of_form hello_form) hello_record ≡ hello_report
-unfolding report view relative extract digits
+unfolding report view relative extract digits greatest_dim
 hello_is_reported = refl

@@ -6,6 +6,7 @@ use Rattle.ce_model.specs.declared.entry.Entry.{Entry}
 use Rattle.ce_model.specs.declared.entry.Given.{Given}
 use Rattle.ce_model.specs.declared.entry.Found.{Found}
 use Rattle.ce_model.specs.declared.entry.What.TheVariants.{Arm, Look, Note, Spawn, Take}
+use Rattle.ce_model.specs.Limits.{greatest_dim}
 use Rattle.ce_model.specs.Subcubes.{extract, relative}
 use Rattle.ce_run.specs.OneCube.{the_node, IsInnerStep, host_entry, node_entry, place_0}
 
@@ -14,7 +15,7 @@ unfolding relative
 host_stays = refl
 
 pub node_stays : relative the_node 0 ≡ 0
-unfolding relative extract
+unfolding relative extract greatest_dim
 node_stays = refl
 
 pub arm_inner : (count : ℕ) → IsInnerStep (host_entry (Arm count))

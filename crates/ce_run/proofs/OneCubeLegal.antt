@@ -9,6 +9,7 @@ use Rattle.ce_model.specs.declared.entry.Found.TheVariants.{Quiet as FoundQuiet,
 use Rattle.ce_model.specs.declared.entry.Given.TheVariants.{Start, Idle, Spent as GivenSpent}
 use Rattle.rv_model.specs.Image.{ImageParts}
 use Rattle.ce_run.specs.Small.Node.{Node, fresh, got, noted, hears, says, take_work}
+use Rattle.ce_model.specs.Limits.{greatest_dim}
 use Rattle.ce_model.specs.Subcubes.{deposit, extract, first_free, subcubes}
 use Rattle.ce_run.specs.Small.Views.{Granted as Grant}
 use Rattle.ce_run.specs.Small.Cube.{IsAlone, acted, armed_of, dispatched_of, is_fresh, solo, state, waiting_at}
@@ -36,7 +37,7 @@ at_rest = record { queue = []; spawned = 0 ∷ []; asking = 0; dead = 1; idle = 
 
 -- the machine grants the only cube, and starts the process in it
 granted_lawful : (image : ImageParts) → IsLawful (one_machine image) (first_entry ∷ spawn_entry ∷ [])
-unfolding after first_free subcubes deposit extract
+unfolding after first_free subcubes deposit extract greatest_dim
 granted_lawful image = (
   (lit< tt, record { head = refl; within_limit = lit≤ tt; none_held = refl; first = refl }),
   (

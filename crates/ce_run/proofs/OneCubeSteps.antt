@@ -12,6 +12,7 @@ use Rattle.ce_model.specs.declared.entry.Given.{Given}
 use Rattle.ce_model.specs.declared.entry.Given.TheVariants.{Start, Mail, Kill, Poll, Idle, Spent}
 use Rattle.rv_model.specs.Image.{ImageParts}
 use Rattle.ce_run.specs.Small.Node.{Node, Call, got, noted, hears, says, note_word, take_work}
+use Rattle.ce_model.specs.Limits.{greatest_dim}
 use Rattle.ce_model.specs.Subcubes.{relative, extract, deposit}
 use Rattle.ce_run.specs.Small.Views.{what_in, view}
 use Rattle.ce_run.specs.Small.Cube.{Cube, IsAlone, has_no_eligible, armed_of, dispatched_of, found_where, is_eligible, is_quiet, is_used_up, is_same_item, is_work, item_of, last_of, next_call, offered, is_node_quiet, is_quiet_after, sends_to, state, stepped, taken_by, waiting_at, what_of}
@@ -102,7 +103,7 @@ module _ (image : ImageParts) (t : List Entry) (node : Node) (armed used : ℕ) 
       }
 
   all_quiet_by : is_all_quiet (one_state armed used kept_of_node) (held_cube armed used) ≡ (kept_of_node.idle && has_no_eligible kept_of_node.asking kept_of_node.dead kept_of_node.queue)
-  unfolding deposit
+  unfolding deposit greatest_dim
   all_quiet_by = both (kept_of_node.idle && has_no_eligible kept_of_node.asking kept_of_node.dead kept_of_node.queue)
 
   -- what a node is given uses one dispatch where it is work
@@ -144,7 +145,7 @@ module _ (image : ImageParts) (t : List Entry) (node : Node) (armed used : ℕ) 
   -- the step is what the node says next
   is_said : (what : What) (call : Call) → (says node).call ≡ call → node_call what ≡ Some call → what_in the_node what ≡ what
       → IsSaid (one_machine image) (first_entry ∷ t) (held_cube armed used) 0 what
-  unfolding relative extract deposit
+  unfolding relative extract deposit greatest_dim
   is_said what call h n w = record {
     inside = refl;
     said = ap node_call w ∙ n ∙ ap Some (sym (

@@ -1,0 +1,5 @@
+pub mod AloneByEntries
+pub mod OneMore
+pub mod Rows
+pub mod Subcubes
+pub mod Walked

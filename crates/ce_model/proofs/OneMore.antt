@@ -1,0 +1,158 @@
+-- The words on a trace, for one entry more at its end.
+use Rattle.std.proofs.Common.{◌≡◌, ℕ, ◌+◌, List, [], ◌∷◌, ◌++◌, Option, Some, None, Bool, true, false, not, ◌||◌, ◌==◌, if◌then◌else◌, refl, ap, sym, ◌∙◌, length, length-append, filter, add_assoc, append_assoc}
+use Rattle.std.specs.Prelude.{flat_map, filter_map}
+use Rattle.std.specs.List.{list_any}
+use Rattle.std.proofs.lemmas.List.Sums.{fold-append}
+use Rattle.std.proofs.lemmas.List.{append-nil}
+use Rattle.std.proofs.lemmas.List.Elements.{filter_map-append, filter-append}
+use Rattle.std.proofs.lemmas.List.Folds.{list_any-append}
+use Rattle.std.proofs.lemmas.Grind.{flat_map-append}
+use Rattle.ce_model.specs.declared.topology.TheConstants.{HOST}
+use Rattle.ce_model.specs.declared.topology.Place.{Place}
+use Rattle.ce_model.specs.declared.topology.BlockId.{BlockId}
+use Rattle.ce_model.specs.declared.entry.Entry.{Entry}
+use Rattle.ce_model.specs.declared.entry.Given.{Given}
+use Rattle.ce_model.specs.Parcels.{Item, is_named_by}
+use Rattle.ce_model.specs.Trace.{Standing, items_to, taken_in, spawned_in, killed_in, parcels_of, armed_by, dispatched_by, marked_by, sent_to, taken_by, waiting, spawned, killed, mark, armed, dispatched, parcels}
+use Rattle.ce_model.specs.Cube.{Cube, CubeState, state, after_entry, stored_by, hoststore}
+use Rattle.ce_model.specs.Order.{got, sent, bytes_between, bytes_handed}
+use Rattle.ce_model.proofs.Walked.{walked-more}
+
+-- a list made of the pieces of each entry has the piece of the last one at its end
+flat-more : {A : Type 0} (f : Entry → List A) (t : List Entry) (entry : Entry) → flat_map f (t ++ entry ∷ []) ≡ flat_map f t ++ f entry
+flat-more f t entry = flat_map-append f t (entry ∷ []) ∙ ap (λ more. flat_map f t ++ more) (append-nil (f entry))
+
+pub sent_to-more : (o : Standing) (r : ℕ) (t : List Entry) (entry : Entry) → sent_to o r (t ++ entry ∷ []) ≡ sent_to o r t ++ items_to r entry
+unfolding sent_to
+sent_to-more o r t entry =
+    ap (λ more. (o.node_record r).waiting ++ more) (flat-more (items_to r) t entry)
+    ∙ sym (append_assoc (o.node_record r).waiting (flat_map (items_to r) t) (items_to r entry))
+
+pub spawned-more : (o : Standing) (r : ℕ) (t : List Entry) (entry : Entry) → spawned o r (t ++ entry ∷ []) ≡ spawned o r t ++ spawned_in r entry.what
+unfolding spawned
+spawned-more o r t entry =
+    ap (λ more. (o.node_record r).spawned ++ more) (flat-more (λ e. spawned_in r e.what) t entry)
+    ∙ sym (append_assoc (o.node_record r).spawned (flat_map (λ (e : Entry). spawned_in r e.what) t) (spawned_in r entry.what))
+
+pub killed-more : (o : Standing) (r : ℕ) (t : List Entry) (entry : Entry) → killed o r (t ++ entry ∷ []) ≡ killed o r t ++ killed_in r entry.what
+unfolding killed
+killed-more o r t entry =
+    ap (λ more. (o.node_record r).killed ++ more) (flat-more (λ e. killed_in r e.what) t entry)
+    ∙ sym (append_assoc (o.node_record r).killed (flat_map (λ (e : Entry). killed_in r e.what) t) (killed_in r entry.what))
+
+pub parcels-more : (t : List Entry) (entry : Entry) → parcels (t ++ entry ∷ []) ≡ parcels t ++ parcels_of entry.actor entry.what
+unfolding parcels
+parcels-more t entry = flat-more (λ e. parcels_of e.actor e.what) t entry
+
+-- how many parcels were sent
+pub parcel_count-more : (first : ℕ) (t : List Entry) (entry : Entry)
+    → first + length (parcels (t ++ entry ∷ [])) ≡ first + length (parcels t) + length (parcels_of entry.actor entry.what)
+parcel_count-more first t entry =
+    rw (parcels-more t entry, length-append (parcels t) (parcels_of entry.actor entry.what))
+    (sym (add_assoc first (length (parcels t)) (length (parcels_of entry.actor entry.what))))
+
+pub armed-more : (o : Standing) (t : List Entry) (entry : Entry) → armed o (t ++ entry ∷ []) ≡ armed_by (armed o t) entry.what
+unfolding armed
+armed-more o t entry = fold-append (λ (count : ℕ) (e : Entry). armed_by count e.what) o.armed t (entry ∷ [])
+
+pub dispatched-more : (o : Standing) (t : List Entry) (entry : Entry) → dispatched o (t ++ entry ∷ []) ≡ dispatched_by (dispatched o t) entry.what
+unfolding dispatched
+dispatched-more o t entry = fold-append (λ (count : ℕ) (e : Entry). dispatched_by count e.what) o.dispatched t (entry ∷ [])
+
+pub mark-more : (o : Standing) (r : ℕ) (t : List Entry) (entry : Entry)
+    → mark o r (t ++ entry ∷ []) ≡ (if entry.actor == r then marked_by (mark o r t) entry.what else mark o r t)
+unfolding mark
+mark-more o r t entry =
+    fold-append (λ now (e : Entry). if e.actor == r then marked_by now e.what else now) (o.node_record r).mark t (entry ∷ [])
+
+-- what an entry takes for node r
+abbrev pub taken_for : ℕ → Entry → Option Given
+taken_for r entry = if entry.actor == r then taken_in entry.what else None
+
+option_list-more : {A : Type 0} (f : Entry → Option A) (t : List Entry) (entry : Entry)
+    → filter_map f (t ++ entry ∷ []) ≡ filter_map f t ++ filter_map f (entry ∷ [])
+option_list-more f t entry = filter_map-append f t (entry ∷ [])
+
+-- an entry that takes nothing for node r leaves what it has taken, and one that takes an item adds it
+pub taken_by-stays : (r : ℕ) (t : List Entry) (entry : Entry) → taken_for r entry ≡ None → taken_by r (t ++ entry ∷ []) ≡ taken_by r t
+unfolding taken_by
+taken_by-stays r t entry e = option_list-more (taken_for r) t entry ∙ rw e (append-nil (filter_map (taken_for r) t))
+
+pub taken_by-more : (r : ℕ) (t : List Entry) (entry : Entry) (given : Given) → taken_for r entry ≡ Some given
+    → taken_by r (t ++ entry ∷ []) ≡ taken_by r t ++ given ∷ []
+unfolding taken_by
+taken_by-more r t entry given e = option_list-more (taken_for r) t entry ∙ rw e refl
+
+-- an item that some entry has not named among these
+abbrev pub is_untaken : List Given → Item → Bool
+is_untaken taken item = not (list_any (λ given. is_named_by given item) taken)
+
+-- what waits once an entry is made that takes nothing for node r: of what it sends there, all that was not taken before
+pub waiting-stays : (o : Standing) (r : ℕ) (t : List Entry) (entry : Entry) → taken_for r entry ≡ None
+    → waiting o r (t ++ entry ∷ []) ≡ waiting o r t ++ filter (is_untaken (taken_by r t)) (items_to r entry)
+unfolding waiting
+waiting-stays o r t entry e =
+    rw (taken_by-stays r t entry e, sent_to-more o r t entry) (filter-append (is_untaken (taken_by r t)) (sent_to o r t) (items_to r entry))
+
+neither : (a b : Bool) → not (a || (b || false)) ≡ (if not a then not b else false)
+neither true b = refl
+neither false true = refl
+neither false false = refl
+
+-- what one more item taken leaves
+untaken-more : (taken : List Given) (given : Given) (item : Item)
+    → is_untaken (taken ++ given ∷ []) item ≡ (if is_untaken taken item then not (is_named_by given item) else false)
+untaken-more taken given item =
+    ap not (list_any-append (λ (g : Given). is_named_by g item) taken (given ∷ []))
+    ∙ neither (list_any (λ (g : Given). is_named_by g item) taken) (is_named_by given item)
+
+one_item : (b c : Bool) (item : Item) (xs : List Item)
+    → (if (if b then c else false) then item ∷ xs else xs) ≡ (if b then (if c then item ∷ xs else xs) else xs)
+one_item true c item xs = refl
+one_item false c item xs = refl
+
+kept_item : (p : Item → Bool) (b : Bool) (item : Item) (xs : List Item)
+    → (if b then (if p item then item ∷ filter p xs else filter p xs) else filter p xs) ≡ filter p (if b then item ∷ xs else xs)
+kept_item p true item xs = refl
+kept_item p false item xs = refl
+
+untaken_items : (taken : List Given) (given : Given) (items : List Item)
+    → filter (is_untaken (taken ++ given ∷ [])) items ≡ filter (λ item. not (is_named_by given item)) (filter (is_untaken taken) items)
+untaken_items taken given [] = refl
+untaken_items taken given (item ∷ items) =
+    rw (untaken-more taken given item, untaken_items taken given items)
+    (one_item (is_untaken taken item) (not (is_named_by given item)) item (filter (λ x. not (is_named_by given x)) (filter (is_untaken taken) items))
+    ∙ kept_item (λ x. not (is_named_by given x)) (is_untaken taken item) item (filter (is_untaken taken) items))
+
+-- what waits once node r has taken an item by an entry that sends it nothing: what isn't named so
+pub waiting-taken : (o : Standing) (r : ℕ) (t : List Entry) (entry : Entry) (given : Given) → taken_for r entry ≡ Some given
+    → items_to r entry ≡ [] → waiting o r (t ++ entry ∷ []) ≡ filter (λ item. not (is_named_by given item)) (waiting o r t)
+unfolding waiting
+waiting-taken o r t entry given e s =
+    rw (taken_by-more r t entry given e, sent_to-more o r t entry, s, append-nil (sent_to o r t)) (untaken_items (taken_by r t) given (sent_to o r t))
+
+-- ---- nodes, the host's store, and what was got
+
+pub state-more : (cube : Cube) (o : CubeState) (r : ℕ) (t : List Entry) (entry : Entry)
+    → state cube o r (t ++ entry ∷ []) ≡ after_entry cube o r t (state cube o r t) entry
+unfolding state
+state-more cube o r t entry = walked-more (after_entry cube o r) (o.node r) t entry
+
+pub hoststore-more : (o : CubeState) (t : List Entry) (entry : Entry)
+    → hoststore o (t ++ entry ∷ [])
+    ≡ (if entry.actor == HOST then stored_by (waiting o.standing HOST t) (hoststore o t) entry.what else hoststore o t)
+unfolding hoststore
+hoststore-more o t entry =
+    walked-more (λ before (store : List BlockId) (e : Entry). if e.actor == HOST then stored_by (waiting o.standing HOST before) store e.what else store)
+    o.hoststore t entry
+
+pub sent-more : (o : Standing) (from to : Place) (t : List Entry) (entry : Entry)
+    → sent o from to (t ++ entry ∷ []) ≡ bytes_between from to (sent_to o to.node t ++ items_to to.node entry)
+unfolding sent
+sent-more o from to t entry = ap (bytes_between from to) (sent_to-more o to.node t entry)
+
+pub got-more : (o : Standing) (from to : Place) (t : List Entry) (entry : Entry)
+    → got o from to (t ++ entry ∷ []) ≡ got o from to t ++ bytes_handed from to (waiting o to.node t) entry
+unfolding got
+got-more o from to t entry =
+    walked-more (λ before messages e. messages ++ bytes_handed from to (waiting o to.node before) e) [] t entry

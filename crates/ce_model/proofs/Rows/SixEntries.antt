@@ -1,0 +1,62 @@
+-- The machine's six entries: a user's message waits in a node when its cube is drained and given back, and the next owner of the
+-- node finds nothing. What the node says is a premise.
+use Rattle.std.proofs.Common.{◌≡◌, ℕ, List, [], ◌∷◌, Some, None, option_map, refl, inl, inr, arith}
+use Rattle.rv_model.specs.Image.{ImageParts}
+use Rattle.ce_model.specs.declared.entry.Entry.{Entry}
+use Rattle.ce_model.specs.declared.entry.What.TheVariants.{Getcube, Drain, Freecube, Send, Take}
+use Rattle.ce_model.specs.declared.entry.Given.TheVariants.{Idle}
+use Rattle.ce_model.specs.Limits.{greatest_dim, block_room, process_count, home_blocks, host_home}
+use Rattle.ce_model.specs.Node.{fresh, takes, sends, host_place}
+use Rattle.ce_model.specs.Saying.{says}
+use Rattle.ce_model.specs.Trace.{sent_to, taken_by, waiting, spawned, killed, mark, armed, dispatched, parcels}
+use Rattle.ce_model.specs.Answers.{answer}
+use Rattle.ce_model.specs.Cube.{state, hoststore, next_entry}
+use Rattle.ce_model.specs.Subcubes.{extract, relative, deposit, subcubes, first_free}
+use Rattle.ce_model.specs.Views.{view}
+use Rattle.ce_model.specs.Machine.{after, getcube, drain, freecube, in_cube, all_parcels, held_by, IsLawful}
+use Rattle.ce_model.proofs.Rows.Machines.{machine, of_host, of_node, sub_at, place, block}
+
+abbrev pub aa : List ℕ
+aa = 0xAA ∷ []
+
+abbrev pub row : List Entry
+row =
+    of_host 0 (Getcube 0 (Some (sub_at 0 0)))
+    ∷ of_host 0 (Send 0 0 ((place 0 0, block 256 0) ∷ []) aa)
+    ∷ of_host 0 Drain
+    ∷ of_host 0 Freecube
+    ∷ of_host 1 (Getcube 0 (Some (sub_at 0 0)))
+    ∷ of_node 1 0 (Take 0 0 None Idle)
+    ∷ []
+
+pub row_is_lawful : (image : ImageParts) → (says (fresh 0 0 1)).call ≡ takes 0 0 None → IsLawful (machine 0 2 image) row
+unfolding after view relative extract deposit subcubes first_free next_entry state hoststore sent_to taken_by waiting spawned killed mark armed dispatched parcels answer greatest_dim block_room process_count home_blocks host_home
+row_is_lawful image asks = (
+  record { request = getcube 0; fits = (omega arith, (refl, omega arith, refl)); answer = refl },
+  (
+    record { request = in_cube (sends 0 ((place 0 0, block 256 0) ∷ []) aa); fits = (omega arith, record { made = sends 0 ((place 0 0, block 256 0) ∷ []) aa; inside = inl refl; next = refl; renamed = refl; within = λ host. omega arith; not_drained = refl }); answer = refl },
+    (
+      record { request = drain; fits = (omega arith, (refl, refl)); answer = refl },
+      (
+        record { request = freecube; fits = (omega arith, (refl, refl)); answer = refl },
+        (
+          record { request = getcube 0; fits = (omega arith, (refl, omega arith, refl)); answer = refl },
+          (
+            record { request = in_cube (takes 0 0 None); fits = (omega arith, record { made = takes 0 0 None; inside = inr refl; next = rw asks refl; renamed = refl; within = λ host. tt; not_drained = refl }); answer = refl },
+            tt,
+          ),
+        ),
+      ),
+    ),
+  ),
+)
+
+-- what the drain hands over: the one message, with the cube's numbers for places and the machine's name for its block
+abbrev pub first_two : List Entry
+first_two = of_host 0 (Getcube 0 (Some (sub_at 0 0))) ∷ of_host 0 (Send 0 0 ((place 0 0, block 256 0) ∷ []) aa) ∷ []
+
+pub drained :
+    option_map (all_parcels (after first_two)) (held_by (after first_two) 0)
+    ≡ Some (record { from = host_place; to = place 0 0; number = 0; block = record { id = block 256 0; bytes = aa } } ∷ [])
+unfolding after relative extract deposit greatest_dim
+drained = refl

@@ -1,0 +1,70 @@
+-- What a node becomes by the answer to its call.
+use Rattle.std.specs.Prelude.{ℕ, if◌then◌else◌, List, [], length, Option, Some, None, slice_index_or, slice_set}
+use Rattle.rv_model.specs.declared.stop.Stop.TheVariants.{Killed, WindowsSpent}
+use Rattle.rv_model.specs.Image.{ImageParts, image_start}
+use Rattle.ce_model.specs.declared.process.Status.TheVariants.{Running}
+use Rattle.ce_model.specs.Limits.{turn_instructions}
+use Rattle.ce_model.specs.Blocks.{put}
+use Rattle.ce_model.specs.Parcels.{Parcel}
+use Rattle.ce_model.specs.Space.{window_start, has_unused_window, mapped}
+use Rattle.ce_model.specs.Process.{Process, started, with_answer, is_receiving, is_stopped}
+use Rattle.ce_model.specs.Node.{Turn, Node, process_at, with_process, without_poller, with_stopped}
+
+-- what a node hears in answer to its call
+pub data Heard : Type 0 where
+  -- an image is to be started as a process
+  start_of : ℕ → ℕ → Heard
+  -- a parcel is here
+  mail_of : Parcel → Heard
+  -- a process is to be ended
+  kill_of : ℕ → Heard
+  -- a process that polls is told that nothing is here
+  poll_of : ℕ → Heard
+  -- the call of the turn's process is answered by this number
+  told : ℕ → Heard
+  -- there is nothing to do, or the word was noted
+  nothing : Heard
+
+-- the image of a number; the machine gives no other number than those of its images
+abbrev pub image_at : List ImageParts → ℕ → ImageParts
+image_at images number = slice_index_or images number (record { entry = image_start; loaded = []; zero = 0 })
+
+-- a turn of this process begins
+abbrev pub begins : Node → ℕ → Process → Node
+begins node pid p = record node {
+  processes = slice_set node.processes pid (record p { status = Running });
+  polling = without_poller pid node.polling;
+  turn = Some (record { pid = pid; left = turn_instructions; calls = 0 });
+}
+
+-- a turn begins of a process that is answered by this number
+abbrev pub begins_with : Node → ℕ → Process → ℕ → Node
+begins_with node pid p value = begins node pid (with_answer value p)
+
+-- the parcel's block goes to the store
+abbrev pub with_stored : Node → Parcel → Node
+with_stored node parcel = record node { store = put parcel.block.id node.store }
+
+-- a process that waits for a message gets the parcel: its block is mapped at the next window, and its turn begins; where no
+-- window is left it stops, and this block and all its others are in the store
+abbrev pub gets : Node → Parcel → Process → Node
+gets node parcel p =
+    if has_unused_window p.space
+    then begins_with node parcel.to.pid (record p { space = mapped parcel.block p.space }) (window_start (length p.space.windows))
+    else with_stopped (with_stored node parcel) parcel.to.pid p WindowsSpent
+
+-- the call of the turn's process is answered, where there is a turn
+abbrev pub tells : ℕ → Node → Option Turn → Node
+tells value node None = node
+tells value node (Some turn) = with_process node turn.pid (with_answer value (process_at node turn.pid))
+
+-- what a node that made a call becomes by the answer; mail for a process that doesn't wait for a message goes to the store
+unfoldable pub hears : List ImageParts → Node → Heard → Node
+hears images node (start_of pid image) = begins node pid (started (image_at images image))
+hears images node (mail_of parcel) =
+    if is_receiving (process_at node parcel.to.pid).status then gets node parcel (process_at node parcel.to.pid) else with_stored node parcel
+hears images node (kill_of pid) =
+    if is_stopped (process_at node pid).status then node else with_stopped node pid (process_at node pid) Killed
+hears images node (poll_of pid) = begins_with node pid (process_at node pid) 0
+hears images node (told value) = tells value node node.turn
+hears images node nothing = node

@@ -1,0 +1,268 @@
+-- The physical machine: its state after a history, which call fits there and what it is answered, and the histories that it
+-- allows. A history is a list of entries with the machine's own numbers for its nodes.
+use Rattle.std.specs.Prelude.{◌≡◌, ◌⊎◌, ℕ, ◌+◌, ◌^◌, ◌<◌, ◌≤◌, List, [], ◌∷◌, ◌++◌, Option, Some, None, Bool, true, false, not, ◌==◌, if◌then◌else◌, IsTrue, IsSomeAnd, length, map, filter, find, flat_map, fold, count_by, option_map}
+use Rattle.std.specs.List.{list_any, range_with_len}
+use Rattle.rv_model.specs.Image.{ImageParts}
+use Rattle.ce_model.specs.declared.topology.TheConstants.{HOST}
+use Rattle.ce_model.specs.declared.topology.Subcube.{Subcube}
+use Rattle.ce_model.specs.declared.entry.Entry.{Entry}
+use Rattle.ce_model.specs.declared.entry.What.{What}
+use Rattle.ce_model.specs.declared.entry.What.TheVariants.{Getcube, Peek, Drain, Freecube}
+use Rattle.ce_model.specs.declared.entry.Given.{Given}
+use Rattle.ce_model.specs.Limits.{greatest_dim, greatest_users, greatest_images, greatest_count, block_room}
+use Rattle.ce_model.specs.Lists.{without_first, EachAfter}
+use Rattle.ce_model.specs.Parcels.{Parcel, Item, mail, parcels_among, is_named_by}
+use Rattle.ce_model.specs.Node.{Call, sends, arms}
+use Rattle.ce_model.specs.Trace.{NodeRecord, Standing, blank_record, items_to, taken_in, parcels_of, spawned_in, killed_in, marked_by, armed_by, dispatched_by}
+use Rattle.ce_model.specs.Answers.{answer, call_of}
+use Rattle.ce_model.specs.Cube.{Cube, opening, asked_by, call_by, node_numbers}
+use Rattle.ce_model.specs.Subcubes.{relative, node_of, is_inside, first_free}
+use Rattle.ce_model.specs.Renaming.{Grant, place_inward, place_outward, block_outward, call_renamed, call_with}
+use Rattle.ce_model.specs.Views.{view}
+
+-- a machine: its dimension, how many users it has, and its images
+pub record MachineParts : Type 0 where
+  pub dim : ℕ
+  pub users : ℕ
+  pub images : List ImageParts
+
+-- the machine is within its limits
+pub record IsMachine (parts : MachineParts) : Type 0 where
+  pub dim : parts.dim ≤ greatest_dim
+  pub some_user : 0 < parts.users
+  pub users : parts.users ≤ greatest_users
+  pub images : length parts.images ≤ greatest_images
+
+-- a cube that is held: its number and its grant, whether its messages were taken away to give it back, its counts, and what waits
+-- for its host
+pub record HeldCube : Type 0 where
+  pub number : ℕ
+  pub grant : Grant
+  pub drained : Bool
+  pub armed : ℕ
+  pub dispatched : ℕ
+  pub parcel_count : ℕ
+  pub mail : List Item
+
+-- a machine's state: how many cubes it has granted, those that are held, in the order of granting, and what it keeps for each node. Items
+-- that wait have the cube's numbers for places, and the machine's names for blocks
+pub record MachineState : Type 0 where
+  pub grant_count : ℕ
+  pub held : List HeldCube
+  pub node_record : ℕ → NodeRecord
+
+-- a machine on which nothing is held
+abbrev pub machine_opening : MachineState
+machine_opening = record { grant_count = 0; held = []; node_record = λ node. blank_record }
+
+-- ---- what a state says
+
+abbrev pub is_held_by : ℕ → HeldCube → Bool
+is_held_by user cube = cube.grant.user == user
+
+-- the cube that a user holds
+abbrev pub held_by : MachineState → ℕ → Option HeldCube
+held_by state user = find (is_held_by user) state.held
+
+-- a node is free where it is in no cube that is held
+abbrev pub is_free : MachineState → ℕ → Bool
+is_free state node = not (list_any (λ cube. is_inside cube.grant.sub node) state.held)
+
+-- the nodes of a cube, in relative order
+abbrev pub nodes_of : Grant → List ℕ
+nodes_of grant = map (node_of grant.sub) (node_numbers grant.dim)
+
+-- what is kept for a cube's host: what waits for it
+abbrev pub host_record : HeldCube → NodeRecord
+host_record cube = record blank_record { waiting = cube.mail }
+
+-- how a cube stands, by the machine's numbers for its nodes
+abbrev pub standing_of : MachineState → HeldCube → Standing
+standing_of state cube = record {
+  node_record = λ node. if node == HOST then host_record cube else state.node_record node;
+  armed = cube.armed;
+  dispatched = cube.dispatched;
+  parcel_count = cube.parcel_count;
+}
+
+-- the answer to a peek: how many nodes are free, and the cubes that are held, by number
+abbrev pub free_count : MachineParts → MachineState → ℕ
+free_count parts state = count_by (is_free state) (range_with_len 0 (2 ^ parts.dim))
+
+abbrev pub held_grants : MachineState → List (ℕ × Grant)
+held_grants state = map (λ cube. (cube.number, cube.grant)) state.held
+
+-- the answer to a drain: all parcels that wait in a cube, at its nodes in relative order and then for its host
+abbrev pub all_parcels : MachineState → HeldCube → List Parcel
+all_parcels state cube = parcels_among (flat_map (λ node. (state.node_record node).waiting) (nodes_of cube.grant) ++ cube.mail)
+
+-- ---- what an entry changes
+
+-- an item with the machine's numbers for places, as its cube knows it
+abbrev pub item_inward : Subcube → Item → Item
+item_inward sub (mail parcel) = mail (record parcel { from = place_inward sub parcel.from; to = place_inward sub parcel.to })
+item_inward sub other = other
+
+-- what waits for an actor once it has taken an item, if any: the first of this name is gone
+abbrev pub without_taken : Option Given → List Item → List Item
+without_taken None items = items
+without_taken (Some given) items = without_first (is_named_by given) items
+
+-- what waits at a number, which may be the host's, once an entry of the cube is made
+abbrev pub waiting_by : Subcube → Entry → ℕ → List Item → List Item
+waiting_by sub entry node items =
+    (if entry.actor == node then without_taken (taken_in entry.what) items else items) ++ map (item_inward sub) (items_to node entry)
+
+-- what is kept for a node, once an entry of its cube is made
+abbrev pub record_by : Subcube → Entry → ℕ → NodeRecord → NodeRecord
+record_by sub entry node node_record = record {
+  waiting = waiting_by sub entry node node_record.waiting;
+  spawned = node_record.spawned ++ spawned_in node entry.what;
+  killed = node_record.killed ++ killed_in node entry.what;
+  mark = if entry.actor == node then marked_by node_record.mark entry.what else node_record.mark;
+}
+
+-- a cube that is held, once an entry of it is made
+abbrev pub held_by_entry : Entry → HeldCube → HeldCube
+held_by_entry entry cube = record cube {
+  armed = armed_by cube.armed entry.what;
+  dispatched = dispatched_by cube.dispatched entry.what;
+  parcel_count = cube.parcel_count + length (parcels_of entry.actor entry.what);
+  mail = waiting_by cube.grant.sub entry HOST cube.mail;
+}
+
+-- what is kept for a node changes where it is one of this cube, if any
+abbrev pub changed_record : (HeldCube → ℕ → NodeRecord → NodeRecord) → ℕ → NodeRecord → Option HeldCube → NodeRecord
+changed_record change node kept None = kept
+changed_record change node kept (Some cube) = if is_inside cube.grant.sub node then change cube node kept else kept
+
+-- the cube that a user holds changes, and so does what is kept for its nodes; the others stay
+abbrev pub with_cube : ℕ → (HeldCube → HeldCube) → (HeldCube → ℕ → NodeRecord → NodeRecord) → MachineState → MachineState
+with_cube user change change_record state = record state {
+  held = map (λ cube. if is_held_by user cube then change cube else cube) state.held;
+  node_record = λ node. changed_record change_record node (state.node_record node) (held_by state user);
+}
+
+-- a cube is granted
+abbrev pub with_grant : Grant → MachineState → MachineState
+with_grant grant state = record state {
+  grant_count = state.grant_count + 1;
+  held = state.held ++ record { number = state.grant_count; grant = grant; drained = false; armed = 0; dispatched = 0; parcel_count = 0; mail = [] } ∷ [];
+}
+
+-- a user's cube is drained: nothing waits in it any longer
+abbrev pub with_drained : ℕ → MachineState → MachineState
+with_drained user state =
+    with_cube user (λ cube. record cube { drained = true; mail = [] }) (λ cube node kept. record kept { waiting = [] }) state
+
+-- a user holds its cube no longer, and its nodes are free
+abbrev pub without_cube : ℕ → MachineState → MachineState
+without_cube user state =
+    record (with_cube user (λ cube. cube) (λ cube node kept. blank_record) state) { held = filter (λ cube. not (is_held_by user cube)) state.held }
+
+-- the state once a host has asked for a cube, or given its own back
+abbrev pub changed_by_host : ℕ → What → MachineState → MachineState
+changed_by_host user (Getcube dim (Some sub)) state = with_grant (record { user = user; dim = dim; sub = sub }) state
+changed_by_host user Drain state = with_drained user state
+changed_by_host user Freecube state = without_cube user state
+changed_by_host user other state = state
+
+-- the state once a call of a cube is made, or another request
+abbrev pub changed_by_call : Option Call → Entry → MachineState → MachineState
+changed_by_call (Some call) entry state = with_cube entry.user (held_by_entry entry) (λ cube. record_by cube.grant.sub entry) state
+changed_by_call None entry state = changed_by_host entry.user entry.what state
+
+-- the state once an entry is made
+abbrev pub changed_by : MachineState → Entry → MachineState
+changed_by state entry = changed_by_call (call_of entry.what) entry state
+
+-- the state that a history leaves
+unfoldable pub after : List Entry → MachineState
+after history = fold changed_by machine_opening history
+
+-- ---- requests and answers
+
+-- what an actor of a user asks of the machine
+pub data Request : Type 0 where
+  -- a cube of this dimension
+  getcube : ℕ → Request
+  -- which cubes are held
+  peek : Request
+  -- all messages that wait in the cube
+  drain : Request
+  -- the cube is given back
+  freecube : Request
+  -- a call of the cube, which has the cube's numbers for places and the machine's names for blocks
+  in_cube : Call → Request
+
+-- requests that no other actor of their user's cube may make an entry beside
+abbrev pub is_alone : Request → Bool
+is_alone (getcube dim) = true
+is_alone drain = true
+is_alone freecube = true
+is_alone other = false
+
+-- a call of a cube, with the machine's numbers for places
+abbrev pub with_places_outward : Grant → Call → Call
+with_places_outward grant call = call_renamed (place_outward grant.sub) (λ id. id) call
+
+-- the entry that a request makes in this state, with its answer; a call of a cube makes none where no cube is held
+abbrev pub answered : MachineParts → MachineState → ℕ → ℕ → Request → Option What
+answered parts state user actor (getcube dim) = Some (Getcube dim (first_free (is_free state) parts.dim dim))
+answered parts state user actor peek = Some Peek
+answered parts state user actor drain = Some Drain
+answered parts state user actor freecube = Some Freecube
+answered parts state user actor (in_cube call) =
+    option_map (λ cube. answer (nodes_of cube.grant) (standing_of state cube) actor (with_places_outward cube.grant call)) (held_by state user)
+
+-- ---- what fits
+
+-- the cube of a grant
+abbrev pub cube_of : List ImageParts → Grant → Cube
+cube_of images grant = record { user = grant.user; dim = grant.dim; images = images }
+
+-- the user holds a cube, of which this holds
+abbrev pub HoldsCube : List Entry → ℕ → (HeldCube → Type 0) → Type 0
+HoldsCube history user P = IsSomeAnd (held_by (after history) user) P
+
+-- the call is within the machine's limits, which a cube alone doesn't know: on what a host allows, and on the bytes that it sends
+abbrev pub IsWithinLimits : Call → Type 0
+IsWithinLimits (arms count) = count ≤ greatest_count
+IsWithinLimits (sends pid to bytes) = length bytes ≤ block_room
+IsWithinLimits other = Unit {0}
+
+-- the call is, with the machine's names for blocks, the one that an actor of this cube makes next after the cube's own entries: a node the one
+-- that it says, and a host one that its user may ask for
+pub record IsCallOf (parts : MachineParts) (history : List Entry) (actor : ℕ) (call : Call) (cube : HeldCube) : Type 0 where
+  pub made : Call
+  pub inside : IsTrue (actor == HOST) ⊎ IsTrue (is_inside cube.grant.sub actor)
+  pub next : call_by (cube_of parts.images cube.grant) (opening (cube_of parts.images cube.grant)) (view history cube.number)
+      (relative cube.grant.sub actor) (asked_by made) ≡ Some made
+  pub renamed : call_with (block_outward cube.grant) made ≡ call
+  pub within : IsTrue (actor == HOST) → IsWithinLimits call
+  pub not_drained : cube.drained ≡ false
+
+-- what a request of an actor asks of the history before it: a host asks for a cube that holds none; a drained cube is given back,
+-- and one that isn't is drained; and a call of a cube is the next one of its actor
+abbrev pub FitsHistory : MachineParts → List Entry → ℕ → ℕ → Request → Type 0
+FitsHistory parts history user actor (getcube dim) = (actor ≡ HOST) × (dim ≤ greatest_dim) × (held_by (after history) user ≡ None)
+FitsHistory parts history user actor peek = actor ≡ HOST
+FitsHistory parts history user actor drain = (actor ≡ HOST) × HoldsCube history user (λ cube. cube.drained ≡ false)
+FitsHistory parts history user actor freecube = (actor ≡ HOST) × HoldsCube history user (λ cube. cube.drained ≡ true)
+FitsHistory parts history user actor (in_cube call) = HoldsCube history user (IsCallOf parts history actor call)
+
+-- a request of one of the machine's users fits the history before it, whatever it is answered
+abbrev pub Fits : MachineParts → List Entry → ℕ → ℕ → Request → Type 0
+Fits parts history user actor request = (user < parts.users) × FitsHistory parts history user actor request
+
+-- ---- what is lawful
+
+-- the entry is made by a request that fits the history before it, and has the answer of that state
+pub record IsLawfulEntry (parts : MachineParts) (history : List Entry) (entry : Entry) : Type 0 where
+  pub request : Request
+  pub fits : Fits parts history entry.user entry.actor request
+  pub answer : answered parts (after history) entry.user entry.actor request ≡ Some entry.what
+
+-- the machine allows the history
+abbrev pub IsLawful : MachineParts → List Entry → Type 0
+IsLawful parts history = EachAfter (IsLawfulEntry parts) [] history

@@ -1,0 +1,88 @@
+-- A process: its state, and its run to its next call of the kernel.
+use Rattle.std.specs.Prelude.{ℕ, zero, suc, ◌+◌, Bool, true, false, List, [], replicate, slice_index, slice_set}
+use Rattle.rv_model.specs.declared.stop.Stop.{Stop}
+use Rattle.rv_model.specs.declared.stop.Stop.TheVariants.{TurnSpent}
+use Rattle.rv_model.specs.Exec.{Outcome, went, called, stopped, exec}
+use Rattle.rv_model.specs.Image.{ImageParts}
+use Rattle.rv_model.specs.Private.{with_loaded}
+use Rattle.rv_model.specs.declared.limits.TheConstants.{PRIVATE_END}
+use Rattle.ce_model.specs.declared.process.Status.{Status}
+use Rattle.ce_model.specs.declared.process.Status.TheVariants.{Unborn, Running, Asking, Polling, Stopped}
+use Rattle.ce_model.specs.Space.{Space, process_access, emptied}
+
+-- what a process does, its registers, its pc, and its memory
+pub record Process : Type 0 where
+  pub status : Status
+  pub regs : List ℕ
+  pub pc : ℕ
+  pub space : Space
+
+-- how many registers a process has
+abbrev pub register_count : ℕ
+register_count = 32
+
+-- ---- states
+
+-- it waits for a message
+abbrev pub is_receiving : Status → Bool
+is_receiving Asking = true
+is_receiving Polling = true
+is_receiving other = false
+
+abbrev pub is_stopped : Status → Bool
+is_stopped (Stopped cause) = true
+is_stopped other = false
+
+-- a process that wasn't started yet
+abbrev pub unborn : Process
+unborn = record { status = Unborn; regs = replicate register_count 0; pc = 0; space = record { private = with_loaded []; windows = [] } }
+
+-- a process as it starts: its image's bytes and zeros behind them, the pc at the image's entry, `sp` at the end of private
+-- memory, all other registers 0, and no window used
+abbrev pub started : ImageParts → Process
+started image = record {
+  status = Running;
+  regs = slice_set (replicate register_count 0) 2 PRIVATE_END;
+  pc = image.entry;
+  space = record { private = with_loaded image.loaded; windows = [] };
+}
+
+-- a process that has stopped for this cause: its windows hold nothing any longer
+abbrev pub ended : Stop → Process → Process
+ended cause p = record p { status = Stopped cause; space = emptied p.space }
+
+-- ---- registers that a kernel call uses
+
+-- an argument of a call: the first is in a0, which is register 10
+abbrev pub argument : Process → ℕ → ℕ
+argument p k = slice_index p.regs (10 + k)
+
+-- the number of a call is in a7
+abbrev pub call_number : Process → ℕ
+call_number p = argument p 7
+
+-- the answer to a call is put into a0
+abbrev pub with_answer : ℕ → Process → Process
+with_answer value p = record p { regs = slice_set p.regs 10 value }
+
+-- ---- the run to the next call
+
+-- a process once an instruction has left these registers, this pc and this memory
+abbrev pub moved : Process → List ℕ → ℕ → Space → Process
+moved p regs pc space = record { status = p.status; regs = regs; pc = pc; space = space }
+
+-- what a run comes to: a call of the kernel, with the instructions that the turn has left, or why the process stops there
+pub data Reached : Type 0 where
+  at_call : ℕ → Process → Reached
+  at_stop : ℕ → Process → Stop → Reached
+
+-- where an instruction leads, behind which `left` more may be run
+abbrev pub led_to : (Process → Reached) → ℕ → Process → Outcome Space → Reached
+led_to onward left p (went regs pc space) = onward (moved p regs pc space)
+led_to onward left p (called regs pc space) = at_call left (moved p regs pc space)
+led_to onward left p (stopped cause) = at_stop left p cause
+
+-- what a process comes to that may run so many instructions more: its next kernel call, its stop, or the end of its turn
+unfoldable pub reached : ℕ → Process → Reached
+reached zero p = at_stop 0 p TurnSpent
+reached (suc left) p = led_to (reached left) left p (exec process_access p.regs p.pc p.space)
