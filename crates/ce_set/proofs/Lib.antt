@@ -1,0 +1,4 @@
+pub mod Covers
+pub mod Masks
+pub mod Steps
+pub mod WordBits

@@ -1,0 +1,46 @@
+-- One turn of the loops over the places of a word.
+use Rattle.std.proofs.Common.{◌≡◌, ℕ, suc, ◌+◌, ◌-◌, ◌*◌, ◌/◌, ◌%◌, ◌^◌, ◌<◌, ◌≤◌, refl, ap, arith, pow-suc, add-one, bit_and, inl, inr}
+use Rattle.std.proofs.lemmas.Nat.{and_mask, shl_whole, pow_below}
+use Rattle.std.proofs.lemmas.Bool.{cases_lt}
+use Rattle.ce_model.specs.Subcubes.{deposited, extracted}
+use Rattle.ce_model.proofs.Subcubes.{deposited-one, deposited-none, extracted-one, extracted-none}
+
+pub low_bit : (n : ℕ) → bit_and n 1 ≡ n % 2
+low_bit n = and_mask n 1
+
+-- the lowest bit of a number, shifted up
+pub low_bit_shifted : (n place : ℕ) → place < 31 → bit_and n 1 * 2 ^ place % 4294967296 ≡ n % 2 * 2 ^ place
+low_bit_shifted n place below = rw (low_bit n) (shl_whole (n % 2) 1 place 32 (omega arith) (omega arith))
+
+twice : (place x y : ℕ) → 2 ^ place * (x + 2 * y) ≡ x * 2 ^ place + 2 ^ (place + 1) * y
+twice place x y = rw (add-one, pow-suc) (omega arith)
+
+pub deposit_more_one : (bits place node left rest : ℕ) → place < bits → rest % 2 ≡ 1
+    → node + left % 2 * 2 ^ place + 2 ^ (place + 1) * deposited (bits - (place + 1)) (left / 2) (rest / 2) ≡ node + 2 ^ place * deposited (bits - place) left rest
+deposit_more_one bits place node left rest below one =
+    let count : bits - place ≡ suc (bits - (place + 1)) = omega arith in
+    rw (count, deposited-one (bits - (place + 1)) left rest one) (omega (arith, twice place (left % 2) (deposited (bits - (place + 1)) (left / 2) (rest / 2))))
+
+pub deposit_more_none : (bits place node left rest : ℕ) → place < bits → rest % 2 ≡ 0
+    → node + 2 ^ (place + 1) * deposited (bits - (place + 1)) left (rest / 2) ≡ node + 2 ^ place * deposited (bits - place) left rest
+deposit_more_none bits place node left rest below none =
+    let count : bits - place ≡ suc (bits - (place + 1)) = omega arith in
+    rw (count, deposited-none (bits - (place + 1)) left rest none) (omega (arith, twice place 0 (deposited (bits - (place + 1)) left (rest / 2))))
+
+pub extract_more_one : (bits place found r left rest : ℕ) → place < bits → rest % 2 ≡ 1
+    → r + left % 2 * 2 ^ found + 2 ^ (found + 1) * extracted (bits - (place + 1)) (left / 2) (rest / 2) ≡ r + 2 ^ found * extracted (bits - place) left rest
+extract_more_one bits place found r left rest below one =
+    let count : bits - place ≡ suc (bits - (place + 1)) = omega arith in
+    rw (count, extracted-one (bits - (place + 1)) left rest one) (omega (arith, twice found (left % 2) (extracted (bits - (place + 1)) (left / 2) (rest / 2))))
+
+pub extract_more_none : (bits place found r left rest : ℕ) → place < bits → rest % 2 ≡ 0
+    → r + 2 ^ found * extracted (bits - (place + 1)) (left / 2) (rest / 2) ≡ r + 2 ^ found * extracted (bits - place) left rest
+extract_more_none bits place found r left rest below none =
+    let count : bits - place ≡ suc (bits - (place + 1)) = omega arith in
+    rw (count, extracted-none (bits - (place + 1)) left rest none) refl
+
+pub pow_le : (i j : ℕ) → i ≤ j → 2 ^ i ≤ 2 ^ j
+pow_le i j below = elim (cases_lt i j) [ inl less ↦ omega (arith, pow_below i j less) | inr same ↦ omega (arith, ap (λ n. 2 ^ n) (antisymm i j below same)) ]
+  where
+    antisymm : (i j : ℕ) → i ≤ j → j ≤ i → i ≡ j
+    antisymm i j a b = omega arith

@@ -1,0 +1,58 @@
+use Rattle.std.proofs.Common.{◌≡◌, ℕ, ◌+◌, ◌-◌, ◌*◌, ◌%◌, ◌^◌, ◌<◌, ◌≤◌, sym, ap, ◌∙◌, arith}
+use Rattle.ce_model.specs.Limits.{greatest_dim, greatest_dim_lem}
+use Rattle.ce_model.specs.Subcubes.{deposit, deposited, extract}
+use Rattle.ce_model.proofs.Subcubes.{deposited-below, deposited-part, extracted-deposited, deposited-rises}
+use Rattle.ce_set.proofs.Steps.{low_bit, low_bit_shifted, deposit_more_one, deposit_more_none}
+use Rattle.ce_set.proofs.bits.deposit.Goals as goal
+use Rattle.ce_set.proofs.bits.deposit.Goals.{then-rest-eq1, else-rest-eq1}
+
+pub loop-place-init : goal.loop-place-init
+loop-place-init c =
+    let all : greatest_dim - 0 ≡ greatest_dim = omega arith in
+    rw all (omega arith)
+
+pub overflow_add-node : goal.overflow_add-node
+overflow_add-node c =
+    let l = c.loop-place in
+    let one : l.rest % 2 ≡ 1 = sym (low_bit l.rest) ∙ c.if-rest-eq1.true in
+    omega (arith, low_bit_shifted l.left l.place (omega arith), deposit_more_one greatest_dim l.place l.node l.left l.rest (omega (arith, greatest_dim_lem)) one, l.invariant, deposited-below greatest_dim c.args.r c.args.mask, ap (λ n. 2 ^ n) greatest_dim_lem)
+
+pub loop-place-preserved : goal.loop-place-preserved
+loop-place-preserved c =
+    let l = c.loop-place in
+    let below : l.place < greatest_dim = omega (arith, greatest_dim_lem) in
+    elim c.if-rest-eq1.branch [
+      | then-rest-eq1 w ↦
+          let one : l.rest % 2 ≡ 1 = sym (low_bit l.rest) ∙ w.if-rest-eq1.true in
+          rw (w.node-is, w.left-is, low_bit_shifted l.left l.place (omega arith), deposit_more_one greatest_dim l.place l.node l.left l.rest below one) l.invariant
+      | else-rest-eq1 w ↦
+          let none : l.rest % 2 ≡ 0 = omega (arith, low_bit l.rest, w.if-rest-eq1.false) in
+          rw (w.node-is, w.left-is, deposit_more_none greatest_dim l.place l.node l.left l.rest below none) l.invariant
+    ]
+
+-- at the end no bit is left
+whole : (bits place node left rest all : ℕ) → bits ≤ place → node + 2 ^ place * deposited (bits - place) left rest ≡ all → node ≡ all
+whole bits place node left rest all past is =
+    let none : bits - place ≡ 0 = omega arith in
+    let after : node + 2 ^ place * 0 ≡ all = rw none at is in
+    omega arith
+
+is_deposited : (c : goal.After-loop-place) → c.loop-place.node ≡ deposited greatest_dim c.args.r c.args.mask
+is_deposited c =
+    let l = c.loop-place in
+    whole greatest_dim l.place l.node l.left l.rest _ (omega (arith, greatest_dim_lem)) l.invariant
+
+pub returns-clause-value : goal.returns-clause-value
+unfolding deposit
+returns-clause-value c = is_deposited c
+
+pub returns-clause-inside : goal.returns-clause-inside
+returns-clause-inside c = rw (is_deposited c) (deposited-part greatest_dim c.args.r c.args.mask)
+
+pub returns-clause-back : goal.returns-clause-back
+unfolding extract
+returns-clause-back c = λ small. rw (is_deposited c) (extracted-deposited greatest_dim c.args.r c.args.mask small)
+
+pub returns-clause-order : goal.returns-clause-order
+unfolding deposit
+returns-clause-order c = λ s less small. rw (is_deposited c) (deposited-rises greatest_dim s c.args.r c.args.mask small less)

@@ -1,0 +1,11 @@
+//! Sets of nodes and the subcubes of a machine: which nodes a subcube has, and the first subcube that is free.
+#![tactic(auto)]
+
+mod bits;
+mod subcube;
+
+pub use bits::{deposit, extract};
+pub use subcube::{first_free, node_of, nodes_of};
+
+#[cfg(test)]
+mod tests;

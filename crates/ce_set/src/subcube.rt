@@ -1,0 +1,101 @@
+ghost use Rattle.std.specs.Prelude.{◌≡◌, ℕ, ◌+◌, ◌/◌, ◌%◌, ◌^◌, ◌<◌, ◌≤◌, ◌==◌, ◌&&◌, find, IsTrue};
+ghost use Rattle.ce_model.specs.Limits.{greatest_dim};
+ghost use Rattle.ce_model.specs.Subcubes.{node_of, is_inside, is_base, has_node, ones_of, first_free, all_nodes, subcube_at, with_mask};
+ghost use Rattle.ce_set.specs.Words.{has_bit};
+
+use crate::deposit;
+use ce_model::{GREATEST_DIMENSION, NodeSet, Subcube};
+
+/// The node that the subcube has as its relative node `r`. The mask and the base are below 64 and have no bit in
+/// common, and r is below 2^d, where the mask has d one bits.
+pub fn node_of(sub: &Subcube, r: u32) -> u32
+    requires mask_within { sub.now.mask < 2 ^ greatest_dim }
+    requires base_within { sub.now.base < 2 ^ greatest_dim }
+    requires apart { IsTrue (is_base sub.now.mask sub.now.base) }
+    requires relative { r < 2 ^ ones_of greatest_dim sub.now.mask }
+    ensures { result ≡ node_of sub.now r }
+{
+    sub.base + deposit(r, sub.mask)
+}
+
+/// The nodes of the subcube. The mask and the base are below 64 and have no bit in common.
+pub fn nodes_of(sub: &Subcube) -> NodeSet
+    requires mask_within { sub.now.mask < 2 ^ greatest_dim }
+    requires base_within { sub.now.base < 2 ^ greatest_dim }
+    requires apart { IsTrue (is_base sub.now.mask sub.now.base) }
+    ensures { (node : ℕ) → has_node result node ≡ is_inside sub.now node }
+{
+    let mut nodes = 1u64 << sub.base;
+    for place in (0..GREATEST_DIMENSION).rev() {
+        if sub.mask >> place & 1 == 1 {
+            nodes |= nodes << (1u32 << place);
+        }
+    }
+    NodeSet(nodes)
+}
+
+/// The first subcube of dimension `d` whose nodes are all in the set, by rising mask and then by rising base;
+/// None exactly where there is none, so wherever d is more than the machine's dimension `dim`, which is at most 6.
+/// The set has nodes of the machine alone.
+pub fn first_free(free: NodeSet, dim: u32, d: u32) -> Option<Subcube>
+    requires dim_within { dim ≤ greatest_dim }
+    requires nodes_within { free.0 < 2 ^ 2 ^ dim }
+    ensures { result ≡ first_free (has_node free) dim d }
+{
+    for mask in 0..1u32 << dim {
+        if mask.count_ones() == d
+            && let Some(sub) = first_with(free, mask)
+        {
+            return Some(sub);
+        }
+    }
+    None
+}
+
+// The first subcube with this mask whose nodes are all in the set.
+fn first_with(free: NodeSet, mask: u32) -> Option<Subcube>
+    requires { mask < 2 ^ greatest_dim }
+    ensures { (dim : ℕ) → free.0 < 2 ^ 2 ^ dim → result
+        ≡ find (all_nodes (has_node free) (ones_of greatest_dim mask)) (with_mask (2 ^ dim) mask) }
+{
+    let bases = bases_within(free.0, mask);
+    if bases == 0 {
+        return None;
+    }
+    let base = bases.trailing_zeros();
+    Some(Subcube { mask, base })
+}
+
+// The bases of the subcubes with this mask whose nodes are all in the set.
+fn bases_within(set: u64, mask: u32) -> u64
+    requires { mask < 2 ^ greatest_dim }
+    ensures { (n : ℕ) → has_bit result n
+        ≡ (is_base mask n && all_nodes (has_bit set) (ones_of greatest_dim mask) (subcube_at mask n)) }
+{
+    let mut bases = set;
+    for place in (0..GREATEST_DIMENSION).rev() {
+        if mask >> place & 1 == 1 {
+            bases = lower_halves(bases, place);
+        }
+    }
+    bases
+}
+
+// For each place the numbers that have a 0 there.
+const CLEAR: [u64; 6] = [
+    0x5555_5555_5555_5555,
+    0x3333_3333_3333_3333,
+    0x0f0f_0f0f_0f0f_0f0f,
+    0x00ff_00ff_00ff_00ff,
+    0x0000_ffff_0000_ffff,
+    0x0000_0000_ffff_ffff,
+];
+
+// Those numbers of the set that have a 0 at the place and are in the set with a 1 there too.
+fn lower_halves(set: u64, place: u32) -> u64
+    requires { place < greatest_dim }
+    ensures { (n : ℕ) → has_bit result n
+        ≡ (n / 2 ^ place % 2 == 0 && has_bit set n && has_bit set (n + 2 ^ place)) }
+{
+    set & set >> (1u32 << place) & CLEAR[place as usize]
+}
