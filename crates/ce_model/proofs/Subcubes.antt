@@ -79,13 +79,13 @@ extracted-placed (suc bits) base r mask apart small =
     by_low_bit mask _
     (λ one.
     let rest : extracted bits (base / 2 + deposited bits (r / 2) (mask / 2)) (mask / 2) ≡ r / 2 =
-        extracted-placed bits (base / 2) (r / 2) (mask / 2) (omega (arith, extracted-one bits base mask one)) (omega (arith, count_of-one bits mask one)) in
+    extracted-placed bits (base / 2) (r / 2) (mask / 2) (omega (arith, extracted-one bits base mask one)) (omega (arith, count_of-one bits mask one)) in
     let even : base % 2 ≡ 0 = omega (arith, extracted-one bits base mask one) in
     let half : (base + (r % 2 + 2 * deposited bits (r / 2) (mask / 2))) / 2 ≡ base / 2 + deposited bits (r / 2) (mask / 2) = omega arith in
     rw (deposited-one bits r mask one, extracted-one bits (base + (r % 2 + 2 * deposited bits (r / 2) (mask / 2))) mask one, half, rest) (omega arith))
     (λ none.
     let rest : extracted bits (base / 2 + deposited bits r (mask / 2)) (mask / 2) ≡ r =
-        extracted-placed bits (base / 2) r (mask / 2) (omega (arith, extracted-none bits base mask none)) (omega (arith, count_of-none bits mask none)) in
+    extracted-placed bits (base / 2) r (mask / 2) (omega (arith, extracted-none bits base mask none)) (omega (arith, count_of-none bits mask none)) in
     let half : (base + 2 * deposited bits r (mask / 2)) / 2 ≡ base / 2 + deposited bits r (mask / 2) = omega arith in
     rw (deposited-none bits r mask none, extracted-none bits (base + 2 * deposited bits r (mask / 2)) mask none, half) rest)
 
@@ -95,7 +95,7 @@ extracted-deposited bits r mask small =
 
 half_part : (n mask : ℕ) → IsPart n mask → IsPart (n / 2) (mask / 2)
 half_part n mask part = record {
-  ones = λ place h. sym (bit_at-suc mask place) ∙ part.ones (suc place) (bit_at-suc n place ∙ h)
+  ones = λ place h. sym (bit_at-suc mask place) ∙ part.ones (suc place) (bit_at-suc n place ∙ h);
 }
 
 pub deposited-extracted : (bits n mask : ℕ) → n < 2 ^ bits → IsPart n mask → deposited bits (extracted bits n mask) mask ≡ n
@@ -139,11 +139,11 @@ deposited-rises (suc bits) r s mask small less =
     by_low_bit mask _
     (λ one.
     elim (cases_lt (r / 2) (s / 2)) [
-      inl below ↦
-        omega (arith, deposited-one bits r mask one, deposited-one bits s mask one, deposited-rises bits (r / 2) (s / 2) (mask / 2) (omega (arith, count_of-one bits mask one)) below)
-    | inr above ↦
-        let same : r / 2 ≡ s / 2 = omega arith in
-        omega (arith, deposited-one bits r mask one, deposited-one bits s mask one, ap (λ n. deposited bits n (mask / 2)) same)
+      | inl below ↦
+          omega (arith, deposited-one bits r mask one, deposited-one bits s mask one, deposited-rises bits (r / 2) (s / 2) (mask / 2) (omega (arith, count_of-one bits mask one)) below)
+      | inr above ↦
+          let same : r / 2 ≡ s / 2 = omega arith in
+          omega (arith, deposited-one bits r mask one, deposited-one bits s mask one, ap (λ n. deposited bits n (mask / 2)) same)
     ])
     (λ none.
     omega (arith, deposited-none bits r mask none, deposited-none bits s mask none, deposited-rises bits r s (mask / 2) (omega (arith, count_of-none bits mask none)) less))
@@ -153,10 +153,10 @@ extracted-rises bits n m mask small of_n of_m less =
     let back_n = deposited-extracted bits n mask (omega arith) of_n in
     let back_m = deposited-extracted bits m mask small of_m in
     elim (cases_order (extracted bits n mask) (extracted bits m mask)) [
-      inl same ↦ absurd (omega (arith, ap (λ r. deposited bits r mask) same, back_n, back_m))
-    | inr (inl below) ↦ below
-    | inr (inr above) ↦
-      absurd (omega (arith, deposited-rises bits (extracted bits m mask) (extracted bits n mask) mask (extracted-below bits n mask) above, back_n, back_m))
+      | inl same ↦ absurd (omega (arith, ap (λ r. deposited bits r mask) same, back_n, back_m))
+      | inr (inl below) ↦ below
+      | inr (inr above) ↦
+          absurd (omega (arith, deposited-rises bits (extracted bits m mask) (extracted bits n mask) mask (extracted-below bits n mask) above, back_n, back_m))
     ]
 
 -- ---- the nodes of a subcube
@@ -256,10 +256,10 @@ find-none test image picked from (suc count) none =
     let rest = find-none test image picked (from + 1) count (λ k below. ap both (omega arith) ∙ none (suc k) (omega arith)) in
     let here : (picked from && test (image from)) ≡ false = ap both (omega arith) ∙ none 0 (omega arith) in
     elim (cases_Bool (picked from)) [
-      inl passes ↦
-        let ill : test (image from) ≡ false = rw passes at here in
-        rw (passes, ill) rest
-    | inr fails ↦ rw fails rest
+      | inl passes ↦
+          let ill : test (image from) ≡ false = rw passes at here in
+          rw (passes, ill) rest
+      | inr fails ↦ rw fails rest
     ]
 
 pub find-first : {X : Type 0} (test : X → Bool) (image : ℕ → X) (picked : ℕ → Bool) (from count k : ℕ) → k < count
@@ -277,26 +277,26 @@ find-first test image picked from (suc count) (suc k) below here before =
     let rest = find-first test image picked (from + 1) count k (omega arith) (ap both (sym next) ∙ here) (λ i less. ap both (omega arith) ∙ before (suc i) (omega arith)) in
     let first : (picked from && test (image from)) ≡ false = ap both (omega arith) ∙ before 0 (omega arith) in
     elim (cases_Bool (picked from)) [
-      inl passes ↦
-        let ill : test (image from) ≡ false = rw passes at first in
-        rw (passes, ill, next) rest
-    | inr fails ↦ rw (fails, next) rest
+      | inl passes ↦
+          let ill : test (image from) ≡ false = rw passes at first in
+          rw (passes, ill, next) rest
+      | inr fails ↦ rw (fails, next) rest
     ]
 
 pub find-append : {X : Type 0} (test : X → Bool) (xs ys : List X) → find test xs ≡ None → find test (xs ++ ys) ≡ find test ys
 find-append test [] ys none = refl
 find-append test (x ∷ xs) ys none =
     elim (cases_Bool (test x)) [
-      inl passes ↦ let found : Some x ≡ None = rw passes at none in absurd (cc)
-    | inr fails ↦ let rest : find test xs ≡ None = rw fails at none in rw fails (find-append test xs ys rest)
+      | inl passes ↦ let found : Some x ≡ None = rw passes at none in absurd (cc)
+      | inr fails ↦ let rest : find test xs ≡ None = rw fails at none in rw fails (find-append test xs ys rest)
     ]
 
 pub find-append_found : {X : Type 0} (test : X → Bool) (xs ys : List X) (x : X) → find test xs ≡ Some x → find test (xs ++ ys) ≡ Some x
 find-append_found test [] ys x found = absurd (cc)
 find-append_found test (y ∷ xs) ys x found =
     elim (cases_Bool (test y)) [
-      inl passes ↦ let here : Some y ≡ Some x = rw passes at found in rw passes here
-    | inr fails ↦ let rest : find test xs ≡ Some x = rw fails at found in rw fails (find-append_found test xs ys x rest)
+      | inl passes ↦ let here : Some y ≡ Some x = rw passes at found in rw passes here
+      | inr fails ↦ let rest : find test xs ≡ Some x = rw fails at found in rw fails (find-append_found test xs ys x rest)
     ]
 
 -- what is found passes, and is as all that it was looked for among
@@ -304,16 +304,16 @@ pub find-passes : {X : Type 0} (test : X → Bool) (xs : List X) (x : X) → fin
 find-passes test [] x found = absurd (cc)
 find-passes test (y ∷ xs) x found =
     elim (cases_Bool (test y)) [
-      inl passes ↦ let here : Some y ≡ Some x = rw passes at found in let same : y ≡ x = cc in rw (← same) passes
-    | inr fails ↦ let rest : find test xs ≡ Some x = rw fails at found in find-passes test xs x rest
+      | inl passes ↦ let here : Some y ≡ Some x = rw passes at found in let same : y ≡ x = cc in rw (← same) passes
+      | inr fails ↦ let rest : find test xs ≡ Some x = rw fails at found in find-passes test xs x rest
     ]
 
 pub find-among : {X : Type 0} (P : X → Type 0) (test : X → Bool) (xs : List X) (x : X) → All P xs → find test xs ≡ Some x → P x
 find-among P test [] x all found = absurd (cc)
 find-among P test (y ∷ xs) x all found =
     elim (cases_Bool (test y)) [
-      inl passes ↦ let here : Some y ≡ Some x = rw passes at found in let same : y ≡ x = cc in subst P same (All-head P y xs all)
-    | inr fails ↦ let rest : find test xs ≡ Some x = rw fails at found in find-among P test xs x (All-tail P y xs all) rest
+      | inl passes ↦ let here : Some y ≡ Some x = rw passes at found in let same : y ≡ x = cc in subst P same (All-head P y xs all)
+      | inr fails ↦ let rest : find test xs ≡ Some x = rw fails at found in find-among P test xs x (All-tail P y xs all) rest
     ]
 
 -- all images of those that are picked
@@ -330,8 +330,8 @@ all_images P images picked from zero each = All-nil P
 all_images P images picked from (suc count) each =
     let rest = all_images P images picked (from + 1) count (λ n below good. each n (omega arith) good) in
     elim (cases_Bool (picked from)) [
-      inl passes ↦ rw passes (All-append P (images from) _ (each from (omega arith) passes) rest)
-    | inr fails ↦ rw fails rest
+      | inl passes ↦ rw passes (All-append P (images from) _ (each from (omega arith) passes) rest)
+      | inr fails ↦ rw fails rest
     ]
 
 pub all_subcubes : (dim d : ℕ) → All (λ sub. IsSubcube dim d sub) (subcubes dim d)

@@ -181,3 +181,11 @@ fields_of-rki1 bytes image h = ap fields_of h.spelled ∙ fields-spelling image 
 -- what was found in bytes without a fault
 pub found_in : (bytes : List ℕ) (found : ImageParts) → IsBytes bytes → found ≡ fields_of bytes → none ≡ fault_of bytes → IsRki1 bytes found
 found_in bytes found fits same e = subst (λ (image : ImageParts). IsRki1 bytes image) (sym same) (IsRki1-fields bytes fits (sym e))
+
+-- bytes spell one image at most
+pub one_image : (bytes : List ℕ) (image other : ImageParts) → IsRki1 bytes image → IsRki1 bytes other → image ≡ other
+one_image bytes image other h g = sym (fields_of-rki1 bytes image h) ∙ fields_of-rki1 bytes other g
+
+-- an image has one spelling
+pub one_spelling : (bytes other : List ℕ) (image : ImageParts) → IsRki1 bytes image → IsRki1 other image → bytes ≡ other
+one_spelling bytes other image h g = h.spelled ∙ sym g.spelled

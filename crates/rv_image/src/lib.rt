@@ -3,9 +3,11 @@
 
 mod fault;
 mod image;
+mod laws;
 
 pub use fault::ImageFault;
 pub use image::{Image, read, write};
+pub use laws::{rki1_is_unambiguous, written_and_read};
 
 #[cfg(test)]
 mod tests;

@@ -1,5 +1,3 @@
-ghost use Rattle.rv_image.specs.Fault.{Gives};
-
 use super::*;
 use std::alloc::{AllocError, Global};
 use std::test::Fail;
@@ -45,14 +43,6 @@ fn with_header(
     }
     bytes.extend_from_slice(&loaded_words(alloc)?)?;
     Ok(bytes)
-}
-
-/// What is written is read again.
-fn written_and_read(alloc: Global, image: &Image) -> Result<Image, ImageFault>
-    ensures { Gives result image.now }
-{
-    let bytes = write(alloc, image)?;
-    read(alloc, &bytes)
 }
 
 #[test]

@@ -4,10 +4,12 @@
 
 mod inst;
 mod limits;
+mod little_endian;
 mod memory;
 mod stop;
 
 pub use inst::{BranchOp, ImmOp, Inst, LoadOp, RegOp, StoreOp};
 pub use limits::{IMAGE_ROOM, PRIVATE_END, PRIVATE_SIZE, PRIVATE_START};
+pub use little_endian::{number_in, put_number, word_in};
 pub use memory::NoMemory;
 pub use stop::Stop;

@@ -17,6 +17,7 @@ pub(crate) fn execute<M: Memory>(inst: Inst, regs: &mut Regs, pc: &mut u32, memo
     ensures regs_stay { OnStopped result (regs.new.x ≡ regs.old.x) }
     ensures pc_stays { OnStopped result (pc.new ≡ pc.old) }
     ensures memory_stays { OnStopped result (M.holds memory.new ≡ M.holds memory.old) }
+    ensures rest { M.rest memory.new ≡ M.rest memory.old }
 {
     match inst {
         Inst::Lui { rd, imm } => write(rd, imm, regs, pc),
@@ -137,6 +138,7 @@ fn store<M: Memory>(
         ≡ performed M.access (Inst.Store op rs1 rs2 imm) regs.now.x pc.old (M.holds memory.old) }
     ensures pc_stays { OnStopped result (pc.new ≡ pc.old) }
     ensures memory_stays { OnStopped result (M.holds memory.new ≡ M.holds memory.old) }
+    ensures rest { M.rest memory.new ≡ M.rest memory.old }
 {
     let addr = regs.get(rs1).wrapping_add_signed(imm);
     let value = regs.get(rs2);

@@ -4,12 +4,14 @@
 mod compute;
 mod event;
 mod execute;
+mod laws;
 mod memory;
 mod private_memory;
 mod regs;
 mod stepping;
 
 pub use event::Event;
+pub use laws::step_changes_four_bytes;
 pub use memory::Memory;
 pub use private_memory::PrivateMemory;
 pub use regs::Regs;

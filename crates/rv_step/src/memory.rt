@@ -15,6 +15,11 @@ pub trait Memory {
     // What this memory is seen as.
     ghost holds: { Self → Self.Space };
 
+    // What else there is of it, which no access changes.
+    ghost Rest: { Type 0 };
+
+    ghost rest: { Self → Self.Rest };
+
     /// The instruction word at `pc`.
     fn fetch(&self, pc: u32) -> Result<u32, Stop>
         ensures { result ≡ access.fetched (holds self.now) pc };
@@ -30,5 +35,6 @@ pub trait Memory {
         requires { IsAccessSize size }
         ensures stored { OnOk result (access.stored (holds self.old) addr size value ≡ Ok (holds self.new)) }
         ensures refused { IfErr result (λ cause. access.stored (holds self.old) addr size value ≡ Err cause) }
-        ensures unchanged { OnErr result (holds self.new ≡ holds self.old) };
+        ensures unchanged { OnErr result (holds self.new ≡ holds self.old) }
+        ensures rest { rest self.new ≡ rest self.old };
 }

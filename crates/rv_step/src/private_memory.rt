@@ -89,6 +89,10 @@ impl Memory for PrivateMemory {
 
     ghost holds = { λ bytes. bytes };
 
+    ghost Rest = { Unit {0} };
+
+    ghost rest = { λ bytes. tt };
+
     fn fetch(&self, pc: u32) -> Result<u32, Stop> {
         match offset_of(pc, 4) {
             Some(offset) => Ok(word_at(self.bytes.as_slice(), offset)),

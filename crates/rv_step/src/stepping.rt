@@ -19,6 +19,7 @@ pub fn step<M: Memory>(regs: &mut Regs, pc: &mut u32, memory: &mut M) -> Event
     ensures regs_stay { OnStopped result (regs.new.x ≡ regs.old.x) }
     ensures pc_stays { OnStopped result (pc.new ≡ pc.old) }
     ensures memory_stays { OnStopped result (M.holds memory.new ≡ M.holds memory.old) }
+    ensures rest { M.rest memory.new ≡ M.rest memory.old }
 {
     let word = match memory.fetch(*pc) {
         Ok(word) => word,

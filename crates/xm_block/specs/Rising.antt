@@ -1,0 +1,11 @@
+-- Lists in order, and one element more in its place.
+use Rattle.std.specs.Prelude.{Bool, IsTrue, if◌then◌else◌, List, [], ◌∷◌, AllPairs}
+
+-- each element is before all those behind it
+abbrev pub IsRising : {X : Type 0} → (X → X → Bool) → List X → Type 0
+IsRising before xs = AllPairs (λ a b. IsTrue (before a b)) xs
+
+-- a list with one element more, in front of the first one that it is before
+abbrev pub put_in : {X : Type 0} → (X → X → Bool) → X → List X → List X
+put_in before x [] = x ∷ []
+put_in before x (y ∷ ys) = if before x y then x ∷ y ∷ ys else y ∷ put_in before x ys

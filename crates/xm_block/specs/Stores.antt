@@ -1,0 +1,22 @@
+-- A store of message blocks.
+use Rattle.std.specs.Prelude.{ℕ, Bool, List, map}
+use Rattle.ce_model.specs.declared.topology.BlockId.{BlockId}
+use Rattle.ce_model.specs.Blocks.{Block, precedes}
+use Rattle.xm_block.specs.Rising.{put_in}
+
+-- a store: its blocks by rising name, and how many more it has room for
+pub record Kept : Type 0 where
+  pub blocks : List Block
+  pub spare : ℕ
+
+-- blocks are ordered by their names
+abbrev pub is_before : Block → Block → Bool
+is_before a b = precedes a.id b.id
+
+-- the names of blocks
+abbrev pub ids_of : List Block → List BlockId
+ids_of blocks = map (λ block. block.id) blocks
+
+-- blocks by rising name, with one block more in its place
+abbrev pub with_block : Block → List Block → List Block
+with_block = put_in is_before

@@ -1,0 +1,27 @@
+ghost use Rattle.std.specs.Prelude.{◌≡◌, ◌≤◌, true, false, length};
+ghost use Rattle.std.specs.List.{AllWithin};
+ghost use Rattle.ce_model.specs.Blocks.{precedes};
+ghost use Rattle.xm_block.specs.Rising.{IsRising};
+ghost use Rattle.xm_block.specs.Stores.{is_before};
+
+use crate::Block;
+use ce_model::BlockId;
+use std::collections::VecDeque;
+
+/// Whether the name `a` comes before the name `b`: by home, and in one home by index.
+fn precedes(a: BlockId, b: BlockId) -> bool
+    ensures { result ≡ precedes a b }
+{
+    a.home < b.home || (a.home == b.home && a.index < b.index)
+}
+
+/// The place of a block among blocks in order: in front of the first whose name its own comes before.
+pub(crate) fn place_of(blocks: &VecDeque<Block>, block: &Block) -> usize
+    requires { IsRising is_before blocks.now.items }
+    ensures within { result ≤ length blocks.now.items }
+    ensures passed { AllWithin (λ other. is_before block.now other ≡ false) blocks.now.items 0 result }
+    ensures ahead { AllWithin (λ other. is_before block.now other ≡ true)
+        blocks.now.items result (length blocks.now.items) }
+{
+    blocks.partition_point(|other| !precedes(block.id(), other.id()))
+}

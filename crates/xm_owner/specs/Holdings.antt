@@ -1,0 +1,57 @@
+-- The blocks that the processes of a node hold: a finite map from a process and its window to the block there.
+use Rattle.std.specs.Prelude.{◌≡◌, ℕ, Bool, not, nat_lt, ◌==◌, ◌&&◌, ◌||◌, if◌then◌else◌, List, [], ◌∷◌, map, filter, Option, Some, None}
+use Rattle.ce_model.specs.Blocks.{Block}
+use Rattle.xm_block.specs.Rising.{put_in}
+
+-- a block in a window of a process
+pub record Mapping : Type 0 where
+  pub pid : ℕ
+  pub window : ℕ
+  pub block : Block
+
+-- the map: its mappings by rising process, then by window, and how many more it has room for
+pub record Holding : Type 0 where
+  pub mappings : List Mapping
+  pub spare : ℕ
+
+-- mappings are ordered by process, and those of one process by window
+abbrev pub is_before : Mapping → Mapping → Bool
+is_before a b = nat_lt a.pid b.pid || (a.pid == b.pid && nat_lt a.window b.window)
+
+abbrev pub is_at : ℕ → ℕ → Mapping → Bool
+is_at pid window mapping = mapping.pid == pid && mapping.window == window
+
+-- the block that a process holds in a window, if it holds one there
+abbrev pub held_at : List Mapping → ℕ → ℕ → Option Block
+held_at [] pid window = None
+held_at (mapping ∷ mappings) pid window =
+    if is_at pid window mapping then Some mapping.block else held_at mappings pid window
+
+-- the blocks that a process holds, by window
+abbrev pub blocks_of : ℕ → List Mapping → List Block
+blocks_of pid mappings = map (λ mapping. mapping.block) (filter (λ mapping. mapping.pid == pid) mappings)
+
+-- with one mapping more, in its place
+abbrev pub with_mapping : Mapping → List Mapping → List Mapping
+with_mapping = put_in is_before
+
+-- without the mapping of a window
+abbrev pub without : ℕ → ℕ → List Mapping → List Mapping
+without pid window mappings = filter (λ mapping. not (is_at pid window mapping)) mappings
+
+-- without those of a process
+abbrev pub without_process : ℕ → List Mapping → List Mapping
+without_process pid mappings = filter (λ mapping. not (mapping.pid == pid)) mappings
+
+-- with this block in place of the one that a window holds
+abbrev pub with_block_at : ℕ → ℕ → Block → List Mapping → List Mapping
+with_block_at pid window block [] = []
+with_block_at pid window block (mapping ∷ mappings) =
+    if is_at pid window mapping
+    then record mapping { block = block } ∷ mappings
+    else mapping ∷ with_block_at pid window block mappings
+
+-- one window alone changes what it holds, and this is there afterwards
+pub record ChangesOnly (old new : List Mapping) (pid window : ℕ) (there : Option Block) : Type 0 where
+  pub changed : held_at new pid window ≡ there
+  pub others : (p w : ℕ) → (p ≡ pid → w ≡ window → ⊥) → held_at new p w ≡ held_at old p w

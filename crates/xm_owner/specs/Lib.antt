@@ -1,0 +1,4 @@
+pub mod Holdings
+pub mod Kept
+pub mod Loans
+pub mod Tables

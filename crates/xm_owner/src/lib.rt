@@ -1,0 +1,7 @@
+//! The blocks that the processes of a node hold in their windows.
+#![tactic(auto)]
+
+mod held;
+mod key;
+
+pub use held::Held;
