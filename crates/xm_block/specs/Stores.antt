@@ -1,5 +1,5 @@
 -- A store of message blocks.
-use Rattle.std.specs.Prelude.{ℕ, Bool, List, map}
+use Rattle.std.specs.Prelude.{ℕ, Bool, List, [], ◌∷◌, ◌++◌, ◌≢◌, AllPairs, map}
 use Rattle.ce_model.specs.declared.topology.BlockId.{BlockId}
 use Rattle.ce_model.specs.Blocks.{Block, precedes}
 use Rattle.xm_block.specs.Rising.{put_in}
@@ -20,3 +20,12 @@ ids_of blocks = map (λ block. block.id) blocks
 -- blocks by rising name, with one block more in its place
 abbrev pub with_block : Block → List Block → List Block
 with_block = put_in is_before
+
+-- with several blocks more, one after the other
+abbrev pub with_blocks : List Block → List Block → List Block
+with_blocks [] stored = stored
+with_blocks (block ∷ blocks) stored = with_blocks blocks (with_block block stored)
+
+-- the names of these blocks, and of those in a store, all differ
+abbrev pub AreApart : List Block → List Block → Type 0
+AreApart blocks stored = AllPairs (λ a b. a ≢ b) (ids_of blocks ++ ids_of stored)

@@ -1,5 +1,5 @@
 -- The order of keys.
-use Rattle.std.proofs.Common.{◌≡◌, ℕ, zero, suc, ◌+◌, ◌<◌, true, false, List, [], ◌∷◌, length, get_or, arith, refl, ap, ◌∙◌, inl, inr}
+use Rattle.std.proofs.Common.{◌≡◌, ℕ, zero, suc, ◌+◌, ◌<◌, true, false, nat_lt, List, [], ◌∷◌, length, get_or, arith, refl, ap, ◌∙◌, inl, inr}
 use Rattle.std.specs.List.{AllWithin, position_or_len}
 use Rattle.std.specs.List.Sorted.{IsPartitionedBy}
 use Rattle.std.proofs.lemmas.Bool.{cases_lt}
@@ -61,3 +61,13 @@ position-absent key (other ∷ keys) zero rising passed ahead absent =
     (λ k d low high. absurd (omega arith)) (λ k d low high. ahead (suc k) d (omega arith) (omega arith))
     (λ within. key_before-behind key _ (key_before-trans key other _ after (rising 0 1 key (omega arith) (omega arith)))) in
     rw differs (ap (λ n. 1 + n) rest ∙ omega arith)
+
+-- among keys in order, those of processes below a limit come first
+below-before : (a b : Key) (limit : ℕ) → key_before a b ≡ true → nat_lt b.pid limit ≡ true → nat_lt a.pid limit ≡ true
+below-before a b limit h k = grind (arith, nat_tests)
+
+pub partitioned-below : (limit : ℕ) (keys : List Key) → IsRising key_before keys → IsPartitionedBy (λ other. nat_lt other.pid limit) keys
+partitioned-below limit keys rising i j d low high h = elim (cases_lt i j) [
+  | inl q ↦ below-before (get_or keys i d) (get_or keys j d) limit (rising i j d q high) h
+  | inr q ↦ (let e : i ≡ j = omega arith in rw e h)
+]

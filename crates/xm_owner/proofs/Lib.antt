@@ -1,3 +1,4 @@
 pub mod Keys
 pub mod Mappings
 pub mod Places
+pub mod Drained

@@ -1,10 +1,10 @@
 -- What a change of a map leaves in its windows.
-use Rattle.std.proofs.Common.{◌≡◌, ℕ, true, false, List, [], ◌∷◌, Some, None, arith, refl, ap, ◌∙◌, sym, inl, inr}
+use Rattle.std.proofs.Common.{◌≡◌, ℕ, true, false, ◌==◌, List, [], ◌∷◌, Some, None, arith, refl, ap, ◌∙◌, sym, inl, inr}
 use Rattle.std.proofs.lemmas.Bool.{cases_Bool}
 use Rattle.std.proofs.lemmas.Bool.Decides.{nat_tests}
 use Rattle.std.proofs.lemmas.Option.{none-some}
 use Rattle.ce_model.specs.Blocks.{Block}
-use Rattle.xm_owner.specs.Holdings.{Mapping, is_at, is_before, held_at, with_mapping, without, with_block_at, ChangesOnly}
+use Rattle.xm_owner.specs.Holdings.{Mapping, is_at, is_before, held_at, with_mapping, without, without_process, with_block_at, ChangesOnly}
 
 -- a mapping is at its own window, and at no other one
 at-own : (mapping : Mapping) → is_at mapping.pid mapping.window mapping ≡ true
@@ -115,3 +115,21 @@ changes-with_block pid window block was mappings held = record {
   changed = held_at-with_block pid window block was mappings held;
   others = held_at-with_block_other pid window block mappings;
 }
+
+-- without the mappings of a process
+pub held_at-drained : (pid window : ℕ) (mappings : List Mapping) → held_at (without_process pid mappings) pid window ≡ None
+held_at-drained pid window [] = refl
+held_at-drained pid window (mapping ∷ mappings) = elim (cases_Bool (mapping.pid == pid)) [
+  | inl t ↦ rw t (held_at-drained pid window mappings)
+  | inr f ↦ (let apart : is_at pid window mapping ≡ false = grind (arith, nat_tests) in rw (f, apart) (held_at-drained pid window mappings))
+]
+
+pub held_at-drained_other : (pid : ℕ) (mappings : List Mapping) (p w : ℕ) → (p ≡ pid → ⊥) → held_at (without_process pid mappings) p w ≡ held_at mappings p w
+held_at-drained_other pid [] p w differs = refl
+held_at-drained_other pid (mapping ∷ mappings) p w differs = elim (cases_Bool (mapping.pid == pid)) [
+  | inl t ↦ (let apart : is_at p w mapping ≡ false = grind (arith, nat_tests) in rw (t, apart) (held_at-drained_other pid mappings p w differs))
+  | inr f ↦ rw f (elim (cases_Bool (is_at p w mapping)) [
+    | inl u ↦ rw u refl
+    | inr g ↦ rw g (held_at-drained_other pid mappings p w differs)
+  ])
+]

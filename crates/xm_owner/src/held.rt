@@ -1,15 +1,17 @@
-ghost use Rattle.std.specs.Prelude.{◌≡◌, ◌≤◌, ◌+◌, ◌-◌, [], length, Some, None, IfOk, IsSome, IfSome, IfNone, slice_get};
+ghost use Rattle.std.specs.Prelude.{◌≡◌, ◌≢◌, ℕ, ◌≤◌, ◌+◌, ◌-◌, [], length, Some, None, IfOk, IsSome, IfSome, IfNone, slice_get, slice_range, vec_capacity};
+ghost use Rattle.std.specs.List.{remove_range};
+ghost use Rattle.xm_block.specs.Stores.{AreApart, with_blocks};
 ghost use Rattle.std.specs.Option.{option_copied, option_copied_mut};
 ghost use Rattle.std.specs.Borrow.{sem};
 ghost use Rattle.xm_block.specs.Rising.{IsRising};
-ghost use Rattle.xm_owner.specs.Holdings.{is_before, held_at, with_mapping, without, ChangesOnly};
+ghost use Rattle.xm_owner.specs.Holdings.{is_before, held_at, with_mapping, without, blocks_of, without_process, ChangesOnly};
 ghost use Rattle.xm_owner.specs.Loans.{LendsBlock};
 
-use crate::key::{Key, index_of, place_of};
+use crate::key::{Key, index_of, place_of, range_of};
 use ce_model::NoMemory;
 use std::alloc::Global;
 use std::marker::Model;
-use xm_block::Block;
+use xm_block::{Block, Store};
 
 /// The blocks that the processes of a node hold, each in a window of a process, with room for a number of them.
 /// Contracts see a finite map, by process and window.
@@ -93,6 +95,28 @@ impl Held {
         Some(self.blocks.remove(place))
     }
 
+    /// Takes all blocks of a process out, and gives them to the store. The store has room for them, and all their names
+    /// and those of its blocks differ.
+    pub fn drain(&mut self, pid: u32, store: &mut Store)
+        requires room { length (blocks_of pid self.old.mappings) ≤ store.old.spare }
+        requires apart { AreApart (blocks_of pid self.old.mappings) store.old.blocks }
+        ensures left { self.new ≡ record {
+          mappings = without_process pid self.old.mappings;
+          spare = self.old.spare + length (blocks_of pid self.old.mappings);
+        } }
+        ensures moved { store.new ≡ record {
+          blocks = with_blocks (blocks_of pid self.old.mappings) store.old.blocks;
+          spare = store.old.spare - length (blocks_of pid self.old.mappings);
+        } }
+        ensures gone { (window : ℕ) → held_at self.new.mappings pid window ≡ None }
+        ensures others { (other window : ℕ) → other ≢ pid
+            → held_at self.new.mappings other window ≡ held_at self.old.mappings other window }
+    {
+        let (first, last) = range_of(&self.keys, pid);
+        remove_keys(&mut self.keys, first, last);
+        give_all(&mut self.blocks, first, last, store);
+    }
+
     /// The block in a window; None where it holds none.
     pub fn get(&self, pid: u32, window: u32) -> Option<&Block>
         ensures { option_copied result ≡ held_at self.now.mappings pid window }
@@ -108,6 +132,34 @@ impl Held {
     {
         let place = index_of(&self.keys, Key { pid, window });
         self.blocks.get_mut(place)
+    }
+}
+
+/// Takes the keys from place `first` up to `last` out.
+fn remove_keys(keys: &mut Vec<Key>, first: usize, last: usize)
+    requires order { first ≤ last }
+    requires within { last ≤ length keys.old.items }
+    ensures left { keys.new.items ≡ remove_range keys.old.items first last }
+    ensures capacity { vec_capacity keys.new ≡ vec_capacity keys.old }
+{
+    drop(keys.drain(first..last));
+}
+
+/// Gives the blocks from place `first` up to `last` to the store, in this order.
+fn give_all(blocks: &mut Vec<Block>, first: usize, last: usize, store: &mut Store)
+    requires order { first ≤ last }
+    requires within { last ≤ length blocks.old.items }
+    requires room { last - first ≤ store.old.spare }
+    requires apart { AreApart (slice_range blocks.old.items first last) store.old.blocks }
+    ensures left { blocks.new.items ≡ remove_range blocks.old.items first last }
+    ensures capacity { vec_capacity blocks.new ≡ vec_capacity blocks.old }
+    ensures moved { store.new ≡ record {
+      blocks = with_blocks (slice_range blocks.old.items first last) store.old.blocks;
+      spare = store.old.spare - (last - first);
+    } }
+{
+    for block in blocks.drain(first..last) {
+        store.give(block);
     }
 }
 

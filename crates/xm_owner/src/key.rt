@@ -1,6 +1,8 @@
-ghost use Rattle.std.specs.Prelude.{◌≡◌, ◌≤◌, true, false, length};
+ghost use Rattle.std.specs.Prelude.{◌≡◌, ◌≤◌, true, false, nat_lt, List, length};
 ghost use Rattle.std.specs.List.{AllWithin, position_or_len};
 ghost use Rattle.xm_block.specs.Rising.{IsRising};
+ghost use Rattle.ce_model.specs.Blocks.{Block};
+ghost use Rattle.xm_owner.specs.Ranges.{Drained};
 ghost use Rattle.xm_owner.specs.Tables.{key_before, same_key};
 
 /// Where a block is mapped: a process, and a window of it.
@@ -56,4 +58,36 @@ pub(crate) fn index_of(keys: &Vec<Key>, key: Key) -> usize
     ensures { result ≡ position_or_len (same_key key) keys.now.items }
 {
     index_in(keys.as_slice(), key)
+}
+
+/// How many keys of a table in order are of processes below `limit`.
+fn count_in(keys: &[Key], limit: u64) -> usize
+    requires { IsRising key_before keys.now }
+    ensures within { result ≤ length keys.now }
+    ensures passed { AllWithin (λ other. nat_lt other.pid limit ≡ true) keys.now 0 result }
+    ensures ahead { AllWithin (λ other. nat_lt other.pid limit ≡ false) keys.now result (length keys.now) }
+{
+    keys.partition_point(|other| u64::from(other.pid) < limit)
+}
+
+/// How many keys of a table in order are of processes below `limit`.
+fn count_below(keys: &Vec<Key>, limit: u64) -> usize
+    requires { IsRising key_before keys.now.items }
+    ensures within { result ≤ length keys.now.items }
+    ensures passed { AllWithin (λ other. nat_lt other.pid limit ≡ true) keys.now.items 0 result }
+    ensures ahead { AllWithin (λ other. nat_lt other.pid limit ≡ false) keys.now.items result (length keys.now.items) }
+{
+    count_in(keys.as_slice(), limit)
+}
+
+/// The places from which and up to which the keys of a process stand in a table in order.
+pub(crate) fn range_of(keys: &Vec<Key>, pid: u32) -> (usize, usize)
+    requires { IsRising key_before keys.now.items }
+    ensures within { result.1 ≤ length keys.now.items }
+    ensures drained { (blocks : List Block) → length blocks ≡ length keys.now.items
+        → Drained pid keys.now.items blocks result.0 result.1 }
+{
+    let first = count_below(keys, pid as u64);
+    let last = count_below(keys, pid as u64 + 1);
+    (first, last)
 }

@@ -5,3 +5,6 @@ mod held;
 mod key;
 
 pub use held::Held;
+
+#[cfg(test)]
+mod tests;

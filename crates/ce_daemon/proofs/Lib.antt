@@ -1,0 +1,4 @@
+pub mod Counting
+pub mod Partition
+pub mod Rows
+pub mod Sound

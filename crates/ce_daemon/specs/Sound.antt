@@ -1,0 +1,17 @@
+-- What holds of a daemon's parts all the time.
+use Rattle.std.specs.Prelude.{◌≡◌, ℕ, ◌^◌, ◌<◌, ◌≤◌, List, Option, true, All, length, count_by}
+use Rattle.ce_model.specs.declared.topology.NodeSet.{NodeSet}
+use Rattle.ce_model.specs.Limits.{greatest_dim}
+use Rattle.ce_model.specs.Subcubes.{has_node, IsSubcube}
+use Rattle.ce_daemon.specs.declared.grant.Grant.{Grant}
+use Rattle.ce_daemon.specs.Boxes.{HasBox}
+use Rattle.ce_daemon.specs.Holding.{IsPartition, is_user}
+
+pub record IsSound {N : Type 0} (home : N → ℕ) (clean : N → Type 0) (dim : ℕ) (free : NodeSet) (held : List Grant) (places : List (Option N)) : Type 0 where
+  pub small : dim ≤ greatest_dim
+  pub within : free.0 < 2 ^ 2 ^ dim
+  pub partition : IsPartition dim held free
+  pub subcubes : All (λ grant. IsSubcube dim grant.dim grant.sub) held
+  pub single : (user : ℕ) → count_by (is_user user) held ≤ 1
+  pub all : length places ≡ 2 ^ dim
+  pub filled : (node : ℕ) → has_node free node ≡ true → HasBox home clean places node

@@ -1,0 +1,15 @@
+ghost use Rattle.std.specs.Prelude.{◌≡◌, ℕ};
+
+/// What the daemon hands out for a node: it has its home there. A proof may know that a box is clean, as it is when a
+/// new user gets it.
+pub trait Homed: Drop {
+    // the node that is its home
+    ghost home: { Self → ℕ };
+
+    // it is as new
+    ghost clean: { Self → Type 0 };
+
+    /// The number of the node that is its home.
+    fn home(&self) -> u32
+        ensures { result ≡ home self.now };
+}

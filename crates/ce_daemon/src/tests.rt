@@ -1,0 +1,121 @@
+ghost use Rattle.std.specs.Prelude.{◌≡◌, ◌≤◌, ◌^◌, [], IfOk};
+ghost use Rattle.ce_model.specs.Limits.{greatest_dim};
+ghost use Rattle.ce_daemon.specs.Boxes.{AreBoxes};
+
+use crate::{Daemon, Homed};
+use ce_model::{NoMemory, NodeSet, Subcube};
+use std::alloc::{AllocError, Global};
+use std::test::Fail;
+
+// A box that knows its home and is always clean.
+#[derive(Debug, Drop)]
+struct Plain {
+    node: u32,
+}
+
+impl Homed for Plain {
+    ghost use Rattle.std.specs.Prelude.{⊤};
+
+    ghost home = { λ one. one.node };
+
+    ghost clean = { λ _. ⊤ };
+
+    fn home(&self) -> u32 {
+        self.node
+    }
+}
+
+// The daemon of a machine of four nodes.
+#[tactic(auto, using(ce_model::specs::Limits::greatest_dim_lem))]
+fn four_nodes(alloc: Global) -> Result<Daemon<Plain>, NoMemory>
+    ensures { IfOk result (λ daemon. daemon ≡ record { dim = 2; count = 0; held = [] }) }
+{
+    Daemon::new(alloc, 2, boxes(alloc, 2)?)
+}
+
+// The daemon of the greatest machine.
+#[tactic(auto, using(ce_model::specs::Limits::greatest_dim_lem))]
+fn most_nodes(alloc: Global) -> Result<Daemon<Plain>, NoMemory>
+    ensures { IfOk result (λ daemon. daemon ≡ record { dim = 6; count = 0; held = [] }) }
+{
+    Daemon::new(alloc, 6, boxes(alloc, 6)?)
+}
+
+// The boxes of a machine.
+fn boxes(alloc: Global, dim: u32) -> Result<Vec<Plain>, AllocError>
+    requires { dim ≤ greatest_dim }
+    ensures { IfOk result (λ made. AreBoxes ⟦<Plain as Homed>⟧.home ⟦<Plain as Homed>⟧.clean
+        (2 ^ dim) (λ node. node) made.items) }
+{
+    let mut all = Vec::new(alloc);
+    for node in 0..1u32 << dim {
+        all.push(Plain { node })?;
+    }
+    Ok(all)
+}
+
+#[test]
+fn no_fit(rt: HostRuntime) -> Result<(), Fail> {
+    let alloc = rt.alloc();
+    let mut daemon = four_nodes(alloc)?;
+    let (a, of_a) = daemon.getcube(alloc, 0, 0)?.ok_or("no cube for a")?;
+    let (b, _) = daemon.getcube(alloc, 1, 0)?.ok_or("no cube for b")?;
+    let (c, _) = daemon.getcube(alloc, 2, 0)?.ok_or("no cube for c")?;
+    assert_eq!(rt; a.sub, Subcube { mask: 0, base: 0 });
+    assert_eq!(rt; b.sub, Subcube { mask: 0, base: 1 });
+    assert_eq!(rt; c.sub, Subcube { mask: 0, base: 2 });
+    daemon.freecube(0, of_a);
+    assert!(rt; daemon.getcube(alloc, 3, 1)?.is_none());
+    let shown = daemon.peek(alloc)?;
+    assert_eq!(rt; shown.free, 2);
+    assert_eq!(rt; shown.grants.as_slice(), [b, c].as_slice());
+    assert_eq!(rt; daemon.free(), NodeSet(9));
+    Ok(())
+}
+
+#[test]
+fn not_contiguous(rt: HostRuntime) -> Result<(), Fail> {
+    let alloc = rt.alloc();
+    let mut daemon = four_nodes(alloc)?;
+    let (a, _) = daemon.getcube(alloc, 0, 0)?.ok_or("no cube for a")?;
+    let (_, of_b) = daemon.getcube(alloc, 1, 0)?.ok_or("no cube for b")?;
+    let (c, _) = daemon.getcube(alloc, 2, 0)?.ok_or("no cube for c")?;
+    daemon.freecube(1, of_b);
+    let (d, of_d) = daemon.getcube(alloc, 3, 1)?.ok_or("no cube for d")?;
+    assert_eq!(rt; d.sub, Subcube { mask: 2, base: 1 });
+    assert_eq!(rt; d.number, 3);
+    let homes = of_d.iter().map(|one| one.node).collect::<Vec<u32>>(alloc)?;
+    assert_eq!(rt; homes.as_slice(), [1, 3].as_slice());
+    assert_eq!(rt; daemon.peek(alloc)?.grants.as_slice(), [a, c, d].as_slice());
+    assert_eq!(rt; daemon.grant_of(1), None);
+    assert_eq!(rt; daemon.grant_of(3), Some(d));
+    Ok(())
+}
+
+#[test]
+fn greatest_machine(rt: HostRuntime) -> Result<(), Fail> {
+    let alloc = rt.alloc();
+    let mut daemon = most_nodes(alloc)?;
+    assert_eq!(rt; daemon.free(), NodeSet(u64::MAX));
+    let (whole, of_whole) = daemon.getcube(alloc, 7, 6)?.ok_or("no cube")?;
+    assert_eq!(rt; whole.sub, Subcube { mask: 63, base: 0 });
+    assert_eq!(rt; of_whole.len(), 64);
+    assert_eq!(rt; daemon.peek(alloc)?.free, 0);
+    daemon.freecube(7, of_whole);
+    assert_eq!(rt; daemon.free(), NodeSet(u64::MAX));
+    Ok(())
+}
+
+// As many grants as a long run makes take a small part of a second.
+#[test]
+fn many_grants(rt: HostRuntime) -> Result<(), Fail> {
+    let alloc = rt.alloc();
+    let mut daemon = most_nodes(alloc)?;
+    for _ in 0..50_000u32 {
+        let (_, of_cube) = daemon.getcube(alloc, 0, 3)?.ok_or("no cube")?;
+        daemon.freecube(0, of_cube);
+    }
+    let (last, _) = daemon.getcube(alloc, 0, 6)?.ok_or("no cube")?;
+    assert_eq!(rt; last.number, 50_000);
+    Ok(())
+}

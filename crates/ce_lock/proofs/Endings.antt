@@ -1,0 +1,86 @@
+-- The first seats of a book, and what its last ones leave.
+use Rattle.std.proofs.Common.{◌≡◌, ℕ, ◌+◌, ◌<◌, List, [], ◌∷◌, ◌++◌, map, length, get_or, refl, sym, ap, ◌∙◌, subst, inl, inr, ⊎_elim, ◌⊎◌, lit<, Some, Option, arith, append_assoc}
+use Rattle.std.proofs.lemmas.List.{get_or_push, get_or_append_left}
+use mathlib.Core.Logic.{dite}
+use native.Mathlib.Decide.{ℕ_discrete}
+use Rattle.atomic_table.specs.Seated.{TableId}
+use Rattle.atomic_table.specs.Table.{Me}
+use Rattle.ce_model.specs.declared.topology.TheConstants.{HOST}
+use Rattle.ce_lock.specs.declared.who.Who.{Who}
+use Rattle.ce_lock.specs.declared.view.Last.{Last}
+use Rattle.ce_lock.specs.declared.view.View.{View}
+use Rattle.ce_lock.specs.Entries.{Every, IsIn, entries_of}
+use Rattle.ce_lock.specs.Meanings.{Meanings}
+use Rattle.ce_lock.specs.OneOrder.{IsLast}
+use Rattle.ce_lock.specs.Telling.{fresh_head, last_of}
+use Rattle.ce_lock.specs.Sitting.{BookFacts, Sitting, IsOf, IsNewHead, IsHeadIn, IsWhole, IsSound, who}
+use Rattle.ce_lock.proofs.Histories.{every_back}
+
+module _ {O E F : Type 0} (m : Meanings O E F) where
+  -- a new head is sound
+  pub sound_head : ((f : F) → m.lawful f []) → (n : ℕ) (o : O) (heads : ℕ) (me : Me O (View O E)) → me ≡ (fresh_head o n heads, []) → IsSound m (record { family = n; actor = HOST }) me
+  sound_head empty n o heads me is = subst (IsSound m (record { family = n; actor = HOST })) (sym is) record {
+    opening = o;
+    opening_is = refl;
+    place = refl;
+    hand = refl;
+    who_is = refl;
+    live = refl;
+    draws = refl;
+    olds = refl;
+    lasts = refl;
+    lawful = empty (m.fixed o);
+    short = lit< tt;
+    own = refl;
+    fresh = λ _. refl;
+  }
+
+  -- the heads that were joined away, as their seats
+  pub wholes : (book : BookFacts O) (h : List E) (ss : List (Sitting O E)) → Every (IsHeadIn m book) ss → Every (IsLast m h) (map (λ (s : Sitting O E). last_of s.1) ss) → Every (IsWhole m h) ss
+  wholes book h [] heads lasts = tt
+  wholes book h (s ∷ ss) heads lasts = (
+    record {
+      missed = lasts.0.missed;
+      whole = lasts.0.whole;
+      own = ap (λ (a : ℕ). entries_of m.whose (record { family = s.1.right.family; actor = a }) h) heads.0.host ∙ lasts.0.own;
+      others = lasts.0.others;
+    },
+    wholes book h ss heads.1 lasts.1,
+  )
+
+-- the families of the heads that were joined away
+pub covers : {O E : Type 0} (f : ℕ) (ss : List (Sitting O E)) → IsIn f (map (λ (s : Sitting O E). (who s).family) ss) → IsIn f (map (λ (l : Last E). l.family) (map (λ (s : Sitting O E). last_of s.1) ss))
+covers f [] h = h
+covers f (s ∷ ss) h = ⊎_elim (λ (t : f ≡ (who s).family). inl t) (λ (t : IsIn f (map (λ (x : Sitting _ _). (who x).family) ss)). inr (covers f ss t)) h
+
+module _ {O E F : Type 0} (m : Meanings O E F) (book : BookFacts O) where
+  -- the seat of a new head is that of its family
+  pub new_head : (n heads : ℕ) (z : TableId) (v : View O E) → z ≡ book.table → v ≡ fresh_head book.opening n heads → IsNewHead m book n (z, v)
+  new_head n heads z v table is = subst (λ (x : View O E). IsNewHead m book n (z, x)) (sym is) record {
+    of_book = λ k. (table k, Some book.opening);
+    actor = refl;
+    nothing_seen = refl;
+    nothing_earlier = refl;
+    nothing_made = refl;
+    nobody_out = refl;
+  }
+
+  -- one more head is added
+  pub heads_grow : (items : List (Sitting O E)) (n : ℕ) (s : Sitting O E) → length items ≡ n → ((k : ℕ) (d : Sitting O E) → k < n → IsNewHead m book k (get_or items k d)) → IsNewHead m book n s
+      → (k : ℕ) (d : Sitting O E) → k < n + 1 → IsNewHead m book k (get_or (items ++ s ∷ []) k d)
+  heads_grow items n s count all mine k d low = dite (ℕ_discrete k n)
+      (λ is. subst (λ (x : ℕ × Sitting O E). IsNewHead m book x.0 x.1) (λ j. (sym is j, sym (ap (λ (i : ℕ). get_or (items ++ s ∷ []) i d) is ∙ get_or_push items s d n count) j)) mine)
+      (λ ne. let below : k < length items = omega arith in subst (IsNewHead m book k) (sym (get_or_append_left items (s ∷ []) d k below)) (all k d (omega arith)))
+
+  -- what holds of all heads holds of one among them
+  pub one_of : (front : List (Sitting O E)) (s : Sitting O E) (closed all : List (Sitting O E)) → front ++ s ∷ closed ≡ all → Every (IsHeadIn m book) all → IsHeadIn m book s
+  one_of front s closed all is heads = (every_back (IsHeadIn m book) front (s ∷ closed) (subst (Every (IsHeadIn m book)) (sym is) heads)).0
+
+module _ {O E : Type 0} where
+  -- a seat of a book is of its table
+  pub table_of : (book : BookFacts O) (s : Sitting O E) → IsOf book s → s.0 ≡ book.table
+  table_of book s is = ap (λ (x : TableId × Option O). x.0) is
+
+  -- heads are taken from the end of a list
+  pub next_closed : (front : List (Sitting O E)) (s : Sitting O E) (closed all items : List (Sitting O E)) → items ++ closed ≡ all → items ≡ front ++ s ∷ [] → front ++ s ∷ closed ≡ all
+  next_closed front s closed all items whole is = sym (append_assoc front (s ∷ []) closed) ∙ (ap (λ (l : List (Sitting O E)). l ++ closed) (sym is) ∙ whole)

@@ -1,0 +1,9 @@
+pub mod Seats
+pub mod Tickets
+pub mod Fair
+pub mod Histories
+pub mod Pigeons
+pub mod Moves
+pub mod Comings
+pub mod Turns
+pub mod Endings

@@ -1,0 +1,11 @@
+use Rattle.std.proofs.Common.{◌≡◌, ap, ◌∙◌, Some}
+use Rattle.ce_lock.proofs.Turns.{sound_turn, turn_opening, known_of}
+use Rattle.ce_lock.proofs.book.Book.call.Goals as goal
+
+pub invariant_of-seat : goal.invariant_of-seat
+invariant_of-seat g c = sound_turn _ g.O.Kept.stands c.take_turn.result _ _ _ c.args.call c.seat.invariant c.take_turn.ensures.turn c.take_turn.ensures.hand
+
+pub returns-clause-known : goal.returns-clause-known
+returns-clause-known g c = let K = g.O.Kept in
+    known_of _ _ c.take_turn.new.chair.me c.args.self.now.opening _ (sound_turn _ K.stands c.take_turn.result _ _ _ c.args.call c.seat.invariant c.take_turn.ensures.turn c.take_turn.ensures.hand)
+    (turn_opening _ K.stands c.take_turn.result _ _ c.args.call c.take_turn.ensures.turn ∙ (ap (λ s. s.1.page.opening) c.seat.view_is ∙ ap (λ n. n.1) c.requires.of_book))

@@ -1,0 +1,15 @@
+use Rattle.std.proofs.Common.{◌≡◌, ℕ, ◌+◌, ◌<◌, ◌≤◌, [], length, get_or, vec_capacity, vec_len}
+use Rattle.ce_lock.specs.Meanings.{meanings}
+use Rattle.ce_lock.specs.Telling.{fresh_head}
+use Rattle.ce_lock.specs.Sitting.{Sitting, IsNewHead}
+use Rattle.ce_lock.proofs.book.Book.seat_heads.Given as goal
+
+abbrev pub invariant-loop-family : goal.invariant-loop-family
+invariant-loop-family g l = record {
+  chair : l.maker.table_id ≡ l.self.table;
+  view : l.maker.me ≡ (fresh_head l.self.opening l.family (l.family + 1), []);
+  count : length l.heads.items ≡ l.family;
+  len : vec_len l.heads ≡ l.family;
+  room : l.fn.families ≤ vec_capacity l.heads;
+  heads : (k : ℕ) (d : Sitting g.row.O.Denot g.row.O-Entry.Denot) → k < l.family → IsNewHead (meanings g.O.Kept.fixed g.O.Kept.history g.O.Kept.lawful g.O.Kept.whose g.O.Kept.alone_entry) l.self k (get_or l.heads.items k d);
+}

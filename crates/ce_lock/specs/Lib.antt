@@ -1,0 +1,5 @@
+pub mod Entries
+pub mod Meanings
+pub mod OneOrder
+pub mod Telling
+pub mod Sitting

@@ -1,0 +1,134 @@
+-- Books and seats as their callers see them.
+use Rattle.std.specs.Prelude.{◌≡◌, ◌≢◌, ◌⊎◌, ℕ, ◌+◌, ◌^◌, ◌%◌, ◌<◌, true, false, List, [], ◌∷◌, ◌++◌, map, length, Option, Some, Result, MatchResult, slice_index_or}
+use Rattle.atomic_table.specs.Table.{Me}
+use Rattle.atomic_table.specs.Seated.{TableId}
+use Rattle.atomic_table.specs.declared.shared.Seat.{Seat}
+use Rattle.ce_model.specs.declared.topology.TheConstants.{HOST}
+use Rattle.ce_lock.specs.declared.who.Who.{Who}
+use Rattle.ce_lock.specs.declared.view.View.{View}
+use Rattle.ce_lock.specs.Entries.{IsPrefix, Every, IsIn, entries_of, IsForeign}
+use Rattle.ce_lock.specs.Meanings.{Meanings}
+use Rattle.ce_lock.specs.OneOrder.{who_of}
+use Rattle.ce_lock.specs.Telling.{nowhere, waiting, called, moved, reading, wrote}
+
+-- a book: which table it is, the object that it was made of, and how many families it has
+pub record BookFacts (O : Type 0) : Type 0 where
+  pub table : TableId
+  pub opening : O
+  pub families : ℕ
+
+-- a seat: of which table, and what it knows
+abbrev pub Sitting : Type 0 → Type 0 → Type 0
+Sitting O E = TableId × View O E
+
+-- the table has three words and one slot
+abbrev pub IsSized : TableId → Type 0
+IsSized z = (z.words ≡ 3) × (z.slots ≡ 1)
+
+module _ {O E : Type 0} where
+  -- whom the seat acts for
+  abbrev pub who : Sitting O E → Who
+  who s = who_of s.1.right
+
+  -- the front part of the history that it has seen
+  abbrev pub seen : Sitting O E → List E
+  seen s = s.1.page.seen
+
+  -- the entries of its actor from before it was made
+  abbrev pub earlier : Sitting O E → List E
+  earlier s = s.1.page.earlier
+
+  -- its own entries since then
+  abbrev pub mine : Sitting O E → List E
+  mine s = s.1.page.mine
+
+  -- of a head: the actors of its family whose seats are out
+  abbrev pub out : Sitting O E → List ℕ
+  out s = s.1.right.away
+
+  -- which book the seat is of
+  abbrev pub name_of : Sitting O E → TableId × Option O
+  name_of s = (s.0, s.1.page.opening)
+
+  -- the seat is one of this book
+  abbrev pub IsOf : BookFacts O → Sitting O E → Type 0
+  IsOf book s = name_of s ≡ (book.table, Some book.opening)
+
+  -- the seat is still of its book and its actor, and was made when it was
+  pub record IsSameSeat (before after : Sitting O E) : Type 0 where
+    pub name : name_of after ≡ name_of before
+    pub actor : who after ≡ who before
+    pub since : earlier after ≡ earlier before
+
+  -- the raw seat stays one of its table
+  abbrev pub IsSameChair : Seat O (View O E) → Seat O (View O E) → Type 0
+  IsSameChair a b = (b.table_id ≡ a.table_id) × (b.id ≡ a.id)
+
+module _ {O E F : Type 0} (m : Meanings O E F) where
+  -- What a seat has seen is a lawful history of fewer than 2^63 entries. Its actor's entries in it are the
+  -- earlier ones and its own, each once, in its order.
+  pub record IsKnown (opening : O) (s : Sitting O E) : Type 0 where
+    pub lawful : m.lawful (m.fixed opening) (seen s)
+    pub short : length (seen s) < 2 ^ 63
+    pub own : entries_of m.whose (who s) (seen s) ≡ earlier s ++ mine s
+
+  -- The head of family `number` of a fresh book.
+  pub record IsNewHead (book : BookFacts O) (number : ℕ) (s : Sitting O E) : Type 0 where
+    pub of_book : IsOf book s
+    pub actor : who s ≡ record { family = number; actor = HOST }
+    pub nothing_seen : seen s ≡ []
+    pub nothing_earlier : earlier s ≡ []
+    pub nothing_made : mine s ≡ []
+    pub nobody_out : out s ≡ []
+
+  -- A head of the book that has nobody out.
+  pub record IsHeadIn (book : BookFacts O) (s : Sitting O E) : Type 0 where
+    pub of_book : IsOf book s
+    pub host : (who s).actor ≡ HOST
+    pub nobody_out : out s ≡ []
+
+  -- The history begins with what the seat has seen. Its actor's entries there are the seat's own, and all
+  -- entries of its family there are among those seen.
+  pub record IsWhole (history : List E) (s : Sitting O E) : Type 0 where
+    pub missed : List E
+    pub whole : seen s ++ missed ≡ history
+    pub own : entries_of m.whose (who s) history ≡ mine s
+    pub others : Every (λ e. (m.whose e).family ≢ (who s).family) missed
+
+  -- What holds of a seat that no call is using.
+  pub record IsSound (actor : Who) (me : Me O (View O E)) : Type 0 where
+    pub opening : O
+    pub opening_is : me.0.page.opening ≡ Some opening
+    pub place : me.0.place ≡ nowhere
+    pub hand : me.1 ≡ []
+    pub who_is : who_of me.0.right ≡ actor
+    pub live : me.0.right.spent ≡ false
+    pub draws : me.0.right.draws ≡ true
+    pub olds : me.0.page.olds ≡ []
+    pub lasts : me.0.page.lasts ≡ []
+    pub lawful : m.lawful (m.fixed opening) me.0.page.seen
+    pub short : length me.0.page.seen < 2 ^ 63
+    pub own : entries_of m.whose (who_of me.0.right) me.0.page.seen ≡ me.0.page.earlier ++ me.0.page.mine
+    pub fresh : me.0.right.actor ≡ HOST → me.0.page.earlier ≡ []
+
+  module _ {C R X : Type 0} (stands : F → List E → E → Who → C → R → Type 0) where
+    -- what one answer makes of the object
+    pub record IsAnswer (y z : O) (actor : Who) (call : C) (result : Result R (C × X)) : Type 0 where
+      pub fixed : m.fixed z ≡ m.fixed y
+      pub answered : MatchResult result
+          (λ reply. (entry : E) × (m.history z ≡ m.history y ++ entry ∷ []) × stands (m.fixed y) (m.history y) entry actor call reply
+          × (m.lawful (m.fixed y) (m.history y) → m.lawful (m.fixed y) (m.history z)) × (length (m.history z) < 2 ^ 63))
+          (λ back. (z ≡ y) × (back.0 ≡ call))
+
+    -- what a turn makes of the view: it has seen all before its entry, and made that, or none
+    pub record IsTurn (before after : View O E) (call : C) (result : Result R (C × X)) : Type 0 where
+      pub opening : O
+      pub missed : List E
+      pub opening_is : before.page.opening ≡ Some opening
+      pub foreign : Every (IsForeign m.whose m.alone (who_of before.right)) missed
+      pub lawful : m.lawful (m.fixed opening) after.page.seen
+      pub short : length after.page.seen < 2 ^ 63
+      pub answered : MatchResult result
+          (λ reply. (entry : E) × (after ≡ wrote (reading before (before.page.seen ++ missed)) entry) × (m.whose entry ≡ who_of before.right)
+          × stands (m.fixed opening) (before.page.seen ++ missed) entry (who_of before.right) call reply)
+          (λ back. (after ≡ reading before (before.page.seen ++ missed)) × (back.0 ≡ call))

@@ -1,0 +1,185 @@
+-- What each kind of step tells the seat that makes it, and how a view is cut in two and two are joined.
+use Rattle.std.specs.Prelude.{◌≡◌, ◌≢◌, ℕ, ◌+◌, ◌%◌, ◌^◌, ◌<◌, ◌≤◌, true, false, List, [], ◌∷◌, ◌++◌, length, Some, None}
+use Rattle.atomic_table.specs.Table.{Me, Step, rest}
+use Rattle.ce_model.specs.declared.topology.TheConstants.{HOST}
+use Rattle.ce_lock.specs.declared.view.Place.{Place}
+use Rattle.ce_lock.specs.declared.view.Right.{Right}
+use Rattle.ce_lock.specs.declared.view.Last.{Last}
+use Rattle.ce_lock.specs.declared.view.Page.{Page}
+use Rattle.ce_lock.specs.declared.view.View.{View}
+use Rattle.ce_lock.specs.declared.who.Who.{Who}
+use Rattle.ce_lock.specs.Entries.{IsPrefix, longer, Every, without, entries_of, IsForeign}
+use Rattle.ce_lock.specs.Meanings.{Meanings}
+use Rattle.ce_lock.specs.OneOrder.{who_of, IsLast}
+
+-- the places: with no ticket, waiting, at its turn, and with the object out
+abbrev pub nowhere : Place
+nowhere = record { drawn = false; turn = false; out = false; ticket = 0 }
+
+abbrev pub waiting : ℕ → Place
+waiting t = record { drawn = true; turn = false; out = false; ticket = t }
+
+abbrev pub called : ℕ → Place
+called t = record { drawn = true; turn = true; out = false; ticket = t }
+
+abbrev pub holding : ℕ → Place
+holding t = record { drawn = true; turn = true; out = true; ticket = t }
+
+-- the right of who acts for nobody
+abbrev pub nobody : Right
+nobody = record { spent = false; draws = false; family = 0; actor = 0; heads = 0; away = [] }
+
+module _ {O E : Type 0} where
+  -- the view at another place
+  abbrev pub moved : View O E → Place → View O E
+  moved v p = record v { place = p }
+
+  -- the view, which has seen the list
+  abbrev pub reading : View O E → List E → View O E
+  reading v seen = record v { page = record v.page { seen = seen } }
+
+  -- the view after it has made an entry
+  abbrev pub wrote : View O E → E → View O E
+  wrote v e = record v { page = record v.page { seen = v.page.seen ++ e ∷ []; mine = v.page.mine ++ e ∷ [] } }
+
+  -- the view after the look that follows a join
+  abbrev pub settled : View O E → View O E
+  settled v = record v { page = record v.page { olds = [] } }
+
+  -- what was seen, as a page with no entries of its own
+  abbrev pub page_of : View O E → List E → Page O E
+  page_of v earlier = record { opening = v.page.opening; seen = v.page.seen; earlier = earlier; mine = []; olds = []; lasts = [] }
+
+  -- a copy of what a view has seen, which may not draw
+  abbrev pub copy : View O E → View O E
+  copy v = record { place = nowhere; right = nobody; page = page_of v [] }
+
+  -- the view of the maker of heads, after it has made one more, which makes the next
+  abbrev pub making : View O E → View O E
+  making v = record v { right = record v.right { heads = 0 } }
+
+  -- the view of the next head
+  abbrev pub next_head : View O E → View O E
+  next_head v = record {
+    place = nowhere;
+    right = record { spent = false; draws = true; family = v.right.heads; actor = HOST; heads = v.right.heads + 1; away = [] };
+    page = page_of v [];
+  }
+
+  -- the view of a head, with one actor more out
+  abbrev pub sending : ℕ → View O E → View O E
+  sending a v = record v { right = record v.right { away = a ∷ v.right.away } }
+
+  -- the view of the actor that is sent out
+  abbrev pub sent : (E → Who) → ℕ → View O E → View O E
+  sent whose a v = record {
+    place = nowhere;
+    right = record { spent = false; draws = true; family = v.right.family; actor = a; heads = 0; away = [] };
+    page = page_of v (entries_of whose (record { family = v.right.family; actor = a }) v.page.seen);
+  }
+
+  -- the view after it has met another
+  abbrev pub met : View O E → View O E → View O E
+  met v w = record v {
+    page = record v.page {
+      seen = longer v.page.seen w.page.seen;
+      olds = v.page.seen ∷ w.page.seen ∷ v.page.olds;
+    };
+  }
+
+  -- the view of a head after it has taken an actor back
+  abbrev pub taking : View O E → View O E → View O E
+  taking v w = record (met v w) { right = record v.right { away = without w.right.actor v.right.away } }
+
+  -- what is kept of a head that is joined away
+  abbrev pub last_of : View O E → Last E
+  last_of w = record { family = w.right.family; mine = w.page.mine; seen = w.page.seen }
+
+  -- the view after it has joined a head away
+  abbrev pub closing : View O E → View O E → View O E
+  closing v w = record v {
+    page = record v.page {
+      seen = longer v.page.seen w.page.seen;
+      olds = v.page.seen ∷ w.page.seen ∷ v.page.olds;
+      lasts = last_of w ∷ v.page.lasts;
+    };
+  }
+
+  -- what is left of a seat that was joined into another
+  abbrev pub spent : View O E
+  spent = record {
+    place = nowhere;
+    right = record { spent = true; draws = false; family = 0; actor = 0; heads = 0; away = [] };
+    page = record { opening = None; seen = []; earlier = []; mine = []; olds = []; lasts = [] };
+  }
+
+  -- The view of the head of family n, which has seen nothing yet. It makes the next head where `heads` is
+  -- n + 1, and none where `heads` is 0.
+  abbrev pub fresh_head : O → ℕ → ℕ → View O E
+  fresh_head o n heads = record {
+    place = nowhere;
+    right = record { spent = false; draws = true; family = n; actor = HOST; heads = heads; away = [] };
+    page = record { opening = Some o; seen = []; earlier = []; mine = []; olds = []; lasts = [] };
+  }
+
+  -- the view of the first head
+  abbrev pub first_view : O → View O E
+  first_view o = fresh_head o 0 1
+
+  -- draw: the caller's view holds the ticket that it drew
+  pub record Drew (me : Me O (View O E)) (found : ℕ) (after : Me O (View O E)) : Type 0 where
+    pub ticket : ℕ
+    pub found_is : ticket % 2 ^ 64 ≡ found
+    pub after_is : after ≡ (moved me.0 (waiting ticket), me.1)
+
+  -- look: it is the view's turn where the word equals its ticket
+  pub record Looked (me : Me O (View O E)) (found : ℕ) (after : Me O (View O E)) : Type 0 where
+    pub yes : (t : ℕ) → me.0.place ≡ waiting t → found ≡ t % 2 ^ 64 → after ≡ (moved me.0 (called t), me.1)
+    pub no : (t : ℕ) → me.0.place ≡ waiting t → found ≢ t % 2 ^ 64 → after ≡ me
+
+  -- give: the object is home
+  abbrev pub Gave : Me O (View O E) → Me O (View O E) → Type 0
+  Gave me after = (t : ℕ) → me.0.place ≡ holding t → after ≡ (moved me.0 (called t), rest me.1)
+
+  -- leave: the view holds no ticket
+  abbrev pub Left : Me O (View O E) → Me O (View O E) → Type 0
+  Left me after = after ≡ (moved me.0 nowhere, me.1)
+
+module _ {O E F : Type 0} (m : Meanings O E F) where
+  -- take: the view has seen the whole history, and has the object, which has just this history
+  pub record Took (me : Me O (View O E)) (after : Me O (View O E)) : Type 0 where
+    pub opening : O
+    pub object : O
+    pub missed : List E
+    pub opening_is : me.0.page.opening ≡ Some opening
+    pub fixed : m.fixed object ≡ m.fixed opening
+    pub history : m.history object ≡ me.0.page.seen ++ missed
+    pub lawful : m.lawful (m.fixed opening) (me.0.page.seen ++ missed)
+    pub short : length (me.0.page.seen ++ missed) < 2 ^ 63
+    pub foreign : Every (IsForeign m.whose m.alone (who_of me.0.right)) missed
+    pub after_is : (t : ℕ) → me.0.place ≡ called t
+        → after ≡ (moved (reading me.0 (me.0.page.seen ++ missed)) (holding t), (0, object) ∷ me.1)
+
+  -- commit: the view gains the entry that the object gained
+  abbrev pub Committed : Me O (View O E) → Me O (View O E) → Type 0
+  Committed me after = (y : O) (e : E) → me.1 ≡ (0, y) ∷ [] → m.history y ≡ me.0.page.seen ++ e ∷ []
+      → after ≡ (wrote me.0 e, me.1)
+
+  -- look, after a join: all that was kept is a prefix of what the view has seen
+  pub record Settled (me : Me O (View O E)) (after : Me O (View O E)) : Type 0 where
+    pub opening : O
+    pub opening_is : me.0.page.opening ≡ Some opening
+    pub after_is : after ≡ (settled me.0, me.1)
+    pub lawful : m.lawful (m.fixed opening) me.0.page.seen
+    pub short : length me.0.page.seen < 2 ^ 63
+    pub own : me.0.right.draws ≡ true
+        → entries_of m.whose (who_of me.0.right) me.0.page.seen ≡ me.0.page.earlier ++ me.0.page.mine
+    pub longest : Every (λ old. length old ≤ length me.0.page.seen → IsPrefix old me.0.page.seen) me.0.page.olds
+
+  -- What is left when all heads were joined away: the object has the fixed data of the opening one, and its
+  -- history is lawful, and is what each head saw and made.
+  pub record IsLeft (opening : O) (lasts : List (Last E)) (y : O) : Type 0 where
+    pub fixed : m.fixed y ≡ m.fixed opening
+    pub lawful : m.lawful (m.fixed opening) (m.history y)
+    pub short : length (m.history y) < 2 ^ 63
+    pub each : Every (IsLast m (m.history y)) lasts

@@ -1,0 +1,48 @@
+//! The table that the seats of a book share.
+//! Word 0 is the next ticket, word 1 the ticket that is served, word 2 the number of entries, all modulo
+//! 2^64. The one slot holds the object.
+use crate::kept::Kept;
+use crate::view::View;
+use atomic_table::{Seat, Shared, Table, TableRule};
+use std::alloc::Global;
+use std::marker::PhantomData;
+use std::snapshot::Snapshot;
+
+/// What a book is told once.
+pub struct About<O> {
+    /// The object that it is made of.
+    pub opening: Snapshot<O>,
+    /// How many families there are.
+    pub families: u32,
+}
+
+impl<O> Drop for About<O> {
+    fn drop(self) {
+        let About {
+            opening,
+            families: _,
+        } = self;
+        drop(opening);
+    }
+}
+
+/// The rule of the table: calls have one order.
+pub struct InOneOrder<O> {
+    object: PhantomData<O>,
+}
+
+impl<O: Kept> TableRule<O, View<O, O::Entry>, About<O>> for InOneOrder<O> {
+    ghost use Rattle.ce_lock.specs.Meanings.{meanings};
+    ghost use Rattle.ce_lock.specs.OneOrder.{IsInOrder};
+    ghost use Rattle.ce_lock.specs.Telling.{first_view};
+
+    ghost holds = { λ about. IsInOrder (meanings O.fixed O.history O.lawful O.whose O.alone_entry) about.opening.value about.families };
+
+    ghost first = { λ about. first_view about.opening.value };
+}
+
+pub type Board<O> = Shared<O, View<O, <O as Kept>::Entry>, About<O>, InOneOrder<O>>;
+
+pub type Holding<O> = Table<O, View<O, <O as Kept>::Entry>, About<O>, InOneOrder<O>, Global>;
+
+pub type Chair<O> = Seat<O, View<O, <O as Kept>::Entry>>;

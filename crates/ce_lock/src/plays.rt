@@ -1,0 +1,123 @@
+//! What each kind of step tells, and how views are cut in two and joined.
+ghost use Rattle.std.specs.Prelude.{ℕ};
+ghost use Rattle.ce_lock.specs.Meanings.{meanings};
+ghost use Rattle.ce_lock.specs.Telling.{Drew, Looked, Took, Committed, Gave, Left, Settled, copy, making, next_head, sending, sent, met, taking, closing, spent};
+
+use crate::kept::Kept;
+use crate::view::View;
+use atomic_table::{Join, Play, Split};
+use std::marker::{Brand, PhantomData};
+
+/// The caller draws a ticket.
+pub struct Draw;
+
+/// The caller looks which ticket is served.
+pub struct Look;
+
+/// The caller takes the object out.
+pub struct Take;
+
+/// The caller's entry is counted.
+pub struct Commit;
+
+/// The caller puts the object back.
+pub struct Give;
+
+/// The caller leaves its turn.
+pub struct Leave;
+
+/// The caller looks how long the history is, after a seat was joined into its own.
+pub struct Settle;
+
+impl<O: Kept> Play<O, View<O, O::Entry>> for Draw {
+    ghost then = { λ _ me found after. Drew me found after };
+}
+
+impl<O: Kept> Play<O, View<O, O::Entry>> for Look {
+    ghost then = { λ _ me found after. Looked me found after };
+}
+
+impl<O: Kept> Play<O, View<O, O::Entry>> for Take {
+    ghost then = { λ _ me _ after. Took (meanings O.fixed O.history O.lawful O.whose O.alone_entry) me after };
+}
+
+impl<O: Kept> Play<O, View<O, O::Entry>> for Commit {
+    ghost then = { λ _ me _ after. Committed (meanings O.fixed O.history O.lawful O.whose O.alone_entry) me after };
+}
+
+impl<O: Kept> Play<O, View<O, O::Entry>> for Give {
+    ghost then = { λ _ me _ after. Gave me after };
+}
+
+impl<O: Kept> Play<O, View<O, O::Entry>> for Leave {
+    ghost then = { λ _ me _ after. Left me after };
+}
+
+impl<O: Kept> Play<O, View<O, O::Entry>> for Settle {
+    ghost then = { λ _ me _ after. Settled (meanings O.fixed O.history O.lawful O.whose O.alone_entry) me after };
+}
+
+/// A copy of what a seat has seen comes.
+pub struct Copying;
+
+/// The head of the next family comes.
+pub struct NextHead;
+
+/// A head's actor comes.
+pub struct Sending<N> {
+    actor: PhantomData<N>,
+}
+
+/// The actor that a head sends out. A proof picks it.
+pub trait Named {
+    ghost actor: { ℕ };
+}
+
+impl Named for Brand {
+    ghost actor = { 0 };
+}
+
+impl<O: Kept> Split<View<O, O::Entry>> for Copying {
+    ghost left = { λ v. v };
+
+    ghost right = { λ v. copy v };
+}
+
+impl<O: Kept> Split<View<O, O::Entry>> for NextHead {
+    ghost left = { λ v. making v };
+
+    ghost right = { λ v. next_head v };
+}
+
+impl<O: Kept, N: Named> Split<View<O, O::Entry>> for Sending<N> {
+    ghost left = { λ v. sending N.actor v };
+
+    ghost right = { λ v. sent O.whose N.actor v };
+}
+
+/// A copy goes into a seat.
+pub struct Meeting;
+
+/// An actor's seat goes into its head's.
+pub struct TakingBack;
+
+/// A head goes into the copy that closes the book.
+pub struct Closing;
+
+impl<O: Kept> Join<View<O, O::Entry>> for Meeting {
+    ghost both = { λ v w. met v w };
+
+    ghost spent = { spent };
+}
+
+impl<O: Kept> Join<View<O, O::Entry>> for TakingBack {
+    ghost both = { λ v w. taking v w };
+
+    ghost spent = { spent };
+}
+
+impl<O: Kept> Join<View<O, O::Entry>> for Closing {
+    ghost both = { λ v w. closing v w };
+
+    ghost spent = { spent };
+}

@@ -1,0 +1,77 @@
+-- The worked row in which messages wait for a process that is started later, and come back in order.
+use Rattle.std.proofs.Common.{◌≡◌, ℕ, List, [], ◌∷◌, Some, None, true, codes, refl}
+use Rattle.std.specs.Fmt.{digits}
+use Rattle.rv_model.specs.Image.{ImageParts}
+use Rattle.hex.specs.Hex.{encode_with}
+use Rattle.ce_model.specs.declared.topology.TheConstants.{HOST}
+use Rattle.ce_model.specs.declared.entry.What.{What}
+use Rattle.ce_model.specs.declared.entry.What.TheVariants.{Getcube as GetcubeMade, Arm, Look, HostTake, Send as SendMade, Spawn as SpawnMade, Take}
+use Rattle.ce_model.specs.declared.entry.Found.TheVariants.{Quiet as FoundQuiet}
+use Rattle.ce_model.specs.declared.entry.Given.TheVariants.{Start, Mail, Idle}
+use Rattle.ce_model.specs.Limits.{host_home, greatest_dim}
+use Rattle.ce_model.specs.Subcubes.{extract, relative}
+use Rattle.ce_model.specs.Views.{view}
+use Rattle.ce_host.specs.declared.command.Command.{Command}
+use Rattle.ce_host.specs.declared.answer.Answer.{Answer}
+use Rattle.ce_host.specs.declared.command.Command.TheVariants.{Getcube, Send, Spawn, Recv}
+use Rattle.ce_host.specs.declared.answer.Answer.TheVariants.{None as NoneFree, Granted, Ok as Done, Message}
+use Rattle.ce_script.specs.declared.record.Record.{Record}
+use Rattle.ce_script.specs.declared.script.Script.{Script}
+use Rattle.ce_script.specs.Texts.{report}
+use Rattle.ce_script.proofs.Rows.{lines, by, place, block, subcube}
+
+abbrev pub first_bytes : List ℕ
+first_bytes = 0xAA ∷ []
+
+abbrev pub second_bytes : List ℕ
+second_bytes = 0xBB ∷ []
+
+abbrev pub the_script : ImageParts → Script
+the_script image = record {
+  dim = Some 0;
+  images = record { name = codes "echo"; image = image } ∷ [];
+  users = codes "alice" ∷ [];
+  commands = (0, Getcube 0) ∷ (0, Send (place 0 0) first_bytes) ∷ (0, Send (place 0 0) second_bytes) ∷ (0, Spawn 0 (place 0 0)) ∷ (0, Recv 100)
+      ∷ (0, Recv 100) ∷ (0, Recv 100) ∷ [];
+}
+
+-- the host sends its block of this index, and the process sends it back
+abbrev pub sent : ℕ → List ℕ → ℕ → What
+sent index bytes first = SendMade 0 first ((place 0 0, block 256 index) ∷ []) bytes
+
+abbrev pub sent_back : ℕ → List ℕ → ℕ → What
+sent_back index bytes first = SendMade 0 first ((place HOST 0, block 256 index) ∷ []) bytes
+
+abbrev pub alice_done : List (Command × Answer)
+alice_done =
+    (Getcube 0, Granted (subcube 0 0)) ∷ (Send (place 0 0) first_bytes, Done) ∷ (Send (place 0 0) second_bytes, Done) ∷ (Spawn 0 (place 0 0), Done)
+    ∷ (Recv 100, Message (place 0 0) first_bytes) ∷ (Recv 100, Message (place 0 0) second_bytes) ∷ (Recv 100, NoneFree) ∷ []
+
+abbrev pub the_record : Record
+the_record = record {
+  users = record { name = codes "alice"; done = alice_done } ∷ [];
+  history = by 0 HOST (GetcubeMade 0 (Some (subcube 0 0))) ∷ by 0 HOST (sent 0 first_bytes 0) ∷ by 0 HOST (sent 1 second_bytes 1)
+      ∷ by 0 HOST (SpawnMade 0 0 (place 0 0) true)
+      ∷ by 0 HOST (Arm 100) ∷ by 0 HOST (HostTake None) ∷ by 0 0 (Take 0 0 None (Start 0 0)) ∷ by 0 HOST (HostTake None)
+      ∷ by 0 0 (Take 1 0 None (Mail 0 0)) ∷ by 0 0 (sent_back 0 first_bytes 2) ∷ by 0 HOST (HostTake (Some 2))
+      ∷ by 0 HOST (Arm 100) ∷ by 0 HOST (HostTake None) ∷ by 0 0 (Take 1 0 None (Mail 0 1)) ∷ by 0 0 (sent_back 1 second_bytes 3)
+      ∷ by 0 HOST (HostTake (Some 3))
+      ∷ by 0 HOST (Arm 100) ∷ by 0 HOST (HostTake None) ∷ by 0 0 (Take 1 0 None Idle) ∷ by 0 HOST (HostTake None)
+      ∷ by 0 HOST (Look FoundQuiet) ∷ [];
+}
+
+abbrev pub the_report : List ℕ
+the_report = lines (
+    codes "machine 0" ∷ codes "user alice" ∷ codes "getcube 0" ∷ codes "= granted mask 0 base 0" ∷ codes "send 0 0 aa" ∷ codes "= ok"
+    ∷ codes "send 0 0 bb" ∷ codes "= ok" ∷ codes "spawn echo 0 0" ∷ codes "= ok" ∷ codes "recv 100" ∷ codes "= message 0.0 aa"
+    ∷ codes "recv 100" ∷ codes "= message 0.0 bb" ∷ codes "recv 100" ∷ codes "= none" ∷ codes "cube 0 user alice dim 0 mask 0 base 0"
+    ∷ codes "host send 0 0 0.0=host.0 aa" ∷ codes "host send 0 1 0.0=host.1 bb" ∷ codes "host spawn 0 echo 0.0 ok"
+    ∷ codes "host arm 100" ∷ codes "host get -" ∷ codes "node 0 take 0 0 - start 0 echo" ∷ codes "host get -"
+    ∷ codes "node 0 take 1 0 - mail 0 0" ∷ codes "node 0 send 0 2 host.0=host.0 aa" ∷ codes "host get 2" ∷ codes "host arm 100"
+    ∷ codes "host get -" ∷ codes "node 0 take 1 0 - mail 0 1" ∷ codes "node 0 send 0 3 host.0=host.1 bb" ∷ codes "host get 3"
+    ∷ codes "host arm 100" ∷ codes "host get -" ∷ codes "node 0 take 1 0 - idle" ∷ codes "host get -" ∷ codes "host look quiet"
+    ∷ codes "end" ∷ [])
+
+pub unborn_is_reported : (image : ImageParts) → report (the_script image) the_record ≡ the_report
+unfolding report view relative extract digits encode_with host_home greatest_dim
+unborn_is_reported image = refl

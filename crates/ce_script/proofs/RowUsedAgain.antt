@@ -1,0 +1,81 @@
+-- The worked row in which a cube is given back with messages that wait, and its node is used again: what is written about it.
+use Rattle.std.proofs.Common.{◌≡◌, ℕ, List, [], ◌∷◌, ◌++◌, Some, None, true, codes, refl}
+use Rattle.std.specs.Fmt.{digits}
+use Rattle.rv_model.specs.Image.{ImageParts}
+use Rattle.hex.specs.Hex.{encode_with}
+use Rattle.ce_model.specs.declared.topology.TheConstants.{HOST}
+use Rattle.ce_model.specs.declared.entry.Entry.{Entry}
+use Rattle.ce_model.specs.declared.entry.What.TheVariants.{Getcube as GetcubeMade, Drain, Freecube as FreecubeMade, Arm, Look, Send as SendMade, Spawn as SpawnMade, Take}
+use Rattle.ce_model.specs.declared.entry.Found.TheVariants.{Quiet as FoundQuiet}
+use Rattle.ce_model.specs.declared.entry.Given.TheVariants.{Start, Idle}
+use Rattle.ce_model.specs.Limits.{host_home, greatest_dim}
+use Rattle.ce_model.specs.Subcubes.{extract, relative}
+use Rattle.ce_model.specs.Views.{view}
+use Rattle.ce_host.specs.declared.command.Command.{Command}
+use Rattle.ce_host.specs.declared.command.Command.TheVariants.{Getcube, Send, Freecube, Spawn, Run}
+use Rattle.ce_host.specs.declared.answer.Answer.{Answer}
+use Rattle.ce_host.specs.declared.answer.Answer.TheVariants.{Granted, Freed, Ok as Done, Quiet}
+use Rattle.ce_script.specs.declared.record.Record.{Record}
+use Rattle.ce_script.specs.declared.script.Script.{Script}
+use Rattle.ce_script.specs.Texts.{report}
+use Rattle.ce_script.proofs.Rows.{lines, by, place, block, subcube}
+
+abbrev pub first_bytes : List ℕ
+first_bytes = 0xAA ∷ []
+
+abbrev pub second_bytes : List ℕ
+second_bytes = 0xBB ∷ []
+
+abbrev pub third_bytes : List ℕ
+third_bytes = 0xCC ∷ []
+
+abbrev pub the_script : ImageParts → Script
+the_script image = record {
+  dim = Some 0;
+  images = record { name = codes "waiter"; image = image } ∷ [];
+  users = codes "alice" ∷ codes "bob" ∷ [];
+  commands = (0, Getcube 0) ∷ (0, Send (place 0 0) first_bytes) ∷ (0, Send (place 0 0) second_bytes) ∷ (0, Send (place 0 0) third_bytes) ∷ (0, Freecube)
+      ∷ (1, Getcube 0) ∷ (1, Spawn 0 (place 0 0)) ∷ (1, Run 10) ∷ [];
+}
+
+abbrev pub alice_done : List (Command × Answer)
+alice_done =
+    (Getcube 0, Granted (subcube 0 0)) ∷ (Send (place 0 0) first_bytes, Done) ∷ (Send (place 0 0) second_bytes, Done) ∷ (Send (place 0 0) third_bytes, Done)
+    ∷ (Freecube, Freed) ∷ []
+
+abbrev pub bob_done : List (Command × Answer)
+bob_done = (Getcube 0, Granted (subcube 0 0)) ∷ (Spawn 0 (place 0 0), Done) ∷ (Run 10, Quiet) ∷ []
+
+-- alice's host sends the message of this number in its block of the same index
+abbrev pub alice_sends : ℕ → List ℕ → Entry
+alice_sends number bytes = by 0 HOST (SendMade 0 number ((place 0 0, block 256 number) ∷ []) bytes)
+
+abbrev pub alice_history : List Entry
+alice_history =
+    by 0 HOST (GetcubeMade 0 (Some (subcube 0 0))) ∷ alice_sends 0 first_bytes ∷ alice_sends 1 second_bytes ∷ alice_sends 2 third_bytes ∷ by 0 HOST Drain
+    ∷ by 0 HOST FreecubeMade ∷ []
+
+abbrev pub bob_history : List Entry
+bob_history =
+    by 1 HOST (GetcubeMade 0 (Some (subcube 0 0))) ∷ by 1 HOST (SpawnMade 0 0 (place 0 0) true) ∷ by 1 HOST (Arm 10)
+    ∷ by 1 0 (Take 0 0 None (Start 0 0)) ∷ by 1 0 (Take 1 0 None Idle) ∷ by 1 HOST (Look FoundQuiet) ∷ []
+
+abbrev pub the_record : Record
+the_record = record {
+  users = record { name = codes "alice"; done = alice_done } ∷ record { name = codes "bob"; done = bob_done } ∷ [];
+  history = alice_history ++ bob_history;
+}
+
+abbrev pub the_report : List ℕ
+the_report = lines (
+    codes "machine 0" ∷ codes "user alice" ∷ codes "getcube 0" ∷ codes "= granted mask 0 base 0" ∷ codes "send 0 0 aa" ∷ codes "= ok"
+    ∷ codes "send 0 0 bb" ∷ codes "= ok" ∷ codes "send 0 0 cc" ∷ codes "= ok" ∷ codes "freecube" ∷ codes "= freed" ∷ codes "user bob"
+    ∷ codes "getcube 0" ∷ codes "= granted mask 0 base 0" ∷ codes "spawn waiter 0 0" ∷ codes "= ok" ∷ codes "run 10" ∷ codes "= quiet"
+    ∷ codes "cube 0 user alice dim 0 mask 0 base 0" ∷ codes "host send 0 0 0.0=host.0 aa" ∷ codes "host send 0 1 0.0=host.1 bb"
+    ∷ codes "host send 0 2 0.0=host.2 cc" ∷ codes "cube 1 user bob dim 0 mask 0 base 0" ∷ codes "host spawn 0 waiter 0.0 ok"
+    ∷ codes "host arm 10" ∷ codes "node 0 take 0 0 - start 0 waiter" ∷ codes "node 0 take 1 0 - idle" ∷ codes "host look quiet"
+    ∷ codes "end" ∷ [])
+
+pub used_again_is_reported : (image : ImageParts) → report (the_script image) the_record ≡ the_report
+unfolding report view relative extract digits encode_with host_home greatest_dim
+used_again_is_reported image = refl

@@ -1,0 +1,107 @@
+-- How stop causes, replies and entries are spelled: a sample of each.
+use Rattle.std.proofs.Common.{◌≡◌, [], ◌∷◌, ◌++◌, Some, None, false, codes, refl}
+use Rattle.std.specs.Fmt.{digits}
+use Rattle.rv_model.specs.Image.{ImageParts}
+use Rattle.rv_model.specs.declared.stop.Stop.TheVariants.{Exited, Killed, Illegal, Fetch, Target, Misaligned, Unmapped, Gone, PastEnd, NotABlock, Break, NoCall, TurnSpent, WindowsSpent}
+use Rattle.hex.specs.Hex.{encode_with}
+use Rattle.ce_model.specs.declared.process.Status.TheVariants.{Unborn, Running, Asking, Polling, Stopped}
+use Rattle.ce_model.specs.declared.topology.TheConstants.{HOST}
+use Rattle.ce_model.specs.declared.entry.What.TheVariants.{Arm, Look, HostTake, Send as SendMade, Spawn as SpawnMade, Kill as KillMade, Note, Take}
+use Rattle.ce_model.specs.declared.entry.Found.TheVariants.{Quiet as FoundQuiet, Spent as FoundSpent, Busy}
+use Rattle.ce_model.specs.declared.entry.KillFound.TheVariants.{Killed as FoundKilled, Unused as FoundUnused, Already as FoundAlready}
+use Rattle.ce_model.specs.declared.entry.Given.TheVariants.{Start, Mail, Kill as GivenKill, Poll, Idle, Spent as GivenSpent}
+use Rattle.ce_model.specs.Limits.{host_home}
+use Rattle.ce_host.specs.declared.command.Command.TheVariants.{Getcube, Peek, Freecube, Spawn, Kill, Send, Run, Recv, Dump, Trace}
+use Rattle.ce_host.specs.declared.answer.Answer.TheVariants.{NoCube, Held, None as NoneFree, Granted, Peeked, Freed, Ok as Done, NoPlace, Used, Unused, Already, NoStore, Quiet, Spent, Message, State, Entries}
+use Rattle.ce_script.specs.declared.record.Record.{Record}
+use Rattle.ce_script.specs.declared.script.Script.{Script}
+use Rattle.ce_script.specs.TextParts.{line}
+use Rattle.ce_script.specs.CommandText.{command_words, reply_text}
+use Rattle.ce_script.specs.EntryText.{entry_line}
+use Rattle.ce_script.specs.Texts.{summary}
+use Rattle.ce_script.proofs.Rows.{lines, by, place, block, subcube}
+
+-- one image, and two users
+abbrev a_script : ImageParts → Script
+a_script image = record { dim = Some 2; images = record { name = codes "ring"; image = image } ∷ []; users = codes "u0" ∷ codes "u1" ∷ []; commands = [] }
+
+abbrev a_record : Record
+a_record = record {
+  users = record { name = codes "u0"; done = (Recv 100, Message (place 3 0) (0x6F ∷ 0x1A ∷ [])) ∷ (Freecube, Freed) ∷ [] }
+      ∷ record { name = codes "u1"; done = (Getcube 2, Granted (subcube 3 0)) ∷ (Recv 100, Spent) ∷ [] } ∷ [];
+  history = [];
+}
+
+-- every command, with words as its user may have written them
+commands_text : (image : ImageParts) →
+    line (command_words (a_script image) (Getcube 6)) ++ line (command_words (a_script image) Peek)
+    ++ line (command_words (a_script image) Freecube) ++ line (command_words (a_script image) (Spawn 0 (place 4_294_967_295 9)))
+    ++ line (command_words (a_script image) (Kill (place 1 2))) ++ line (command_words (a_script image) (Send (place 1 2) []))
+    ++ line (command_words (a_script image) (Send (place 1 2) (0xAB ∷ 0x0C ∷ []))) ++ line (command_words (a_script image) (Run 1_000_000))
+    ++ line (command_words (a_script image) (Recv 0)) ++ line (command_words (a_script image) (Dump (place 0 7)))
+    ++ line (command_words (a_script image) Trace)
+    ≡ lines (codes "getcube 6" ∷ codes "peek" ∷ codes "freecube" ∷ codes "spawn ring 4294967295 9" ∷ codes "kill 1 2" ∷ codes "send 1 2 -"
+    ∷ codes "send 1 2 ab0c" ∷ codes "run 1000000" ∷ codes "recv 0" ∷ codes "dump 0 7" ∷ codes "trace" ∷ [])
+unfolding digits encode_with
+commands_text image = refl
+
+-- the replies that name no process
+replies_text :
+    line (reply_text a_record NoCube ∷ []) ++ line (reply_text a_record Held ∷ []) ++ line (reply_text a_record NoneFree ∷ [])
+    ++ line (reply_text a_record (Granted (subcube 5 2)) ∷ []) ++ line (reply_text a_record Freed ∷ []) ++ line (reply_text a_record Done ∷ [])
+    ++ line (reply_text a_record NoPlace ∷ []) ++ line (reply_text a_record Used ∷ []) ++ line (reply_text a_record Unused ∷ [])
+    ++ line (reply_text a_record Already ∷ []) ++ line (reply_text a_record NoStore ∷ []) ++ line (reply_text a_record Quiet ∷ [])
+    ++ line (reply_text a_record Spent ∷ []) ++ line (reply_text a_record (Message (place 3 1) []) ∷ [])
+    ++ line (reply_text a_record (Entries 8) ∷ []) ++ line (reply_text a_record (Peeked (record { free = 64; grants = [] })) ∷ [])
+    ≡ lines (codes "no cube" ∷ codes "held" ∷ codes "none" ∷ codes "granted mask 5 base 2" ∷ codes "freed" ∷ codes "ok" ∷ codes "no place"
+    ∷ codes "used" ∷ codes "unused" ∷ codes "already" ∷ codes "no store" ∷ codes "quiet" ∷ codes "spent" ∷ codes "message 3.1 -"
+    ∷ codes "entries 8" ∷ codes "free 64" ∷ [])
+unfolding digits
+replies_text = refl
+
+-- what a process does, and why it stopped
+states_text :
+    line (reply_text a_record (State Unborn) ∷ []) ++ line (reply_text a_record (State Running) ∷ [])
+    ++ line (reply_text a_record (State Asking) ∷ []) ++ line (reply_text a_record (State Polling) ∷ [])
+    ++ line (reply_text a_record (State (Stopped (Exited 4_294_967_295))) ∷ []) ++ line (reply_text a_record (State (Stopped Killed)) ∷ [])
+    ++ line (reply_text a_record (State (Stopped (Illegal 0x1_0004 0xFFFF_FFFF))) ∷ [])
+    ++ line (reply_text a_record (State (Stopped (Fetch 0x2))) ∷ []) ++ line (reply_text a_record (State (Stopped (Target 0x1_0008))) ∷ [])
+    ++ line (reply_text a_record (State (Stopped (Misaligned 0x1_0001))) ∷ []) ++ line (reply_text a_record (State (Stopped (Unmapped 0))) ∷ [])
+    ++ line (reply_text a_record (State (Stopped (Gone 0x8000_0000))) ∷ [])
+    ++ line (reply_text a_record (State (Stopped (PastEnd 0x8001_0000))) ∷ [])
+    ++ line (reply_text a_record (State (Stopped (NotABlock 0xABCD_EF12))) ∷ []) ++ line (reply_text a_record (State (Stopped (Break 0x1_0000))) ∷ [])
+    ++ line (reply_text a_record (State (Stopped (NoCall 15))) ∷ []) ++ line (reply_text a_record (State (Stopped TurnSpent)) ∷ [])
+    ++ line (reply_text a_record (State (Stopped WindowsSpent)) ∷ [])
+    ≡ lines (codes "unborn" ∷ codes "running" ∷ codes "asking" ∷ codes "polling" ∷ codes "stopped exited 4294967295" ∷ codes "stopped killed"
+    ∷ codes "stopped illegal 0x00010004 0xffffffff" ∷ codes "stopped fetch 0x00000002" ∷ codes "stopped target 0x00010008"
+    ∷ codes "stopped misaligned 0x00010001" ∷ codes "stopped unmapped 0x00000000" ∷ codes "stopped gone 0x80000000"
+    ∷ codes "stopped past end 0x80010000" ∷ codes "stopped not a block 0xabcdef12" ∷ codes "stopped break 0x00010000"
+    ∷ codes "stopped no call 15" ∷ codes "stopped turn spent" ∷ codes "stopped windows spent" ∷ [])
+unfolding digits encode_with
+states_text = refl
+
+-- every entry of a trace
+entries_text : (image : ImageParts) →
+    entry_line (a_script image) (by 0 HOST (Arm 10)) ++ entry_line (a_script image) (by 0 HOST (Look FoundQuiet))
+    ++ entry_line (a_script image) (by 0 HOST (Look FoundSpent)) ++ entry_line (a_script image) (by 0 HOST (Look Busy))
+    ++ entry_line (a_script image) (by 0 HOST (HostTake None)) ++ entry_line (a_script image) (by 0 HOST (HostTake (Some 12)))
+    ++ entry_line (a_script image) (by 0 3 (SendMade 1 7 ((place 0 1, block 0 0) ∷ (place HOST 0, block 256 31) ∷ []) []))
+    ++ entry_line (a_script image) (by 0 0 (SpawnMade 2 0 (place 1 5) false))
+    ++ entry_line (a_script image) (by 0 HOST (KillMade 0 (place 0 0) FoundKilled))
+    ++ entry_line (a_script image) (by 0 2 (KillMade 7 (place 3 0) FoundUnused))
+    ++ entry_line (a_script image) (by 0 2 (KillMade 7 (place 3 0) FoundAlready)) ++ entry_line (a_script image) (by 0 1 (Note 4 42))
+    ++ entry_line (a_script image) (by 0 1 (Take 3 4 (Some 1) (Start 2 0))) ++ entry_line (a_script image) (by 0 1 (Take 0 0 None (Mail 6 9)))
+    ++ entry_line (a_script image) (by 0 1 (Take 0 0 None (GivenKill 5))) ++ entry_line (a_script image) (by 0 1 (Take 1 0 (Some 0) (Poll 0)))
+    ++ entry_line (a_script image) (by 0 1 (Take 0 255 None Idle)) ++ entry_line (a_script image) (by 0 1 (Take 0 0 None GivenSpent))
+    ≡ lines (codes "host arm 10" ∷ codes "host look quiet" ∷ codes "host look spent" ∷ codes "host look busy" ∷ codes "host get -"
+    ∷ codes "host get 12" ∷ codes "node 3 send 1 7 0.1=0.0,host.0=host.31 -" ∷ codes "node 0 spawn 2 ring 1.5 used"
+    ∷ codes "host kill 0 0.0 ok" ∷ codes "node 2 kill 7 3.0 unused" ∷ codes "node 2 kill 7 3.0 already" ∷ codes "node 1 note 4 42"
+    ∷ codes "node 1 take 3 4 1 start 2 ring" ∷ codes "node 1 take 0 0 - mail 6 9" ∷ codes "node 1 take 0 0 - kill 5"
+    ∷ codes "node 1 take 1 0 0 poll 0" ∷ codes "node 1 take 0 255 - idle" ∷ codes "node 1 take 0 0 - spent" ∷ [])
+unfolding digits host_home
+entries_text image = refl
+
+-- a summary has each user's receipt
+summary_text : summary 4_294_967_295 a_record ≡ lines (codes "load 4294967295" ∷ codes "u0 message 3.0 6f1a" ∷ codes "u1 spent" ∷ [])
+unfolding summary digits encode_with
+summary_text = refl

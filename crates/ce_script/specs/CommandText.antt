@@ -1,0 +1,88 @@
+-- The text of a command, and of its reply.
+use Rattle.std.specs.Prelude.{ℕ, List, [], ◌∷◌, ◌++◌, codes, decimal, flat_map}
+use Rattle.rv_model.specs.declared.stop.Stop.{Stop}
+use Rattle.rv_model.specs.declared.stop.Stop.TheVariants.{Exited, Killed, Illegal, Fetch, Target, Misaligned, Unmapped, Gone, PastEnd, NotABlock, Break, NoCall, TurnSpent, WindowsSpent}
+use Rattle.ce_model.specs.declared.process.Status.{Status}
+use Rattle.ce_model.specs.declared.process.Status.TheVariants.{Unborn, Running, Asking, Polling, Stopped}
+use Rattle.ce_model.specs.declared.topology.Place.{Place}
+use Rattle.ce_daemon.specs.declared.grant.Grant.{Grant}
+use Rattle.ce_daemon.specs.declared.grant.Peeked.{Peeked}
+use Rattle.ce_host.specs.declared.command.Command.{Command}
+use Rattle.ce_host.specs.declared.command.Command.TheVariants.{Getcube, Peek, Freecube, Spawn, Kill, Send, Run, Recv, Dump, Trace}
+use Rattle.ce_host.specs.declared.answer.Answer.{Answer}
+use Rattle.ce_host.specs.declared.answer.Answer.TheVariants.{NoCube, Held, None as NoneFree, Granted, Peeked as PeekFound, Freed, Ok as Done, NoPlace, Used, Unused, Already, NoStore, Quiet, Spent, Message, State, Entries}
+use Rattle.ce_script.specs.declared.record.Record.{Record}
+use Rattle.ce_script.specs.declared.script.Script.{Script}
+use Rattle.ce_script.specs.TextParts.{words, image_name, user_name, word_text, bytes_text, place_text, subcube_words}
+
+-- ---- commands
+
+-- a node and a process id, as a user writes them
+abbrev pub place_words : Place → List (List ℕ)
+place_words place = decimal place.node ∷ decimal place.pid ∷ []
+
+abbrev pub command_words : Script → Command → List (List ℕ)
+command_words script (Getcube dim) = codes "getcube" ∷ decimal dim ∷ []
+command_words script Peek = codes "peek" ∷ []
+command_words script Freecube = codes "freecube" ∷ []
+command_words script (Spawn image to) = codes "spawn" ∷ image_name script image ∷ place_words to
+command_words script (Kill to) = codes "kill" ∷ place_words to
+command_words script (Send to bytes) = codes "send" ∷ (place_words to ++ bytes_text bytes ∷ [])
+command_words script (Run count) = codes "run" ∷ decimal count ∷ []
+command_words script (Recv count) = codes "recv" ∷ decimal count ∷ []
+command_words script (Dump at) = codes "dump" ∷ place_words at
+command_words script Trace = codes "trace" ∷ []
+
+-- ---- replies
+
+-- why a process stopped
+abbrev pub stop_words : Stop → List (List ℕ)
+stop_words (Exited code) = codes "exited" ∷ decimal code ∷ []
+stop_words Killed = codes "killed" ∷ []
+stop_words (Illegal pc word) = codes "illegal" ∷ word_text pc ∷ word_text word ∷ []
+stop_words (Fetch pc) = codes "fetch" ∷ word_text pc ∷ []
+stop_words (Target pc) = codes "target" ∷ word_text pc ∷ []
+stop_words (Misaligned a) = codes "misaligned" ∷ word_text a ∷ []
+stop_words (Unmapped a) = codes "unmapped" ∷ word_text a ∷ []
+stop_words (Gone a) = codes "gone" ∷ word_text a ∷ []
+stop_words (PastEnd a) = codes "past" ∷ codes "end" ∷ word_text a ∷ []
+stop_words (NotABlock a) = codes "not" ∷ codes "a" ∷ codes "block" ∷ word_text a ∷ []
+stop_words (Break pc) = codes "break" ∷ word_text pc ∷ []
+stop_words (NoCall number) = codes "no" ∷ codes "call" ∷ decimal number ∷ []
+stop_words TurnSpent = codes "turn" ∷ codes "spent" ∷ []
+stop_words WindowsSpent = codes "windows" ∷ codes "spent" ∷ []
+
+-- what a process does; none is seen running between two commands
+abbrev pub status_words : Status → List (List ℕ)
+status_words Unborn = codes "unborn" ∷ []
+status_words Running = codes "running" ∷ []
+status_words Asking = codes "asking" ∷ []
+status_words Polling = codes "polling" ∷ []
+status_words (Stopped cause) = codes "stopped" ∷ stop_words cause
+
+-- a cube that is held, behind what stands before it
+abbrev pub grant_text : Record → Grant → List ℕ
+grant_text kept grant =
+    codes ", " ++ words (user_name kept grant.user ∷ codes "dim" ∷ decimal grant.dim ∷ subcube_words grant.sub)
+
+abbrev pub peeked_text : Record → Peeked → List ℕ
+peeked_text kept found = words (codes "free" ∷ decimal found.free ∷ []) ++ flat_map (grant_text kept) found.grants
+
+abbrev pub reply_text : Record → Answer → List ℕ
+reply_text kept NoCube = codes "no cube"
+reply_text kept Held = codes "held"
+reply_text kept NoneFree = codes "none"
+reply_text kept (Granted sub) = words (codes "granted" ∷ subcube_words sub)
+reply_text kept (PeekFound found) = peeked_text kept found
+reply_text kept Freed = codes "freed"
+reply_text kept Done = codes "ok"
+reply_text kept NoPlace = codes "no place"
+reply_text kept Used = codes "used"
+reply_text kept Unused = codes "unused"
+reply_text kept Already = codes "already"
+reply_text kept NoStore = codes "no store"
+reply_text kept Quiet = codes "quiet"
+reply_text kept Spent = codes "spent"
+reply_text kept (Message from bytes) = words (codes "message" ∷ place_text from ∷ bytes_text bytes ∷ [])
+reply_text kept (State status) = words (status_words status)
+reply_text kept (Entries count) = words (codes "entries" ∷ decimal count ∷ [])

@@ -1,0 +1,196 @@
+-- What a user's commands do: the entries that each one makes, and its reply.
+use Rattle.std.specs.Prelude.{◌≡◌, ℕ, List, [], ◌∷◌, ◌++◌, Option, Some, None, Bool, true, false, if◌then◌else◌, length, map, flat_map, option_map}
+use Rattle.std.specs.List.{AllByRecursion}
+use Rattle.ce_model.specs.declared.topology.TheConstants.{HOST}
+use Rattle.ce_model.specs.declared.topology.Place.{Place}
+use Rattle.ce_model.specs.declared.topology.BlockId.{BlockId}
+use Rattle.ce_model.specs.declared.topology.Subcube.{Subcube}
+use Rattle.ce_model.specs.declared.entry.Entry.{Entry}
+use Rattle.ce_model.specs.declared.entry.What.{What}
+use Rattle.ce_model.specs.declared.entry.What.TheVariants.{Getcube as GetcubeMade, Peek as PeekMade, Drain, Freecube as FreecubeMade, Arm, Look, HostTake, Send as SendMade, Spawn as SpawnMade, Kill as KillMade}
+use Rattle.ce_model.specs.declared.entry.Found.{Found}
+use Rattle.ce_model.specs.declared.entry.Found.TheVariants.{Quiet as FoundQuiet, Spent as FoundSpent, Busy}
+use Rattle.ce_model.specs.declared.entry.KillFound.{KillFound}
+use Rattle.ce_model.specs.declared.entry.KillFound.TheVariants.{Killed, Unused as FoundUnused, Already as FoundAlready}
+use Rattle.ce_model.specs.Parcels.{Parcel, Item}
+use Rattle.ce_model.specs.Node.{is_place, process_at}
+use Rattle.ce_model.specs.Renaming.{Grant as CubeGrant, entry_inward}
+use Rattle.ce_model.specs.Trace.{sent_to}
+use Rattle.ce_model.specs.Cube.{Cube, CubeState, opening, hoststore, parcel_numbered, rest}
+use Rattle.ce_model.specs.Machine.{MachineParts, MachineState, after, free_count, held_grants, cube_of}
+use Rattle.ce_daemon.specs.declared.grant.Grant.{Grant}
+use Rattle.ce_daemon.specs.declared.grant.Peeked.{Peeked}
+use Rattle.ce_host.specs.declared.command.Command.{Command}
+use Rattle.ce_host.specs.declared.command.Command.TheVariants.{Getcube, Peek, Freecube, Spawn, Kill, Send, Run, Recv, Dump, Trace}
+use Rattle.ce_host.specs.declared.answer.Answer.{Answer}
+use Rattle.ce_host.specs.declared.answer.Answer.TheVariants.{NoCube, Held, None as NoneFree, Granted, Peeked as PeekFound, Freed, Ok as Done, NoPlace, Used, Unused, Already, NoStore, Quiet, Spent, Message, State, Entries}
+use Rattle.ce_script.specs.Rounds.{RoundKind, joined, IsRoundWithWork, IsRoundWithoutWork, AreTurnsOver}
+use Rattle.ce_script.specs.Moments.{Moment, entries_of, Holding}
+
+-- an entry of a user's host
+abbrev pub by_host : ℕ → What → Entry
+by_host user what = record { user = user; actor = HOST; what = what }
+
+-- a command makes no entry, and is answered so
+abbrev pub IsAtOnce : Answer → Answer → List Entry → Type 0
+IsAtOnce reply answer segment = (answer ≡ reply) × (segment ≡ [])
+
+-- ---- without a cube
+
+-- what a getcube is answered, by the subcube that its entry grants
+abbrev pub getcube_reply : Option Subcube → Answer
+getcube_reply None = NoneFree
+getcube_reply (Some sub) = Granted sub
+
+-- `getcube`: the cube that its entry grants, or none; where one is held already it makes no entry
+abbrev pub IsGetcube : ℕ → Option Holding → ℕ → Answer → List Entry → Type 0
+IsGetcube user None dim answer entries = (sub : Option Subcube) × (entries ≡ by_host user (GetcubeMade dim sub) ∷ []) × (answer ≡ getcube_reply sub)
+IsGetcube user (Some held) dim answer entries = IsAtOnce Held answer entries
+
+-- a grant with its number
+abbrev pub numbered : ℕ × CubeGrant → Grant
+numbered (number, grant) = record { number = number; user = grant.user; dim = grant.dim; sub = grant.sub }
+
+-- what a peek finds: how many nodes are free, and which cubes are held
+abbrev pub peeked : MachineParts → MachineState → Peeked
+peeked machine state = record { free = free_count machine state; grants = map numbered (held_grants state) }
+
+-- `peek`
+abbrev pub IsPeek : MachineParts → ℕ → Answer → List Moment → Type 0
+IsPeek machine user answer moments =
+    (before : List Entry) × (moments ≡ record { before = before; entry = by_host user PeekMade } ∷ [])
+    × (answer ≡ PeekFound (peeked machine (after before)))
+
+-- ---- at a place
+
+-- at what is no place of the cube a command makes no entry, and at a place this holds of it
+abbrev pub IsAtPlace : Bool → Answer → List Entry → Type 0 → Type 0
+IsAtPlace true answer segment P = P
+IsAtPlace false answer segment P = IsAtOnce NoPlace answer segment
+
+-- `spawn`, by whether the id was fresh
+abbrev pub IsSpawn : ℕ → ℕ → Place → Answer → List Entry → Type 0
+IsSpawn user image to answer segment =
+    (fresh : Bool) × (segment ≡ by_host user (SpawnMade 0 image to fresh) ∷ []) × (answer ≡ (if fresh then Done else Used))
+
+-- `kill`, by what it found
+abbrev pub kill_reply : KillFound → Answer
+kill_reply Killed = Done
+kill_reply FoundUnused = Unused
+kill_reply FoundAlready = Already
+
+abbrev pub IsKill : ℕ → Place → Answer → List Entry → Type 0
+IsKill user to answer segment = (found : KillFound) × (segment ≡ by_host user (KillMade 0 to found) ∷ []) × (answer ≡ kill_reply found)
+
+-- `send`, by the blocks in the host's store before it
+abbrev pub IsSend : ℕ → List BlockId → Place → List ℕ → Answer → List Entry → Type 0
+IsSend user [] to bytes answer segment = IsAtOnce NoStore answer segment
+IsSend user (id ∷ others) to bytes answer segment =
+    (first : ℕ) × (segment ≡ by_host user (SendMade 0 first ((to, id) ∷ []) bytes) ∷ []) × (answer ≡ Done)
+
+-- ---- with rounds
+
+-- what `run` is answered, by what its look found; none ends with a look that finds Busy
+abbrev pub run_reply : Found → Option Answer
+run_reply FoundQuiet = Some Quiet
+run_reply FoundSpent = Some Spent
+run_reply Busy = None
+
+-- `run`: dispatches are allowed, then come rounds up to the first without work, then a look
+pub record IsRun (kind : RoundKind) (cube : Cube) (count : ℕ) (answer : Answer) (segment : List Entry) : Type 0 where
+  pub rounds : List (List Entry)
+  pub last : List Entry
+  pub found : Found
+  pub with_work : AllByRecursion (IsRoundWithWork kind cube.dim) rounds
+  pub without_work : IsRoundWithoutWork kind cube.dim last
+  pub entries : segment ≡ by_host cube.user (Arm count) ∷ (joined rounds ++ (last ++ by_host cube.user (Look found) ∷ []))
+  pub reply : run_reply found ≡ Some answer
+
+-- how `recv` ends
+pub data RecvEnd : Type 0 where
+  -- the message of this number is there
+  message_at_once : ℕ → RecvEnd
+  -- none is there, and behind a round without work the one of this number
+  message_at_last : List Entry → ℕ → RecvEnd
+  -- none is there, nor behind a round without work, and a look finds how the cube stands
+  no_message : List Entry → Found → RecvEnd
+
+-- the host looks for a message: the one of this number is there, or none
+abbrev pub host_take : ℕ → Option ℕ → Entry
+host_take user number = by_host user (HostTake number)
+
+-- the entries of an end
+abbrev pub end_entries : ℕ → RecvEnd → List Entry
+end_entries user (message_at_once number) = host_take user (Some number) ∷ []
+end_entries user (message_at_last round number) = host_take user None ∷ (round ++ host_take user (Some number) ∷ [])
+end_entries user (no_message round found) = host_take user None ∷ (round ++ host_take user None ∷ by_host user (Look found) ∷ [])
+
+-- the rounds without work at an end: one, or none where a message is there at once
+abbrev pub end_rounds : RecvEnd → List (List Entry)
+end_rounds (message_at_once number) = []
+end_rounds (message_at_last round number) = round ∷ []
+end_rounds (no_message round found) = round ∷ []
+
+-- what `recv` is answered with a message, and without one by what its look found
+abbrev pub message_reply : Option Parcel → Option Answer
+message_reply parcel = option_map (λ found. Message found.from found.block.bytes) parcel
+
+abbrev pub no_message_reply : Found → Option Answer
+no_message_reply FoundQuiet = Some NoneFree
+no_message_reply FoundSpent = Some Spent
+no_message_reply Busy = None
+
+-- what `recv` is answered that ends so, by all that was sent to the host
+abbrev pub recv_reply : List Item → RecvEnd → Option Answer
+recv_reply items (message_at_once number) = message_reply (parcel_numbered number items)
+recv_reply items (message_at_last round number) = message_reply (parcel_numbered number items)
+recv_reply items (no_message round found) = no_message_reply found
+
+-- `recv`: dispatches are allowed, then the host looks for a message, with a round between each two looks
+pub record IsRecv (kind : RoundKind) (cube : Cube) (items : List Item) (count : ℕ) (answer : Answer) (segment : List Entry) : Type 0 where
+  pub rounds : List (List Entry)
+  pub end : RecvEnd
+  pub with_work : AllByRecursion (IsRoundWithWork kind cube.dim) rounds
+  pub without_work : AllByRecursion (IsRoundWithoutWork kind cube.dim) (end_rounds end)
+  pub entries : segment ≡ by_host cube.user (Arm count) ∷ (flat_map (λ round. host_take cube.user None ∷ round) rounds ++ end_entries cube.user end)
+  pub reply : recv_reply items end ≡ Some answer
+
+-- ---- all commands
+
+-- a command in a cube, by the trace before it, but for those that ask for a cube, look round or give it back; the entries have the
+-- cube's numbers for its nodes
+abbrev pub IsCubeCommand : RoundKind → Cube → CubeState → List Entry → Command → Answer → List Entry → Type 0
+IsCubeCommand kind cube o t (Spawn image to) answer segment =
+    IsAtPlace (is_place cube.dim to) answer segment (IsSpawn cube.user image to answer segment)
+IsCubeCommand kind cube o t (Kill to) answer segment = IsAtPlace (is_place cube.dim to) answer segment (IsKill cube.user to answer segment)
+IsCubeCommand kind cube o t (Send to bytes) answer segment =
+    IsAtPlace (is_place cube.dim to) answer segment (IsSend cube.user (hoststore o t) to bytes answer segment)
+IsCubeCommand kind cube o t (Run count) answer segment = IsRun kind cube count answer segment × AreTurnsOver cube o (t ++ segment)
+IsCubeCommand kind cube o t (Recv count) answer segment =
+    IsRecv kind cube (sent_to o.standing HOST (t ++ segment)) count answer segment × AreTurnsOver cube o (t ++ segment)
+IsCubeCommand kind cube o t (Dump at) answer segment =
+    IsAtPlace (is_place cube.dim at) answer segment (IsAtOnce (State (process_at (rest cube o at.node t) at.pid).status) answer segment)
+IsCubeCommand kind cube o t Trace answer segment = IsAtOnce (Entries (length t)) answer segment
+IsCubeCommand kind cube o t other answer segment = ⊥
+
+-- `freecube`: what waits is taken away, and then the cube is given back
+abbrev pub IsFreecube : ℕ → Answer → List Entry → Type 0
+IsFreecube user answer entries = (answer ≡ Freed) × (entries ≡ by_host user Drain ∷ by_host user FreecubeMade ∷ [])
+
+-- a command of who holds this cube
+abbrev pub IsHolderCommand : RoundKind → Cube → Holding → Command → Answer → List Entry → Type 0
+IsHolderCommand kind cube held Freecube answer entries = IsFreecube cube.user answer entries
+IsHolderCommand kind cube held other answer entries =
+    IsCubeCommand kind cube (opening cube) held.trace other answer (map (entry_inward held.grant.sub) entries)
+
+-- a command that wants a cube
+abbrev pub IsWithCube : RoundKind → MachineParts → Option Holding → Command → Answer → List Entry → Type 0
+IsWithCube kind machine None command answer entries = IsAtOnce NoCube answer entries
+IsWithCube kind machine (Some held) command answer entries =
+    IsHolderCommand kind (cube_of machine.images held.grant) held command answer entries
+
+-- a user's command, by the cube that it holds: what it is answered, and the moments of its entries
+abbrev pub IsCommand : RoundKind → MachineParts → ℕ → Option Holding → Command → Answer → List Moment → Type 0
+IsCommand kind machine user held (Getcube dim) answer moments = IsGetcube user held dim answer (entries_of moments)
+IsCommand kind machine user held Peek answer moments = IsPeek machine user answer moments
+IsCommand kind machine user held other answer moments = IsWithCube kind machine held other answer (entries_of moments)

@@ -1,0 +1,53 @@
+-- What a user did: its commands, what they were answered, and their entries in the history.
+use Rattle.std.specs.Prelude.{◌≡◌, ℕ, ◌↔◌, List, [], Option, None, is_some, IsTrue, IsSomeAnd, map, flat_map, slice_get}
+use Rattle.ce_model.specs.declared.entry.Entry.{Entry}
+use Rattle.ce_model.specs.Lists.{EachAfter}
+use Rattle.ce_model.specs.Subcubes.{first_free}
+use Rattle.ce_model.specs.Machine.{MachineParts, after, is_free}
+use Rattle.ce_host.specs.declared.command.Command.{Command}
+use Rattle.ce_host.specs.declared.command.Command.TheVariants.{Getcube}
+use Rattle.ce_host.specs.declared.answer.Answer.{Answer}
+use Rattle.ce_host.specs.declared.answer.Answer.TheVariants.{Held, None as NoneFree}
+use Rattle.ce_script.specs.Rounds.{RoundKind}
+use Rattle.ce_script.specs.Moments.{Moment, moments_of, entries_of, Holding, holding}
+use Rattle.ce_script.specs.Commands.{IsCommand}
+
+-- a command of a user: what it was answered, and the moments of its entries
+pub record Doing : Type 0 where
+  pub command : Command
+  pub answer : Answer
+  pub moments : List Moment
+
+-- the cube that a user holds once it has done this
+abbrev pub held_after : List Doing → Option Holding
+held_after doings = holding (flat_map (λ doing. entries_of doing.moments) doings)
+
+-- a command has the entries and the reply that it must have behind those before it
+abbrev pub IsDone : RoundKind → MachineParts → ℕ → List Doing → Doing → Type 0
+IsDone kind machine user before doing = IsCommand kind machine user (held_after before) doing.command doing.answer doing.moments
+
+-- this is what a user did: its commands with their replies, whose entries are all of the user's, one command behind the other
+pub record AreDoings (kind : RoundKind) (machine : MachineParts) (history : List Entry) (user : ℕ) (done : List (Command × Answer)) (doings : List Doing) : Type 0 where
+  pub replies : map (λ doing. (doing.command, doing.answer)) doings ≡ done
+  pub entries : flat_map (λ doing. doing.moments) doings ≡ moments_of user history
+  pub each : EachAfter (IsDone kind machine user) [] doings
+
+-- ---- refusals
+
+-- a getcube is answered `held` exactly where its user holds a cube, and `none` exactly where it holds none and at the entry no
+-- subcube of this dimension is free
+pub record IsRefusedExactly (machine : MachineParts) (holds : Option Holding) (dim : ℕ) (doing : Doing) : Type 0 where
+  pub held : (doing.answer ≡ Held) ↔ IsTrue (is_some holds)
+  pub none : (doing.answer ≡ NoneFree)
+      ↔ ((holds ≡ None) × IsSomeAnd (slice_get doing.moments 0) (λ moment. first_free (is_free (after moment.before)) machine.dim dim ≡ None))
+
+-- the command is no getcube, or is refused exactly where it must be
+abbrev pub IsRefusedIfGetcube : MachineParts → List Doing → Doing → Type 0
+IsRefusedIfGetcube machine before doing = elim doing.command [
+  | Getcube dim ↦ IsRefusedExactly machine (held_after before) dim doing
+  | other ↦ Unit {0}
+]
+
+-- each getcube of a user is refused exactly where it must be
+abbrev pub AreRefusedExactly : MachineParts → List Doing → Type 0
+AreRefusedExactly machine doings = EachAfter (IsRefusedIfGetcube machine) [] doings

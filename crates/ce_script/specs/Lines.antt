@@ -1,0 +1,42 @@
+-- The lines of a script and their words.
+use Rattle.std.specs.Prelude.{ℕ, Bool, not, List, [], ◌∷◌, ◌++◌, map}
+use Rattle.std.specs.List.{list_all, enumerate_from}
+use Rattle.ce_text.specs.Bytes.{is_plain}
+use Rattle.ce_text.specs.Line.{lines as line_texts, before_comment}
+use Rattle.ce_text.specs.Words.{words as words_between}
+
+-- ---- members of a list, each with its surroundings
+
+-- a member of a list, the members before it and the members behind it
+pub record Spot (A : Type 0) : Type 0 where
+  pub before : List A
+  pub here : A
+  pub behind : List A
+
+-- the spots of a list that stands behind these members
+abbrev pub spots_behind : {A : Type 0} → List A → List A → List (Spot A)
+spots_behind before [] = []
+spots_behind before (here ∷ behind) = record { before = before; here = here; behind = behind } ∷ spots_behind (before ++ here ∷ []) behind
+
+-- the spots of a list
+abbrev pub spots : {A : Type 0} → List A → List (Spot A)
+spots list = spots_behind [] list
+
+-- ---- lines
+
+-- a line of a text, with its number
+pub record Line : Type 0 where
+  pub number : ℕ
+  pub text : List ℕ
+
+-- the lines of a text, which end with a line feed or with the text, counted from 1
+unfoldable pub lines : List ℕ → List Line
+lines text = map (λ line. record { number = line.0; text = line.1 }) (enumerate_from 1 (line_texts text))
+
+-- the words of a line: what stands between blanks before its comment
+abbrev pub words : Line → List (List ℕ)
+words line = words_between (before_comment line.text)
+
+-- before the comment of a line stands a byte that is neither a blank nor a character of ASCII that can be seen
+abbrev pub has_bad_byte : Line → Bool
+has_bad_byte line = not (list_all is_plain (before_comment line.text))

@@ -1,0 +1,109 @@
+-- The script of the load: four users, each with a ring of four processes that hand one message round.
+use Rattle.std.specs.Prelude.{ℕ, zero, suc, ◌+◌, ◌*◌, ◌%◌, ◌^◌, List, [], ◌∷◌, ◌++◌, map, flat_map, Some, codes}
+use Rattle.std.specs.Int.{w32, to_le_bytes}
+use Rattle.rv_model.specs.Image.{ImageParts}
+use Rattle.ce_model.specs.declared.topology.Place.{Place}
+use Rattle.ce_host.specs.declared.command.Command.{Command}
+use Rattle.ce_host.specs.declared.command.Command.TheVariants.{Getcube, Freecube, Spawn, Send, Recv}
+use Rattle.ce_script.specs.declared.script.Script.{Script}
+use Rattle.ce_script.specs.AssemblyImage.{assembly_image}
+use Rattle.ce_script.specs.Bodies.{image_or_nothing}
+
+-- ---- its image
+
+-- the lines of the program: it receives a block, adds its node's number and one to the block's first word, takes one from the second,
+-- and hands the block to the next node; at zero it hands it to the host
+abbrev pub ring_lines : List (List ℕ)
+ring_lines =
+    codes "loop: li a7, 7"
+    ∷ codes "      ecall"
+    ∷ codes "      mv s0, a0"
+    ∷ codes "      li a7, 10"
+    ∷ codes "      ecall"
+    ∷ codes "      mv s1, a0"
+    ∷ codes "      lw t0, 0(s0)"
+    ∷ codes "      addi t1, s1, 1"
+    ∷ codes "      add t0, t0, t1"
+    ∷ codes "      sw t0, 0(s0)"
+    ∷ codes "      lw t0, 4(s0)"
+    ∷ codes "      addi t0, t0, -1"
+    ∷ codes "      sw t0, 4(s0)"
+    ∷ codes "      beq t0, zero, done"
+    ∷ codes "      li a7, 12"
+    ∷ codes "      ecall"
+    ∷ codes "      addi t1, a0, -1"
+    ∷ codes "      addi a1, s1, 1"
+    ∷ codes "      and a1, a1, t1"
+    ∷ codes "      j pass"
+    ∷ codes "done: li a1, -1"
+    ∷ codes "pass: li a2, 0"
+    ∷ codes "      mv a0, s0"
+    ∷ codes "      li a7, 4"
+    ∷ codes "      ecall"
+    ∷ codes "      j loop"
+    ∷ []
+
+-- the program's text
+abbrev pub ring_text : List ℕ
+ring_text = flat_map (λ line. line ++ 10 ∷ []) ring_lines
+
+-- the program's image
+unfoldable pub ring_image : ImageParts
+ring_image = image_or_nothing (assembly_image ring_text)
+
+-- ---- its messages
+
+-- the number that follows another: 1,664,525 times as much and 1,013,904,223, modulo 2^32
+abbrev pub next_number : ℕ → ℕ
+next_number x = (1_664_525 * x + 1_013_904_223) % 2 ^ 32
+
+-- the number that follows a seed and k more
+abbrev pub number_after : ℕ → ℕ → ℕ
+number_after seed zero = next_number seed
+number_after seed (suc k) = next_number (number_after seed k)
+
+-- how often a message is handed over
+abbrev pub hand_overs : ℕ
+hand_overs = 4_000
+
+-- the message of user k: its number, and how often it is handed over
+abbrev pub load_message : ℕ → ℕ → List ℕ
+load_message seed k = to_le_bytes w32 (number_after seed k) ++ to_le_bytes w32 hand_overs
+
+-- ---- its commands
+
+-- a process of a node
+abbrev pub place : ℕ → ℕ → Place
+place node pid = record { node = node; pid = pid }
+
+-- the commands of a user, with this message
+abbrev pub load_commands : List ℕ → List Command
+load_commands message =
+    Getcube 2
+    ∷ Spawn 0 (place 0 0)
+    ∷ Spawn 0 (place 1 0)
+    ∷ Spawn 0 (place 2 0)
+    ∷ Spawn 0 (place 3 0)
+    ∷ Send (place 0 0) message
+    ∷ Recv 1_000_000
+    ∷ Freecube
+    ∷ []
+
+-- ---- the script
+
+-- the users
+abbrev pub load_users : List (List ℕ)
+load_users = codes "u0" ∷ codes "u1" ∷ codes "u2" ∷ codes "u3" ∷ []
+
+-- the commands of user k, with the user's number
+abbrev pub commands_of : ℕ → ℕ → List (ℕ × Command)
+commands_of seed k = map (λ command. (k, command)) (load_commands (load_message seed k))
+
+-- the load of a seed
+unfoldable pub load : ℕ → Script
+load seed = record {
+  dim = Some 4;
+  images = record { name = codes "ring"; image = ring_image } ∷ [];
+  users = load_users;
+  commands = flat_map (commands_of seed) (0 ∷ 1 ∷ 2 ∷ 3 ∷ []);
+}

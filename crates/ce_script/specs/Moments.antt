@@ -1,0 +1,51 @@
+-- A user's part of the history of the machine: its entries, and the cube that it holds by them.
+use Rattle.std.specs.Prelude.{ℕ, ◌==◌, List, [], ◌∷◌, ◌++◌, map, filter, fold, Option, Some, None, option_map}
+use Rattle.ce_model.specs.declared.entry.Entry.{Entry}
+use Rattle.ce_model.specs.declared.entry.What.TheVariants.{Getcube, Peek, Drain, Freecube}
+use Rattle.ce_model.specs.Renaming.{Grant, entry_inward}
+
+-- an entry of the history, and the entries before it
+pub record Moment : Type 0 where
+  pub before : List Entry
+  pub entry : Entry
+
+-- the moments of a history that goes on behind these entries
+abbrev pub moments_behind : List Entry → List Entry → List Moment
+moments_behind before [] = []
+moments_behind before (entry ∷ behind) = record { before = before; entry = entry } ∷ moments_behind (before ++ entry ∷ []) behind
+
+unfoldable pub moments : List Entry → List Moment
+moments history = moments_behind [] history
+
+-- the moments at which a user's host and nodes make their entries
+abbrev pub moments_of : ℕ → List Entry → List Moment
+moments_of user history = filter (λ moment. moment.entry.user == user) (moments history)
+
+abbrev pub entries_of : List Moment → List Entry
+entries_of moments = map (λ moment. moment.entry) moments
+
+-- ---- the cube that a user holds
+
+-- a cube that a user holds, and its trace so far
+pub record Holding : Type 0 where
+  pub grant : Grant
+  pub trace : List Entry
+
+-- the cube, once it has made an entry more
+abbrev pub extended : Entry → Holding → Holding
+extended entry held = record held { trace = held.trace ++ entry_inward held.grant.sub entry ∷ [] }
+
+-- what a user holds, once it has made an entry
+abbrev pub holding_by : Option Holding → Entry → Option Holding
+holding_by held entry = elim entry.what [
+  | Getcube dim (Some sub) ↦ Some (record { grant = record { user = entry.user; dim = dim; sub = sub }; trace = [] })
+  | Getcube dim None ↦ held
+  | Peek ↦ held
+  | Drain ↦ held
+  | Freecube ↦ None
+  | other ↦ option_map (extended entry) held
+]
+
+-- the cube that a user holds by its own entries so far
+unfoldable pub holding : List Entry → Option Holding
+holding entries = fold holding_by None entries

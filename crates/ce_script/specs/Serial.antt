@@ -1,0 +1,20 @@
+-- The records of a script that was run serially.
+use Rattle.std.specs.Prelude.{◌≡◌, ℕ, ◌==◌, List, map, filter, flat_map}
+use Rattle.ce_script.specs.declared.record.Record.{Record}
+use Rattle.ce_script.specs.declared.script.Script.{Script}
+use Rattle.ce_script.specs.Rounds.{serial}
+use Rattle.ce_script.specs.Moments.{moments}
+use Rattle.ce_script.specs.Doings.{Doing, AreDoings}
+use Rattle.ce_script.specs.Legal.{EachUser, machine_of}
+
+-- what one user did, of what all did
+abbrev pub doings_of : ℕ → List (ℕ × Doing) → List Doing
+doings_of user all = map (λ own. own.1) (filter (λ own. own.0 == user) all)
+
+-- the entries of each command stand together in the history, the commands of all users go in the script's order, and every round
+-- is a serial one
+pub record IsSerial (script : Script) (kept : Record) : Type 0 where
+  pub doings : List (ℕ × Doing)
+  pub commands : map (λ own. (own.0, own.1.command)) doings ≡ script.commands
+  pub together : flat_map (λ own. own.1.moments) doings ≡ moments kept.history
+  pub each : EachUser (λ number user. AreDoings serial (machine_of script) kept.history number user.done (doings_of number doings)) kept

@@ -1,0 +1,57 @@
+-- The statements of a script.
+use Rattle.std.specs.Prelude.{ℕ, Bool, false, ◌||◌, if◌then◌else◌, List, [], ◌∷◌, Option, Some, None, get_or, length, ◌==◌, filter_map, bytes_eq, codes}
+use Rattle.std.specs.List.{list_any, before_first, after_last}
+use Rattle.ce_script.specs.Lines.{Line, Spot, spots, lines, words}
+use Rattle.ce_script.specs.declared.grammar.Verb.{Verb}
+use Rattle.ce_script.specs.Verbs.{has_verb, is_image}
+
+-- a statement: its line, and for an image the lines of its body, where an `end` follows them
+pub record Statement : Type 0 where
+  pub line : Line
+  pub body : Option (List Line)
+
+-- the word at this place behind the first of a statement
+abbrev pub operand : ℕ → Statement → List ℕ
+operand place statement = get_or (words statement.line) place []
+
+-- the statement begins with a verb of this kind
+abbrev pub is_of : (Verb → Bool) → Statement → Bool
+is_of kind statement = has_verb kind (words statement.line)
+
+-- ---- bodies of images
+
+-- the words are this one alone
+abbrev pub are_only : List ℕ → List (List ℕ) → Bool
+are_only word [] = false
+are_only word (first ∷ []) = bytes_eq first word
+are_only word (first ∷ second ∷ others) = false
+
+-- the line's only word is `end`
+abbrev pub is_end : Line → Bool
+is_end line = are_only (codes "end") (words line)
+
+-- the line's first word is `image`
+abbrev pub begins_image : Line → Bool
+begins_image line = has_verb is_image (words line)
+
+-- A line belongs to the body of an image, or ends one, where an image begins before it and no `end` comes between.
+abbrev pub is_inside : List Line → Bool
+is_inside before = list_any begins_image (after_last is_end before)
+
+-- the lines of an image's body: those behind its own, up to an `end`
+unfoldable pub body_in : List Line → Option (List Line)
+body_in behind = if list_any is_end behind then Some (before_first is_end behind) else None
+
+-- ---- statements
+
+-- the statement of a line
+abbrev pub statement_of : Spot Line → Statement
+statement_of spot = record { line = spot.here; body = if begins_image spot.here then body_in spot.behind else None }
+
+-- a statement stands on each line that has words and is not inside an image
+unfoldable pub statement_at : Spot Line → Option Statement
+statement_at spot = if (length (words spot.here) == 0) || is_inside spot.before then None else Some (statement_of spot)
+
+-- the statements of a text, in order
+unfoldable pub statements : List ℕ → List Statement
+statements text = filter_map statement_at (spots (lines text))

@@ -1,0 +1,111 @@
+-- What statements begin with, and what belongs behind it.
+use Rattle.std.specs.Prelude.{ℕ, Bool, true, false, List, [], ◌∷◌, Option, None, option_map, find, bytes_eq, codes}
+use Rattle.std.specs.Option.{option_map_or}
+use Rattle.ce_model.specs.Limits.{greatest_dim, greatest_count}
+use Rattle.ce_script.specs.declared.grammar.Verb.{Verb}
+use Rattle.ce_script.specs.declared.grammar.Verb.TheVariants.{Machine, Image, User, Getcube, Peek, Freecube, Spawn, Kill, Send, Run, Recv, Dump, Trace}
+use Rattle.ce_script.specs.declared.grammar.ImageForm.{ImageForm}
+use Rattle.ce_script.specs.declared.grammar.ImageForm.TheVariants.{Hex, Asm, Rki}
+use Rattle.ce_script.specs.Spellings.{greatest_number}
+
+-- the value of a table's row for a word
+abbrev pub look_up : {A : Type 0} → List (List ℕ × A) → List ℕ → Option A
+look_up table word = option_map (λ row. row.1) (find (λ row. bytes_eq row.0 word) table)
+
+-- the words that begin statements
+unfoldable pub verbs : List (List ℕ × Verb)
+verbs =
+    (codes "machine", Machine)
+    ∷ (codes "image", Image)
+    ∷ (codes "user", User)
+    ∷ (codes "getcube", Getcube)
+    ∷ (codes "peek", Peek)
+    ∷ (codes "freecube", Freecube)
+    ∷ (codes "spawn", Spawn)
+    ∷ (codes "kill", Kill)
+    ∷ (codes "send", Send)
+    ∷ (codes "run", Run)
+    ∷ (codes "recv", Recv)
+    ∷ (codes "dump", Dump)
+    ∷ (codes "trace", Trace)
+    ∷ []
+
+-- what these words begin with, where it begins a statement
+unfoldable pub verb_of : List (List ℕ) → Option Verb
+verb_of [] = None
+verb_of (word ∷ words) = look_up verbs word
+
+-- ---- kinds of verbs
+
+-- it begins the statement of the machine
+abbrev pub is_machine : Verb → Bool
+is_machine Machine = true
+is_machine other = false
+
+-- it begins an image
+abbrev pub is_image : Verb → Bool
+is_image Image = true
+is_image other = false
+
+-- it begins the commands of a user
+abbrev pub is_user : Verb → Bool
+is_user User = true
+is_user other = false
+
+-- it begins a command: all but these three
+abbrev pub is_command : Verb → Bool
+is_command Machine = false
+is_command Image = false
+is_command User = false
+is_command other = true
+
+-- the words begin with a verb of this kind
+abbrev pub has_verb : (Verb → Bool) → List (List ℕ) → Bool
+has_verb kind words = option_map_or kind (verb_of words) false
+
+-- ---- operands
+
+-- what a word behind the first stands for
+pub data Operand : Type 0 where
+  -- a number that is at most this
+  Number : ℕ → Operand
+  -- the name of an image that begins here
+  NewImage : Operand
+  -- the form of an image
+  Form : Operand
+  -- the name of an earlier image
+  OldImage : Operand
+  -- the name of a user
+  Name : Operand
+  -- the bytes of a message
+  Data : Operand
+
+-- any number
+abbrev pub any_number : Operand
+any_number = Number greatest_number
+
+-- the words that belong behind a verb
+abbrev pub operands_of : Verb → List Operand
+operands_of Machine = Number greatest_dim ∷ []
+operands_of Image = NewImage ∷ Form ∷ []
+operands_of User = Name ∷ []
+operands_of Getcube = Number greatest_dim ∷ []
+operands_of Peek = []
+operands_of Freecube = []
+operands_of Spawn = OldImage ∷ any_number ∷ any_number ∷ []
+operands_of Kill = any_number ∷ any_number ∷ []
+operands_of Send = any_number ∷ any_number ∷ Data ∷ []
+operands_of Run = Number greatest_count ∷ []
+operands_of Recv = Number greatest_count ∷ []
+operands_of Dump = any_number ∷ any_number ∷ []
+operands_of Trace = []
+
+-- ---- forms of images
+
+-- the words that name forms
+abbrev pub forms : List (List ℕ × ImageForm)
+forms = (codes "hex", Hex) ∷ (codes "asm", Asm) ∷ (codes "rki", Rki) ∷ []
+
+-- the form that a word names
+unfoldable pub form_of : List ℕ → Option ImageForm
+form_of word = look_up forms word

@@ -1,0 +1,15 @@
+//! The language of scripts, and what is kept of a script's run.
+#![tactic(auto)]
+
+mod grammar;
+mod laws;
+mod name;
+mod record;
+mod script;
+#[cfg(test)]
+mod tests;
+
+pub use laws::{grammar_law, limits_law};
+pub use name::Name;
+pub use record::{Record, UserRecord};
+pub use script::{Named, Script, ScriptFault, ScriptKind};

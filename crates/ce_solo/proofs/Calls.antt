@@ -1,0 +1,228 @@
+-- The kernel's calls to several places, those that wait and those of processes, and all calls by their numbers.
+use Rattle.std.proofs.Common.{◌≡◌, ℕ, zero, suc, ◌+◌, ◌-◌, ◌^◌, ◌<◌, Bool, true, false, not, ◌==◌, nat_lt, if◌then◌else◌, List, [], ◌∷◌, ◌++◌, length, map, take, drop, zip, slice_get, Option, Some, None, Result, Ok, Err, IfOk, refl, ap, sym, ◌∙◌, subst, arith}
+use Rattle.std.specs.List.{AllByRecursion, list_all}
+use Rattle.std.proofs.lemmas.Bool.{cond_both, eq-eqb, ne_eqb, ltb-true, ltb-false, and_parts, not-false, both_ways}
+use Rattle.std.proofs.lemmas.List.{length-take}
+use Rattle.rv_model.specs.declared.stop.Stop.{Stop}
+use Rattle.rv_model.specs.declared.stop.Stop.TheVariants.{Exited, NoCall, TurnSpent}
+use Rattle.ce_model.specs.declared.topology.Place.{Place}
+use Rattle.ce_model.specs.declared.topology.BlockId.{BlockId}
+use Rattle.ce_model.specs.declared.process.Status.{Status}
+use Rattle.ce_model.specs.declared.process.Status.TheVariants.{Asking, Polling}
+use Rattle.ce_model.specs.Limits.{greatest_targets, turn_calls}
+use Rattle.ce_model.specs.Blocks.{Block}
+use Rattle.ce_model.specs.Space.{block_named, places_at}
+use Rattle.ce_model.specs.Process.{Process, argument, call_number, is_stopped}
+use Rattle.ce_model.specs.Node.{Turn, Node, is_place, Call, sends, spawns, kills, notes}
+use Rattle.ce_model.specs.Kernel.{returns, says_call, stops, reading, waits, gives_up, with_store, is_target, place_named, sends_copies, xmsend_block, xmsend, xrecv, xrecvb, spawn, ckill, KernelCall, kernel_calls, kernel_call, counted_does, kernel_does, kernel}
+use Rattle.ce_model.specs.Sound.{is_unborn, is_running, is_polling}
+use Rattle.ce_solo.proofs.Counting.{count, count-nil, count-cons, count-take-drop, rising-drop}
+use Rattle.ce_solo.proofs.Windows.{count-unmapped, named-of}
+use Rattle.ce_solo.proofs.Nodes.{polls, polls-more, changed_to, change-became}
+use Rattle.ce_solo.proofs.Words.{InTurn, call_ids, IsCallOf, IsDone, in_turn-windows, born_before, going_before, polls_before, returns-done, leaves-done, stops-done, reading-done, gives_up-windows, frees-done, xmalloc-done, xfree-done, xlength-done, xsend-done}
+
+-- ---- several places
+
+zip-seconds : {X : Type 0} (xs : List X) (ids : List BlockId) → length xs ≡ length ids → map (λ (pair : X × BlockId). pair.1) (zip xs ids) ≡ ids
+zip-seconds [] [] e = refl
+zip-seconds [] (id ∷ ids) e = absurd (omega (arith, e))
+zip-seconds (x ∷ xs) [] e = absurd (omega (arith, e))
+zip-seconds (x ∷ xs) (id ∷ ids) e = ap (λ rest. id ∷ rest) (zip-seconds xs ids (omega (arith, e)))
+
+zip-firsts : {X : Type 0} (test : X → Bool) (xs : List X) (ids : List BlockId) → list_all test xs ≡ true
+    → AllByRecursion (λ (pair : X × BlockId). test pair.0 ≡ true) (zip xs ids)
+zip-firsts test [] ids all = tt
+zip-firsts test (x ∷ xs) [] all = tt
+zip-firsts test (x ∷ xs) (id ∷ ids) all =
+    let parts = and_parts (test x) (list_all test xs) all in (parts.0, zip-firsts test xs ids parts.1)
+
+any_ok : {X : Type 0} (r : Result X Stop) → IfOk r (λ x. Unit {0})
+any_ok (Ok x) = tt
+any_ok (Err cause) = tt
+
+module _ (node : Node) (turn : Turn) (p : Process) (c : InTurn node turn p) where
+  sends_copies-done : (found : ℕ × Block) → slice_get p.space.windows found.0 ≡ Some (Some found.1) → (places : List Place)
+      → IsDone node (sends_copies node turn p found places)
+  sends_copies-done found at [] = frees-done node turn p c found at
+  sends_copies-done found at (to ∷ others) =
+      let ids = found.1.id ∷ take (length others) node.store in
+      let call = sends turn.pid (zip (to ∷ others) ids) found.1.bytes in
+      cond_both (not (list_all (is_target node) (to ∷ others))) (returns node turn p 1) _ (IsDone node) (λ t. returns-done node turn p c 1)
+      (λ all. cond_both (nat_lt (length node.store) (length others)) (returns node turn p 2)
+      (says_call (with_store (drop (length others) node.store) node) turn (gives_up found.0 p) call) (IsDone node)
+      (λ t. returns-done node turn p c 2)
+      (λ enough.
+      let long : length others ≡ length (take (length others) node.store) = omega (arith, length-take (length others) node.store, ltb-false _ _ enough) in
+      let same : map (λ (pair : Place × BlockId). pair.1) (zip (to ∷ others) ids) ≡ ids = zip-seconds (to ∷ others) ids (ap suc long) in
+      leaves-done node turn p c (gives_up found.0 p) (drop (length others) node.store) call refl c.registers (gives_up-windows node turn p c found.0)
+      (rising-drop (length others) node.store c.well.store)
+      (λ id. omega (arith, count-unmapped id p.space.windows found.0 found.1 at, ap (count id) same, count-cons id found.1.id (take (length others) node.store), count-take-drop id (length others) node.store))
+      (zip-firsts (is_target node) (to ∷ others) ids (not-false _ all))))
+
+  xmsend_block-done : (found : ℕ × Block) → slice_get p.space.windows found.0 ≡ Some (Some found.1) → IsDone node (xmsend_block node turn p found)
+  xmsend_block-done found at =
+      cond_both (nat_lt greatest_targets (argument p 1)) (returns node turn p 3)
+      (reading node turn p (places_at p.space (argument p 2) (argument p 1)) (sends_copies node turn p found)) (IsDone node)
+      (λ t. returns-done node turn p c 3)
+      (λ f. reading-done node turn p c (places_at p.space (argument p 2) (argument p 1)) (λ x. Unit {0}) (sends_copies node turn p found)
+      (any_ok (places_at p.space (argument p 2) (argument p 1))) (λ places u. sends_copies-done found at places))
+
+  xmsend-done : IsDone node (xmsend node turn p)
+  xmsend-done = reading-done node turn p c (block_named p.space (argument p 0)) _ (xmsend_block node turn p) (named-of p.space (argument p 0)) xmsend_block-done
+
+  -- ---- calls that wait
+
+  waits-done : (status : Status) (polling : List ℕ) → is_unborn status ≡ false → is_running status ≡ false → is_stopped status ≡ false
+      → polls turn.pid polling ≡ (if is_polling status then 1 else 0) → ((q : ℕ) → (q ≡ turn.pid → ⊥) → polls q polling ≡ polls q node.polling)
+      → IsDone node (waits node turn p status polling)
+  waits-done status polling born rests going poll others = record {
+    became = change-became (Some turn) None None node turn.pid (record p { status = status }) node.store polling [] []
+        (record {
+          well = c.well;
+          within = c.sound.pid;
+          process = record {
+            registers = c.registers;
+            windows = in_turn-windows node turn p c;
+            unborn_used = λ h. absurd (both_ways _ born h);
+            stopped_holds = λ h. absurd (both_ways _ going h);
+            running = rests;
+          };
+          turns = λ q differ. sym (ne_eqb turn.pid q (λ e. differ (sym e)));
+          rising = c.well.store;
+          poll = poll;
+          others_poll = others;
+          blocks = λ id. omega (arith, ap (count id) c.held.ids, count-nil id);
+          once = λ id. omega (arith, c.well.once id, count-nil id);
+        })
+        (born ∙ sym (born_before node turn p c)) (λ h. absurd (both_ways _ (going_before node turn p c) h));
+    turn = refl;
+  }
+
+  xrecv-done : IsDone node (xrecv node turn p)
+  xrecv-done =
+      waits-done Polling (node.polling ++ turn.pid ∷ []) refl refl refl
+      (omega (arith, polls-more turn.pid turn.pid node.polling, polls_before node turn p c, ap {B = ℕ} (λ b. if b then 1 else 0) (eq-eqb turn.pid turn.pid refl)))
+      (λ q differ. omega (arith, polls-more turn.pid q node.polling, ap {B = ℕ} (λ b. if b then 1 else 0) (ne_eqb turn.pid q (λ e. differ (sym e)))))
+
+  xrecvb-done : IsDone node (xrecvb node turn p)
+  xrecvb-done = waits-done Asking node.polling refl refl refl (polls_before node turn p c) (λ q differ. refl)
+
+  -- ---- processes
+
+  says-done : (call : Call) → call_ids call ≡ [] → IsCallOf (changed_to node turn.pid p node.store node.polling (Some turn)) call
+      → IsDone node (says_call node turn p call)
+  says-done call none of_node =
+      leaves-done node turn p c p node.store call refl c.registers (in_turn-windows node turn p c) c.well.store
+      (λ id. omega (arith, ap (count id) none, count-nil id)) of_node
+
+  spawn-done : IsDone node (spawn node turn p)
+  spawn-done =
+      cond_both (not (is_place node.dim (place_named p 1))) (returns node turn p 1) _ (IsDone node) (λ t. returns-done node turn p c 1)
+      (λ at. cond_both (nat_lt (argument p 0) node.images) (says_call node turn p (spawns turn.pid (argument p 0) (place_named p 1))) (returns node turn p 3)
+      (IsDone node) (λ t. says-done (spawns turn.pid (argument p 0) (place_named p 1)) refl (ltb-true _ _ t, not-false _ at))
+      (λ f. returns-done node turn p c 3))
+
+  ckill-done : IsDone node (ckill node turn p)
+  ckill-done =
+      cond_both (is_place node.dim (place_named p 0)) (says_call node turn p (kills turn.pid (place_named p 0))) (returns node turn p 1)
+      (IsDone node) (λ t. says-done (kills turn.pid (place_named p 0)) refl t) (λ f. returns-done node turn p c 1)
+
+-- ---- all calls
+
+-- a call does what is said here of its node
+abbrev pub IsGood : KernelCall → Type 0
+IsGood call = (node : Node) (turn : Turn) (p : Process) → InTurn node turn p → IsDone node (call.does node turn p)
+
+all_good : AllByRecursion IsGood kernel_calls
+unfolding kernel_calls
+all_good = (
+  xmalloc-done,
+  (
+    xfree-done,
+    (
+      xlength-done,
+      (
+        xsend-done,
+        (
+          xmsend-done,
+          (
+            xrecv-done,
+            (
+              xrecvb-done,
+              (
+                spawn-done,
+                (
+                  ckill-done,
+                  (
+                    (λ node turn p c. returns-done node turn p c node.number),
+                    (
+                      (λ node turn p c. returns-done node turn p c turn.pid),
+                      (
+                        (λ node turn p c. returns-done node turn p c (2 ^ node.dim)),
+                        (
+                          (λ node turn p c. stops-done node turn p c (Exited (argument p 0))),
+                          (
+                            (λ node turn p c. says-done node turn p c (notes turn.pid (argument p 0)) refl tt),
+                            tt,
+                          ),
+                        ),
+                      ),
+                    ),
+                  ),
+                ),
+              ),
+            ),
+          ),
+        ),
+      ),
+    ),
+  ),
+)
+
+all-get : {X : Type 0} (P : X → Type 0) (xs : List X) (k : ℕ) (x : X) → AllByRecursion P xs → slice_get xs k ≡ Some x → P x
+all-get P [] k x all e = cc
+all-get P (y ∷ ys) zero x all e = let same : y ≡ x = cc in subst P same all.0
+all-get P (y ∷ ys) (suc k) x all e = all-get P ys k x all.1 e
+
+call_good : (number : ℕ) (call : KernelCall) → kernel_call number ≡ Some call → IsGood call
+call_good number call e =
+    all-get IsGood kernel_calls (number - 1) call all_good (seen (number == 0) e)
+  where
+    seen : (b : Bool) → (if b then None else slice_get kernel_calls (number - 1)) ≡ Some call → slice_get kernel_calls (number - 1) ≡ Some call
+    seen true e = cc
+    seen false e = e
+
+-- the turn with one counted call more
+abbrev one_call_more : Turn → Turn
+one_call_more turn = record turn { calls = turn.calls + 1 }
+
+in_turn-more : (node : Node) (turn : Turn) (p : Process) → InTurn node turn p → turn.calls < turn_calls → InTurn node (one_call_more turn) p
+in_turn-more node turn p c room = record {
+  well = record {
+    process_ids = c.well.process_ids;
+    processes = λ q h. let was = c.well.processes q h in
+        record { registers = was.registers; windows = was.windows; unborn_used = was.unborn_used; stopped_holds = was.stopped_holds; running = was.running };
+    polling = c.well.polling;
+    store = c.well.store;
+    once = c.well.once;
+  };
+  sound = record { pid = c.sound.pid; left = c.sound.left; calls = omega (arith, room) };
+  registers = c.registers;
+  held = c.held;
+  status = c.status;
+}
+
+done-by : (node : Node) (turn : Turn) (p : Process) → InTurn node turn p → (found : Option KernelCall) → ((call : KernelCall) → found ≡ Some call → IsGood call)
+    → IsDone node (kernel_does found node turn p)
+done-by node turn p c None good = stops-done node turn p c (NoCall (call_number p))
+done-by node turn p c (Some call) good =
+    cond_both call.is_counted (counted_does call node turn p) (call.does node turn p) (IsDone node)
+    (λ t. cond_both (nat_lt turn.calls turn_calls) (call.does node (one_call_more turn) p) (stops node turn p TurnSpent) (IsDone node)
+    (λ room. good call refl node (one_call_more turn) p (in_turn-more node turn p c (ltb-true _ _ room)))
+    (λ spent. stops-done node turn p c TurnSpent))
+    (λ f. good call refl node turn p c)
+
+-- what each kernel call makes of a node whose process has come to it
+pub kernel-done : (node : Node) (turn : Turn) (p : Process) → InTurn node turn p → IsDone node (kernel node turn p)
+unfolding kernel
+kernel-done node turn p c = done-by node turn p c (kernel_call (call_number p)) (call_good (call_number p))

@@ -1,0 +1,230 @@
+-- An entry that its actor makes next leaves a sound cube, and takes and sends only what it can.
+use Rattle.std.proofs.Common.{◌≡◌, ℕ, ◌^◌, ◌<◌, ◌≤◌, Bool, true, false, not, ◌==◌, if◌then◌else◌, List, [], ◌∷◌, ◌++◌, find, map, Option, Some, None, option_map, option_and_then, refl, sym, ◌∙◌, subst, arith, inl, inr}
+use Rattle.std.specs.List.{AllByRecursion, list_any}
+use Rattle.std.proofs.lemmas.Bool.{cases_Bool, both_ways, ne_eqb, eqb-true, ltb-true, not-true, or_from, not_from_false}
+use Rattle.ce_model.specs.declared.topology.TheConstants.{HOST}
+use Rattle.ce_model.specs.declared.topology.Place.{Place}
+use Rattle.ce_model.specs.declared.entry.Entry.{Entry}
+use Rattle.ce_model.specs.declared.entry.What.{What}
+use Rattle.ce_model.specs.declared.entry.What.TheVariants.{Spawn, Kill as Killing}
+use Rattle.ce_model.specs.declared.entry.KillFound.{KillFound}
+use Rattle.ce_model.specs.declared.entry.KillFound.TheVariants.{Killed, Unused, Already}
+use Rattle.ce_model.specs.declared.entry.Given.{Given}
+use Rattle.ce_model.specs.declared.entry.Given.TheVariants.{Start, Mail, Kill, Poll, Idle, Spent}
+use Rattle.ce_model.specs.Parcels.{Parcel, Item, start, mail, kill, given_as, is_item, is_named_by, parcels_from}
+use Rattle.ce_model.specs.Node.{Call, takes, sends, spawns, kills, notes, arms, looks, takes_mail, is_place}
+use Rattle.ce_model.specs.Trace.{NodeRecord, Standing, items_to}
+use Rattle.ce_model.specs.Answers.{is_among, kill_found, offered, first_number, answer}
+use Rattle.ce_model.specs.Saying.{says}
+use Rattle.ce_model.specs.Cube.{Cube, CubeState, IsCube, HostCall, host_call, is_node}
+use Rattle.ce_model.specs.Sound.{numbers_of, IsItemOf, IsHostItem, IsSound}
+use Rattle.ce_model.proofs.OneMore.{taken_for, is_untaken}
+use Rattle.ce_solo.proofs.Lists.{all-weaker, all-filter}
+use Rattle.ce_solo.proofs.Words.{Leaves}
+use Rattle.ce_solo.proofs.Sending.{to_node, from-count}
+use Rattle.ce_solo.proofs.Steps.{entry_in, state_after}
+use Rattle.ce_solo.proofs.NodeSteps.{node-said, notes-acts, spawned-acts, killed-acts, kill_accepted}
+use Rattle.ce_solo.proofs.NodeSends.{sends-acts}
+use Rattle.ce_solo.proofs.NodeTakes.{takes-acts}
+use Rattle.ce_solo.proofs.HostSteps.{host-step}
+
+-- ---- the cube stays sound
+
+pub node-step : (cube : Cube) (s : CubeState) (r : ℕ) (call : Call) → IsCube cube → r < 2 ^ cube.dim → IsSound cube s → Leaves (s.node r) (says (s.node r)).node call
+    → IsSound cube (state_after cube s (entry_in cube s r call))
+unfolding answer
+node-step cube s r (takes asking dead poller) of below sound said = takes-acts cube s r of below sound asking dead poller said
+node-step cube s r (sends pid to bytes) of below sound said = sends-acts cube s r of below sound pid to bytes said
+node-step cube s r (spawns pid image to) of below sound said =
+    spawned-acts cube s r of below sound pid image to (not (is_among to.pid (s.standing.node_record to.node).spawned)) refl
+    (subst (λ dim. is_place dim to ≡ true) (said.became.dim ∙ (sound.nodes r below).dim) said.of_node.1)
+    (subst (λ images. image < images) (said.became.images ∙ (sound.nodes r below).images) said.of_node.0) said
+node-step cube s r (kills pid to) of below sound said =
+    killed-acts cube s r of below sound pid to (kill_found (s.standing.node_record to.node) to.pid) refl
+    (subst (λ dim. is_place dim to ≡ true) (said.became.dim ∙ (sound.nodes r below).dim) said.of_node) said
+node-step cube s r (notes pid word) of below sound said = notes-acts cube s r of below sound pid word said
+node-step cube s r (arms count) of below sound said = absurd said.of_node
+node-step cube s r looks of below sound said = absurd said.of_node
+node-step cube s r takes_mail of below sound said = absurd said.of_node
+
+-- the call that an actor of a cube in this state makes
+abbrev pub call_in : Cube → CubeState → ℕ → Option HostCall → Option Call
+call_in cube s actor asked =
+    if actor == HOST then option_and_then (host_call cube s.hoststore) asked
+    else (if is_node cube actor then Some (says (s.node actor)).call else None)
+
+asked-step : (cube : Cube) (s : CubeState) (asked : Option HostCall) (call : Call) → IsCube cube → IsSound cube s
+    → option_and_then (host_call cube s.hoststore) asked ≡ Some call → IsSound cube (state_after cube s (entry_in cube s HOST call))
+asked-step cube s None call of sound e = cc
+asked-step cube s (Some asked) call of sound e = host-step cube s of sound asked call e
+
+-- who makes an entry: the host, or a node that says its call
+pub data Made (cube : Cube) (s : CubeState) (actor : ℕ) (asked : Option HostCall) (call : Call) : Type 0 where
+  by_host : actor ≡ HOST → option_and_then (host_call cube s.hoststore) asked ≡ Some call → Made cube s actor asked call
+  by_node : actor < 2 ^ cube.dim → (says (s.node actor)).call ≡ call → Made cube s actor asked call
+
+some_same : (x y : Call) → Some x ≡ Some y → x ≡ y
+some_same x y e = cc
+
+made-by_node : (cube : Cube) (s : CubeState) (actor : ℕ) (asked : Option HostCall) (call : Call) (b : Bool) → is_node cube actor ≡ b
+    → (if b then Some (says (s.node actor)).call else None) ≡ Some call → Made cube s actor asked call
+made-by_node cube s actor asked call true is e = by_node (ltb-true _ _ is) (some_same (says (s.node actor)).call call e)
+made-by_node cube s actor asked call false is e = absurd (cc)
+
+made-by : (cube : Cube) (s : CubeState) (actor : ℕ) (asked : Option HostCall) (call : Call) (b : Bool) → (actor == HOST) ≡ b
+    → (if b then option_and_then (host_call cube s.hoststore) asked else (if is_node cube actor then Some (says (s.node actor)).call else None)) ≡ Some call
+    → Made cube s actor asked call
+made-by cube s actor asked call true is e = by_host (eqb-true actor HOST is) e
+made-by cube s actor asked call false is e = made-by_node cube s actor asked call (is_node cube actor) refl e
+
+pub made : (cube : Cube) (s : CubeState) (actor : ℕ) (asked : Option HostCall) (call : Call) → call_in cube s actor asked ≡ Some call → Made cube s actor asked call
+made cube s actor asked call e = made-by cube s actor asked call (actor == HOST) refl e
+
+pub made-leaves : (cube : Cube) (s : CubeState) (r : ℕ) (call : Call) → IsCube cube → r < 2 ^ cube.dim → IsSound cube s → (says (s.node r)).call ≡ call
+    → Leaves (s.node r) (says (s.node r)).node call
+made-leaves cube s r call of below sound e = subst (Leaves (s.node r) (says (s.node r)).node) e (node-said cube s r of below sound).leaves
+
+pub made-sound : (cube : Cube) (s : CubeState) (actor : ℕ) (asked : Option HostCall) (call : Call) → IsCube cube → IsSound cube s
+    → Made cube s actor asked call → IsSound cube (state_after cube s (entry_in cube s actor call))
+made-sound cube s actor asked call of sound (by_host is e) =
+    subst (λ actor. IsSound cube (state_after cube s (entry_in cube s actor call))) (sym is) (asked-step cube s asked call of sound e)
+made-sound cube s actor asked call of sound (by_node below e) = node-step cube s actor call of below sound (made-leaves cube s actor call of below sound e)
+
+-- ---- what an entry sends is new
+
+-- an item that was never sent to the node before
+abbrev pub IsNewItem : ℕ → NodeRecord → Item → Type 0
+IsNewItem sent kept (start pid image) = is_among pid kept.spawned ≡ false
+IsNewItem sent kept (mail parcel) = sent ≤ parcel.number
+IsNewItem sent kept (kill pid) = is_among pid kept.killed ≡ false
+
+new_mails : (sent : ℕ) (kept : NodeRecord) (ps : List Parcel) → AllByRecursion (λ (p : Parcel). sent ≤ p.number) ps → AllByRecursion (IsNewItem sent kept) (map mail ps)
+new_mails sent kept [] all = tt
+new_mails sent kept (p ∷ ps) all = (all.0, new_mails sent kept ps all.1)
+
+new_start : (s : Standing) (r image : ℕ) (to : Place) (b : Bool) → (to.node == r) ≡ b → is_among to.pid (s.node_record to.node).spawned ≡ false
+    → AllByRecursion (IsNewItem s.parcel_count (s.node_record r)) ((if b then start to.pid image ∷ [] else []) ++ [])
+new_start s r image to true e fresh = (subst (λ q. is_among to.pid (s.node_record q).spawned ≡ false) (eqb-true to.node r e) fresh, tt)
+new_start s r image to false e fresh = tt
+
+new_kill : (s : Standing) (r : ℕ) (to : Place) (b : Bool) → (to.node == r) ≡ b → is_among to.pid (s.node_record to.node).killed ≡ false
+    → AllByRecursion (IsNewItem s.parcel_count (s.node_record r)) ((if b then kill to.pid ∷ [] else []) ++ [])
+new_kill s r to true e fresh = (subst (λ q. is_among to.pid (s.node_record q).killed ≡ false) (eqb-true to.node r e) fresh, tt)
+new_kill s r to false e fresh = tt
+
+-- an entry of these
+abbrev of_what : ℕ → ℕ → What → Entry
+of_what user actor what = record { user = user; actor = actor; what = what }
+
+new_spawn : (s : Standing) (user actor r pid image : ℕ) (to : Place) (fresh : Bool) → not (is_among to.pid (s.node_record to.node).spawned) ≡ fresh
+    → AllByRecursion (IsNewItem s.parcel_count (s.node_record r)) (items_to r (of_what user actor (Spawn pid image to fresh)))
+new_spawn s user actor r pid image to true e = new_start s r image to (to.node == r) refl (not-true _ e)
+new_spawn s user actor r pid image to false e = tt
+
+new_killing : (s : Standing) (user actor r pid : ℕ) (to : Place) (found : KillFound) → kill_found (s.node_record to.node) to.pid ≡ found
+    → AllByRecursion (IsNewItem s.parcel_count (s.node_record r)) (items_to r (of_what user actor (Killing pid to found)))
+new_killing s user actor r pid to Killed e =
+    new_kill s r to (to.node == r) refl (kill_accepted (is_among to.pid (s.node_record to.node).spawned) (is_among to.pid (s.node_record to.node).killed) e).1
+new_killing s user actor r pid to Unused e = tt
+new_killing s user actor r pid to Already e = tt
+
+pub items-new : (cube : Cube) (s : CubeState) (actor r : ℕ) (call : Call)
+    → AllByRecursion (IsNewItem s.standing.parcel_count (s.standing.node_record r)) (items_to r (entry_in cube s actor call))
+unfolding answer
+items-new cube s actor r (takes asking dead poller) = tt
+items-new cube s actor r (sends pid to bytes) =
+    let from : Place = record { node = actor; pid = pid } in
+    let ps = parcels_from from s.standing.parcel_count bytes to in
+    new_mails s.standing.parcel_count (s.standing.node_record r) (to_node r ps)
+    (all-filter (λ (p : Parcel). s.standing.parcel_count ≤ p.number) (λ p. p.to.node == r) ps (from-count from bytes s.standing.parcel_count to))
+items-new cube s actor r (spawns pid image to) =
+    new_spawn s.standing cube.user actor r pid image to (not (is_among to.pid (s.standing.node_record to.node).spawned)) refl
+items-new cube s actor r (kills pid to) = new_killing s.standing cube.user actor r pid to (kill_found (s.standing.node_record to.node) to.pid) refl
+items-new cube s actor r (notes pid word) = tt
+items-new cube s actor r (arms count) = tt
+items-new cube s actor r looks = tt
+items-new cube s actor r takes_mail = tt
+
+-- ---- what an entry takes is known
+
+-- an item that was taken had been sent to the node
+abbrev pub IsKnown : ℕ → NodeRecord → Given → Type 0
+IsKnown sent kept (Start pid image) = is_among pid kept.spawned ≡ true
+IsKnown sent kept (Mail pid number) = number < sent
+IsKnown sent kept (Kill pid) = is_among pid kept.killed ≡ true
+IsKnown sent kept other = Unit {0}
+
+new-unnamed : (sent : ℕ) (kept : NodeRecord) (given : Given) (item : Item) → IsKnown sent kept given → IsNewItem sent kept item → is_named_by given item ≡ false
+new-unnamed sent kept (Start pid image) (start pid' image') known new =
+    ne_eqb pid pid' (λ e. both_ways _ new (subst (λ p. is_among p kept.spawned ≡ true) e known))
+new-unnamed sent kept (Start pid image) (mail parcel) known new = refl
+new-unnamed sent kept (Start pid image) (kill pid') known new = refl
+new-unnamed sent kept (Mail pid number) (start pid' image') known new = refl
+new-unnamed sent kept (Mail pid number) (mail parcel) known new = ne_eqb number parcel.number (λ e. omega (arith, e, known, new))
+new-unnamed sent kept (Mail pid number) (kill pid') known new = refl
+new-unnamed sent kept (Kill pid) (start pid' image') known new = refl
+new-unnamed sent kept (Kill pid) (mail parcel) known new = refl
+new-unnamed sent kept (Kill pid) (kill pid') known new = ne_eqb pid pid' (λ e. both_ways _ new (subst (λ p. is_among p kept.killed ≡ true) e known))
+new-unnamed sent kept (Poll pid) item known new = refl
+new-unnamed sent kept Idle item known new = refl
+new-unnamed sent kept Spent item known new = refl
+
+any_unnamed : (sent : ℕ) (kept : NodeRecord) (taken : List Given) (item : Item) → AllByRecursion (IsKnown sent kept) taken → IsNewItem sent kept item
+    → list_any (λ given. is_named_by given item) taken ≡ false
+any_unnamed sent kept [] item known new = refl
+any_unnamed sent kept (given ∷ taken) item known new = or_from _ _ (new-unnamed sent kept given item known.0 new) (any_unnamed sent kept taken item known.1 new)
+
+pub new-untaken : (sent : ℕ) (kept : NodeRecord) (taken : List Given) (items : List Item) → AllByRecursion (IsKnown sent kept) taken → AllByRecursion (IsNewItem sent kept) items
+    → AllByRecursion (λ item. is_untaken taken item ≡ true) items
+new-untaken sent kept taken items known new =
+    all-weaker (IsNewItem sent kept) (λ item. is_untaken taken item ≡ true) items (λ item h. not_from_false _ (any_unnamed sent kept taken item known h)) new
+
+pub takes_none : (own : Bool) (given : Given) → (if own then None else None) ≡ Some given → ⊥
+takes_none true given e = cc
+takes_none false given e = cc
+
+-- an entry that takes an item sends none
+pub taking-sends_none : (cube : Cube) (s : CubeState) (actor r : ℕ) (call : Call) (given : Given) → taken_for r (entry_in cube s actor call) ≡ Some given
+    → items_to r (entry_in cube s actor call) ≡ []
+unfolding answer
+taking-sends_none cube s actor r (takes asking dead poller) given e = refl
+taking-sends_none cube s actor r (sends pid to bytes) given e = absurd (takes_none (actor == r) given e)
+taking-sends_none cube s actor r (spawns pid image to) given e = absurd (takes_none (actor == r) given e)
+taking-sends_none cube s actor r (kills pid to) given e = absurd (takes_none (actor == r) given e)
+taking-sends_none cube s actor r (notes pid word) given e = refl
+taking-sends_none cube s actor r (arms count) given e = refl
+taking-sends_none cube s actor r looks given e = refl
+taking-sends_none cube s actor r takes_mail given e = refl
+
+pub known_items : (cube : Cube) (sent r : ℕ) (kept : NodeRecord) (items : List Item) → AllByRecursion (IsItemOf cube r kept) items → AllByRecursion (λ n. n < sent) (numbers_of items)
+    → AllByRecursion (λ item. IsKnown sent kept (given_as item)) items
+known_items cube sent r kept [] own below = tt
+known_items cube sent r kept (start pid image ∷ items) own below = (own.0.0, known_items cube sent r kept items own.1 below)
+known_items cube sent r kept (mail parcel ∷ items) own below = (below.0, known_items cube sent r kept items own.1 below.1)
+known_items cube sent r kept (kill pid ∷ items) own below = (own.0, known_items cube sent r kept items own.1 below)
+
+pub find-all : {X : Type 0} (P : X → Type 0) (test : X → Bool) (xs : List X) (x : X) → AllByRecursion P xs → find test xs ≡ Some x → P x
+find-all P test [] x all e = cc
+find-all P test (y ∷ ys) x all e =
+    elim (cases_Bool (test y)) [
+      | inl t ↦ let here : Some y ≡ Some x = rw t at e in let same : y ≡ x = cc in subst P same all.0
+      | inr f ↦ let later : find test ys ≡ Some x = rw f at e in find-all P test ys x all.1 later
+    ]
+
+pub known_given : (sent : ℕ) (kept : NodeRecord) (found : Option Item) (poller : Option ℕ) (used : Bool) (given : Given)
+    → ((item : Item) → found ≡ Some item → IsKnown sent kept (given_as item))
+    → (if is_item (offered found poller used) then Some (offered found poller used) else None) ≡ Some given → IsKnown sent kept given
+known_given sent kept (Some item) poller true given known e = absurd (cc)
+known_given sent kept (Some (start pid image)) poller false given known e = let same : given_as (start pid image) ≡ given = cc in subst (IsKnown sent kept) same (known (start pid image) refl)
+known_given sent kept (Some (mail parcel)) poller false given known e = let same : given_as (mail parcel) ≡ given = cc in subst (IsKnown sent kept) same (known (mail parcel) refl)
+known_given sent kept (Some (kill pid)) poller false given known e = let same : given_as (kill pid) ≡ given = cc in subst (IsKnown sent kept) same (known (kill pid) refl)
+known_given sent kept None (Some pid) true given known e = absurd (cc)
+known_given sent kept None (Some pid) false given known e = absurd (cc)
+known_given sent kept None None used given known e = absurd (cc)
+
+pub known_first : (sent : ℕ) (kept : NodeRecord) (items : List Item) (given : Given) → AllByRecursion IsHostItem items → AllByRecursion (λ n. n < sent) (numbers_of items)
+    → option_map (λ n. Mail 0 n) (first_number items) ≡ Some given → IsKnown sent kept given
+known_first sent kept [] given own below e = absurd (cc)
+known_first sent kept (start pid image ∷ items) given own below e = absurd own.0
+known_first sent kept (mail parcel ∷ items) given own below e = let same : Mail 0 parcel.number ≡ given = cc in subst (IsKnown sent kept) same below.0
+known_first sent kept (kill pid ∷ items) given own below e = absurd own.0

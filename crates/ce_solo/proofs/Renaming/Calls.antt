@@ -1,0 +1,104 @@
+-- What a kernel call comes to on a node with other names for its blocks: the ways in which it comes out.
+use Rattle.std.proofs.Common.{◌≡◌, ℕ, Bool, if◌then◌else◌, List, Some, None, Result, Ok, Err, refl, ap, ap₂, sym, subst, ◌∙◌}
+use Rattle.rv_model.specs.declared.stop.Stop.{Stop}
+use Rattle.ce_model.specs.declared.process.Status.{Status}
+use Rattle.ce_model.specs.declared.topology.BlockId.{BlockId}
+use Rattle.ce_model.specs.Process.{Process, with_answer}
+use Rattle.ce_model.specs.Node.{Turn, Node, Call}
+use Rattle.ce_model.specs.Kernel.{Did, goes_on, leaves, turn_ends, returns, stops, says_call, reading, waits}
+use Rattle.ce_model.specs.Space.{result_map}
+use Rattle.ce_model.specs.Renaming.{process_with, call_with}
+use Rattle.ce_solo.proofs.Renaming.Lists.{if_both}
+use Rattle.ce_solo.proofs.Renaming.Memory.{EachOk, IsNamedSpace}
+use Rattle.ce_solo.proofs.Renaming.Store.{IsOrderKept}
+use Rattle.ce_solo.proofs.Renaming.Nodes.{IsNamed, node_with, with_process-named, with_process-renamed, with_stopped-renamed}
+
+-- other names for the blocks of a node, and for its home, which keep the order of all names with a property
+pub record Names : Type 1 where
+  pub rename : BlockId → BlockId
+  pub home : ℕ → ℕ
+  pub P : BlockId → Type 0
+  pub order : IsOrderKept rename P
+
+module _ (names : Names) where
+  -- the node, the process and the call with the other names
+  abbrev pub node_by : Node → Node
+  node_by node = node_with names.rename names.home node
+
+  abbrev pub process_by : Process → Process
+  process_by p = process_with names.rename p
+
+  abbrev pub did_by : Did → Did
+  did_by (goes_on node turn) = goes_on (node_by node) turn
+  did_by (leaves node call) = leaves (node_by node) (call_with names.rename call)
+  did_by (turn_ends node) = turn_ends (node_by node)
+
+  -- where the turn goes on, the node's blocks have names with the property still
+  abbrev pub IsNamedDid : Did → Type 0
+  IsNamedDid (goes_on node turn) = IsNamed names.P node
+  IsNamedDid (leaves node call) = Unit {0}
+  IsNamedDid (turn_ends node) = Unit {0}
+
+  -- the one is the other with the other names
+  pub record AreDid (there here : Did) : Type 0 where
+    pub same : there ≡ did_by here
+    pub named : IsNamedDid here
+
+  -- a process in its turn, and its node, have names with the property
+  pub record AreNamedBoth (node : Node) (p : Process) : Type 0 where
+    pub around : IsNamed names.P node
+    pub own : IsNamedSpace names.P p.space
+
+  -- a kernel call does on the node with the other names what it does on the node
+  pub record IsCallAlike (does : Node → Turn → Process → Did) : Type 0 where
+    pub did : (node : Node) (turn : Turn) (p : Process) → AreNamedBoth node p → AreDid (does (node_by node) turn (process_by p)) (does node turn p)
+
+  pub if-alike : (test' test : Bool) (x y x' y' : Did) → test' ≡ test → AreDid x x' → AreDid y y'
+      → AreDid (if test' then x else y) (if test then x' else y')
+  if-alike test' test x y x' y' same here there =
+      subst (λ t. AreDid (if t then x else y) (if test then x' else y')) (sym same) (if_both AreDid test x y x' y' here there)
+
+  pub returns-alike : (node' node : Node) (turn : Turn) (p' p : Process) (value' value : ℕ) → node' ≡ node_by node → p' ≡ process_by p → value' ≡ value
+      → AreNamedBoth node p → AreDid (returns node' turn p' value') (returns node turn p value)
+  returns-alike node' node turn p' p value' value of_node of_process of_value named = record {
+    same = ap₂ (λ node p. returns node turn p value') of_node of_process
+        ∙ ap (λ value. returns (node_by node) turn (process_by p) value) of_value
+        ∙ ap (λ node. goes_on node turn) (with_process-renamed names.rename names.home node turn.pid (with_answer value p));
+    named = with_process-named names.P node turn.pid (with_answer value p) named.around named.own;
+  }
+
+  -- the call returns, and changes nothing else
+  pub answers-alike : (node : Node) (turn : Turn) (p : Process) (value : ℕ) → AreNamedBoth node p
+      → AreDid (returns (node_by node) turn (process_by p) value) (returns node turn p value)
+  answers-alike node turn p value named = returns-alike (node_by node) node turn (process_by p) p value value refl refl refl named
+
+  pub stops-alike : (node : Node) (turn : Turn) (p : Process) (cause : Stop) → AreNamedBoth node p
+      → AreDid (stops (node_by node) turn (process_by p) cause) (stops node turn p cause)
+  stops-alike node turn p cause named = record {
+    same = ap turn_ends (with_stopped-renamed names.rename names.home names.P node turn.pid p cause names.order named.around named.own);
+    named = tt;
+  }
+
+  pub says-alike : (node' node : Node) (turn : Turn) (p' p : Process) (call' call : Call) → node' ≡ node_by node → p' ≡ process_by p → call' ≡ call_with names.rename call
+      → AreDid (says_call node' turn p' call') (says_call node turn p call)
+  says-alike node' node turn p' p call' call of_node of_process of_call = record {
+    same = ap₂ (λ node p. says_call node turn p call') of_node of_process
+        ∙ ap₂ (λ node call. leaves (record node { turn = Some turn }) call) (with_process-renamed names.rename names.home node turn.pid p) of_call;
+    named = tt;
+  }
+
+  pub waits-alike : (node : Node) (turn : Turn) (p : Process) (status : Status) (polling : List ℕ)
+      → AreDid (waits (node_by node) turn (process_by p) status polling) (waits node turn p status polling)
+  waits-alike node turn p status polling = record {
+    same = ap (λ node. turn_ends (record node { polling = polling; turn = None }))
+        (with_process-renamed names.rename names.home node turn.pid (record p { status = status }));
+    named = tt;
+  }
+
+  pub reading-alike : {X : Type 0} (node : Node) (turn : Turn) (p : Process) (g : X → X) (Q : X → Type 0) (r' r : Result X Stop) (there here : X → Did)
+      → AreNamedBoth node p → r' ≡ result_map g r → EachOk Q r → ((x : X) → Q x → AreDid (there (g x)) (here x))
+      → AreDid (reading (node_by node) turn (process_by p) r' there) (reading node turn p r here)
+  reading-alike node turn p g Q r' (Ok x) there here named same read each =
+      subst (λ r. AreDid (reading (node_by node) turn (process_by p) r there) (here x)) (sym same) (each x read)
+  reading-alike node turn p g Q r' (Err cause) there here named same read each =
+      subst (λ r. AreDid (reading (node_by node) turn (process_by p) r there) (stops node turn p cause)) (sym same) (stops-alike node turn p cause named)

@@ -1,0 +1,186 @@
+-- Each kernel call does on a node with other names for its blocks what it does on the node.
+use Rattle.std.proofs.Common.{◌≡◌, ℕ, ◌+◌, ◌-◌, ◌^◌, not, ◌||◌, ◌==◌, nat_lt, List, [], ◌∷◌, ◌++◌, length, map, take, drop, replicate, zip, Option, Some, None, Result, Ok, Err, refl, ap, ◌∙◌}
+use Rattle.std.specs.List.{list_all, AllByRecursion}
+use Rattle.std.proofs.lemmas.List.{length-map, take-map, drop-map}
+use Rattle.rv_model.specs.declared.stop.Stop.{Stop}
+use Rattle.rv_model.specs.declared.stop.Stop.TheVariants.{Exited, NoCall, TurnSpent}
+use Rattle.ce_model.specs.declared.process.Status.TheVariants.{Asking, Polling}
+use Rattle.ce_model.specs.declared.topology.Place.{Place}
+use Rattle.ce_model.specs.declared.topology.BlockId.{BlockId}
+use Rattle.ce_model.specs.Limits.{block_room, window_count, greatest_targets, turn_calls}
+use Rattle.ce_model.specs.Blocks.{Block, put}
+use Rattle.ce_model.specs.Space.{block_named, window_start, has_unused_window, mapped, result_map, places_at}
+use Rattle.ce_model.specs.Process.{Process, argument, call_number}
+use Rattle.ce_model.specs.Node.{Turn, Node, is_place, sends, spawns, kills, notes}
+use Rattle.ce_model.specs.Kernel.{Did, returns, says_call, reading, with_space, gives_up, maps_least, xmalloc, frees, xfree, xlength, is_target, place_named, sends_block, xsend, sends_copies, xmsend_block, xmsend, spawn, ckill, KernelCall, kernel_calls, kernel_call, counted_does, kernel_does, kernel}
+use Rattle.ce_solo.proofs.Renaming.Lists.{◌and◌, if_each, EachSome, all-get, zip-map}
+use Rattle.ce_solo.proofs.Renaming.Memory.{EachOk, found_with, named-renamed, places-renamed, mapped-renamed, unmapped-renamed, named-named, mapped-named, unmapped-named}
+use Rattle.ce_solo.proofs.Renaming.Store.{AreNamed, put-named, put-renamed}
+use Rattle.ce_solo.proofs.Renaming.Calls.{Names, node_by, process_by, AreDid, AreNamedBoth, IsCallAlike, if-alike, returns-alike, answers-alike, stops-alike, says-alike, waits-alike, reading-alike}
+
+module _ (names : Names) where
+  -- ---- blocks
+
+  maps_least-alike : (node : Node) (turn : Turn) (p : Process) (len : ℕ) (store : List BlockId) → AreNamedBoth names node p → AreNamed names.P store
+      → AreDid names (maps_least (node_by names node) turn (process_by names p) len (map names.rename store)) (maps_least node turn p len store)
+  maps_least-alike node turn p len [] both named = answers-alike names node turn p 0 both
+  maps_least-alike node turn p len (id ∷ store) both named =
+      let block : Block = record { id = id; bytes = replicate len 0 } in
+      returns-alike names _ (record node { store = store }) turn _ (with_space p (mapped block p.space)) _ (window_start (length p.space.windows))
+      refl (ap (with_space p) (mapped-renamed names.rename block p.space)) (ap window_start (length-map p.space.windows _))
+      (record {
+        around = record { store = named.1; processes = both.around.processes };
+        own = mapped-named names.P block p.space named.0 both.own;
+      })
+
+  -- a call that goes on with the block that its first argument names
+  of_block-alike : (onward : Node → Turn → Process → ℕ × Block → Did)
+      → ((node : Node) (turn : Turn) (p : Process) (found : ℕ × Block) → AreNamedBoth names node p → names.P found.1.id
+      → AreDid names (onward (node_by names node) turn (process_by names p) (found_with names.rename found)) (onward node turn p found))
+      → IsCallAlike names (λ node turn p. reading node turn p (block_named p.space (argument p 0)) (onward node turn p))
+  of_block-alike onward each = record {
+    did = λ node turn p both.
+        reading-alike names node turn p (found_with names.rename) (λ found. names.P found.1.id) _ _ _ _ both
+        (named-renamed names.rename p.space (argument p 0)) (named-named names.P p.space (argument p 0) both.own)
+        (λ found new. each node turn p found both new);
+  }
+
+  xmalloc-alike : IsCallAlike names xmalloc
+  xmalloc-alike = record {
+    did = λ node turn p both.
+        if-alike names _ (nat_lt block_room (argument p 0) || not (has_unused_window p.space)) _ _ _ _
+        (ap (λ used. nat_lt block_room (argument p 0) || not (nat_lt used window_count)) (length-map p.space.windows _))
+        (answers-alike names node turn p 0 both) (maps_least-alike node turn p (argument p 0) node.store both both.around.store);
+  }
+
+  gives_up-same : (k : ℕ) (p : Process) → gives_up k (process_by names p) ≡ process_by names (gives_up k p)
+  gives_up-same k p = ap (with_space p) (unmapped-renamed names.rename k p.space)
+
+  frees-alike : (node : Node) (turn : Turn) (p : Process) (found : ℕ × Block) → AreNamedBoth names node p → names.P found.1.id
+      → AreDid names (frees (node_by names node) turn (process_by names p) (found_with names.rename found)) (frees node turn p found)
+  frees-alike node turn p found both new =
+      returns-alike names _ (record node { store = put found.1.id node.store }) turn _ (gives_up found.0 p) 0 0
+      (ap (λ store. record (node_by names node) { store = store }) (put-renamed names.rename names.P found.1.id node.store names.order new both.around.store))
+      (gives_up-same found.0 p) refl
+      (record {
+        around = record { store = put-named names.P found.1.id node.store new both.around.store; processes = both.around.processes };
+        own = unmapped-named names.P found.0 p.space both.own;
+      })
+
+  xfree-alike : IsCallAlike names xfree
+  xfree-alike = of_block-alike frees frees-alike
+
+  xlength-alike : IsCallAlike names xlength
+  xlength-alike =
+      of_block-alike (λ node turn p found. returns node turn p (length found.1.bytes))
+      (λ node turn p found both new. answers-alike names node turn p (length found.1.bytes) both)
+
+  -- ---- messages
+
+  sends_block-alike : (node : Node) (turn : Turn) (p : Process) (found : ℕ × Block) → AreNamedBoth names node p
+      → AreDid names (sends_block (node_by names node) turn (process_by names p) (found_with names.rename found)) (sends_block node turn p found)
+  sends_block-alike node turn p found both =
+      if-alike names _ (is_target node (place_named p 1)) _ _ _ _ refl
+      (says-alike names (node_by names node) node turn _ (gives_up found.0 p) _ (sends turn.pid ((place_named p 1, found.1.id) ∷ []) found.1.bytes) refl (gives_up-same found.0 p) refl)
+      (answers-alike names node turn p 1 both)
+
+  xsend-alike : IsCallAlike names xsend
+  xsend-alike = of_block-alike sends_block (λ node turn p found both new. sends_block-alike node turn p found both)
+
+  sends_copies-alike : (node : Node) (turn : Turn) (p : Process) (found : ℕ × Block) (places : List Place) → AreNamedBoth names node p → names.P found.1.id
+      → AreDid names (sends_copies (node_by names node) turn (process_by names p) (found_with names.rename found) places) (sends_copies node turn p found places)
+  sends_copies-alike node turn p found [] both new = frees-alike node turn p found both new
+  sends_copies-alike node turn p found (to ∷ others) both new =
+      if-alike names _ (not (list_all (is_target node) (to ∷ others))) _ _ _ _ refl
+      (answers-alike names node turn p 1 both)
+      (if-alike names _ (nat_lt (length node.store) (length others)) _ _ _ _ (ap (λ n. nat_lt n (length others)) (length-map node.store names.rename))
+      (answers-alike names node turn p 2 both)
+      (says-alike names _ (record node { store = drop (length others) node.store }) turn _ (gives_up found.0 p) _
+      (sends turn.pid (zip (to ∷ others) (found.1.id ∷ take (length others) node.store)) found.1.bytes)
+      (ap (λ store. record (node_by names node) { store = store }) (drop-map names.rename (length others) node.store))
+      (gives_up-same found.0 p)
+      (ap (λ ids. sends turn.pid (zip (to ∷ others) (names.rename found.1.id ∷ ids)) found.1.bytes) (take-map names.rename (length others) node.store)
+      ∙ ap (λ targets. sends turn.pid targets found.1.bytes) (zip-map names.rename (to ∷ others) (found.1.id ∷ take (length others) node.store)))))
+
+  map_same : {X : Type 0} (r : Result X Stop) → r ≡ result_map (λ x. x) r
+  map_same (Ok x) = refl
+  map_same (Err cause) = refl
+
+  each_ok : {X : Type 0} (r : Result X Stop) → EachOk (λ x. Unit {0}) r
+  each_ok (Ok x) = tt
+  each_ok (Err cause) = tt
+
+  xmsend_block-alike : (node : Node) (turn : Turn) (p : Process) (found : ℕ × Block) → AreNamedBoth names node p → names.P found.1.id
+      → AreDid names (xmsend_block (node_by names node) turn (process_by names p) (found_with names.rename found)) (xmsend_block node turn p found)
+  xmsend_block-alike node turn p found both new =
+      if-alike names _ (nat_lt greatest_targets (argument p 1)) _ _ _ _ refl
+      (answers-alike names node turn p 3 both)
+      (reading-alike names node turn p (λ places. places) (λ places. Unit {0}) _ (places_at p.space (argument p 2) (argument p 1)) _ _ both
+      (places-renamed names.rename p.space (argument p 2) (argument p 1) ∙ map_same (places_at p.space (argument p 2) (argument p 1)))
+      (each_ok (places_at p.space (argument p 2) (argument p 1)))
+      (λ places is. sends_copies-alike node turn p found places both new))
+
+  xmsend-alike : IsCallAlike names xmsend
+  xmsend-alike = of_block-alike xmsend_block xmsend_block-alike
+
+  -- ---- processes
+
+  spawn-alike : IsCallAlike names spawn
+  spawn-alike = record {
+    did = λ node turn p both.
+        if-alike names _ (not (is_place node.dim (place_named p 1))) _ _ _ _ refl
+        (answers-alike names node turn p 1 both)
+        (if-alike names _ (nat_lt (argument p 0) node.images) _ _ _ _ refl
+        (says-alike names (node_by names node) node turn (process_by names p) p _ (spawns turn.pid (argument p 0) (place_named p 1)) refl refl refl)
+        (answers-alike names node turn p 3 both));
+  }
+
+  ckill-alike : IsCallAlike names ckill
+  ckill-alike = record {
+    did = λ node turn p both.
+        if-alike names _ (is_place node.dim (place_named p 0)) _ _ _ _ refl
+        (says-alike names (node_by names node) node turn (process_by names p) p _ (kills turn.pid (place_named p 0)) refl refl refl)
+        (answers-alike names node turn p 1 both);
+  }
+
+  notes-alike : IsCallAlike names (λ node turn p. says_call node turn p (notes turn.pid (argument p 0)))
+  notes-alike = record {
+    did = λ node turn p both.
+        says-alike names (node_by names node) node turn (process_by names p) p _ (notes turn.pid (argument p 0)) refl refl refl;
+  }
+
+  -- ---- all calls
+
+  calls-alike : AllByRecursion (λ call. IsCallAlike names call.does) kernel_calls
+  unfolding kernel_calls
+  calls-alike =
+      xmalloc-alike and xfree-alike and xlength-alike and xsend-alike and xmsend-alike
+      and record { did = λ node turn p both. waits-alike names node turn p Polling (node.polling ++ turn.pid ∷ []) }
+      and record { did = λ node turn p both. waits-alike names node turn p Asking node.polling }
+      and spawn-alike and ckill-alike
+      and record { did = λ node turn p both. answers-alike names node turn p node.number both }
+      and record { did = λ node turn p both. answers-alike names node turn p turn.pid both }
+      and record { did = λ node turn p both. answers-alike names node turn p (2 ^ node.dim) both }
+      and record { did = λ node turn p both. stops-alike names node turn p (Exited (argument p 0)) both }
+      and notes-alike and tt
+
+  counted-alike : (call : KernelCall) (node : Node) (turn : Turn) (p : Process) → IsCallAlike names call.does → AreNamedBoth names node p
+      → AreDid names (counted_does call (node_by names node) turn (process_by names p)) (counted_does call node turn p)
+  counted-alike call node turn p alike both =
+      if-alike names _ (nat_lt turn.calls turn_calls) _ _ _ _ refl
+      (alike.did node (record turn { calls = turn.calls + 1 }) p both) (stops-alike names node turn p TurnSpent both)
+
+  does-alike : (call : Option KernelCall) (node : Node) (turn : Turn) (p : Process) → EachSome (λ call. IsCallAlike names call.does) call → AreNamedBoth names node p
+      → AreDid names (kernel_does call (node_by names node) turn (process_by names p)) (kernel_does call node turn p)
+  does-alike None node turn p alike both = stops-alike names node turn p (NoCall (call_number p)) both
+  does-alike (Some call) node turn p alike both =
+      if-alike names _ call.is_counted _ _ _ _ refl (counted-alike call node turn p alike both) (alike.did node turn p both)
+
+  pub kernel-alike : (node : Node) (turn : Turn) (p : Process) → AreNamedBoth names node p
+      → AreDid names (kernel (node_by names node) turn (process_by names p)) (kernel node turn p)
+  unfolding kernel
+  kernel-alike node turn p both =
+      does-alike (kernel_call (call_number p)) node turn p
+      (if_each (EachSome (λ call. IsCallAlike names call.does)) (call_number p == 0) _ _ tt
+      (all-get (λ call. IsCallAlike names call.does) kernel_calls (call_number p - 1) calls-alike))
+      both

@@ -1,0 +1,89 @@
+-- A node with other names for its blocks, and what changes of it are on the node with the first names.
+use Rattle.std.proofs.Common.{◌≡◌, ℕ, ◌+◌, ◌*◌, Bool, if◌then◌else◌, List, [], ◌∷◌, map, slice_get, slice_set, None, refl, ap, ap₂, ◌∙◌}
+use Rattle.std.specs.List.{AllByRecursion}
+use Rattle.rv_model.specs.declared.stop.Stop.{Stop}
+use Rattle.ce_model.specs.declared.process.Status.{Status}
+use Rattle.ce_model.specs.declared.process.Status.TheVariants.{Stopped}
+use Rattle.ce_model.specs.declared.topology.BlockId.{BlockId}
+use Rattle.ce_model.specs.Blocks.{put_all}
+use Rattle.ce_model.specs.Space.{mapped_ids}
+use Rattle.ce_model.specs.Process.{Process, unborn, ended, is_receiving, is_stopped}
+use Rattle.ce_model.specs.Node.{Node, process_at, with_process, without_poller, with_stopped, blocks_of, takes, ids_of, take_of}
+use Rattle.ce_model.specs.Renaming.{process_with}
+use Rattle.ce_solo.proofs.Renaming.Lists.{all-front, all-back, all-set, all-at, all-flat, all-weaker, at-map, set-map}
+use Rattle.ce_solo.proofs.Renaming.Memory.{IsNamedSpace, ids-renamed, emptied-renamed, ids-named, space-named}
+use Rattle.ce_solo.proofs.Renaming.Store.{IsOrderKept, AreNamed, put_all-renamed}
+
+-- all blocks of a node have names of these
+pub record IsNamed (P : BlockId → Type 0) (node : Node) : Type 0 where
+  pub store : AreNamed P node.store
+  pub processes : AllByRecursion (λ p. IsNamedSpace P p.space) node.processes
+
+-- a node with other names for its blocks, and for its home
+abbrev pub node_with : (BlockId → BlockId) → (ℕ → ℕ) → Node → Node
+node_with rename home node = record node {
+  home = home node.home;
+  processes = map (process_with rename) node.processes;
+  store = map rename node.store;
+}
+
+-- ---- names
+
+module _ (P : BlockId → Type 0) where
+  pub named-from : (node : Node) → AreNamed P (blocks_of node) → IsNamed P node
+  named-from node all = record {
+    store = all-front P node.store _ all;
+    processes = all-weaker (λ p. AreNamed P (mapped_ids p.space)) (λ p. IsNamedSpace P p.space) node.processes
+        (λ p. space-named P p.space)
+        (all-flat P (λ (p : Process). mapped_ids p.space) node.processes (all-back P node.store _ all));
+  }
+
+  pub process-named : (node : Node) (pid : ℕ) → IsNamed P node → IsNamedSpace P (process_at node pid).space
+  process-named node pid named = all-at (λ p. IsNamedSpace P p.space) node.processes pid unborn named.processes tt
+
+  pub with_process-named : (node : Node) (pid : ℕ) (p : Process) → IsNamed P node → IsNamedSpace P p.space → IsNamed P (with_process node pid p)
+  with_process-named node pid p named new = record {
+    store = named.store;
+    processes = all-set (λ p. IsNamedSpace P p.space) node.processes pid p named.processes new;
+  }
+
+-- ---- changes
+
+module _ (rename : BlockId → BlockId) (home : ℕ → ℕ) where
+  pub process-renamed : (node : Node) (pid : ℕ) → process_at (node_with rename home node) pid ≡ process_with rename (process_at node pid)
+  process-renamed node pid = at-map (process_with rename) node.processes pid unborn
+
+  pub with_process-renamed : (node : Node) (pid : ℕ) (p : Process)
+      → with_process (node_with rename home node) pid (process_with rename p) ≡ node_with rename home (with_process node pid p)
+  with_process-renamed node pid p =
+      ap (λ processes. record node { home = home node.home; processes = processes; store = map rename node.store })
+      (set-map (process_with rename) node.processes pid p)
+
+  ended-renamed : (cause : Stop) (p : Process) → ended cause (process_with rename p) ≡ process_with rename (ended cause p)
+  ended-renamed cause p = ap (λ space. record p { status = Stopped cause; space = space }) (emptied-renamed rename p.space)
+
+  pub with_stopped-renamed : (P : BlockId → Type 0) (node : Node) (pid : ℕ) (p : Process) (cause : Stop) → IsOrderKept rename P → IsNamed P node → IsNamedSpace P p.space
+      → with_stopped (node_with rename home node) pid (process_with rename p) cause ≡ node_with rename home (with_stopped node pid p cause)
+  with_stopped-renamed P node pid p cause order named own =
+      ap₂ (λ processes store. node_stopped processes store)
+      (ap (λ q. slice_set (map (process_with rename) node.processes) pid q) (ended-renamed cause p)
+      ∙ set-map (process_with rename) node.processes pid (ended cause p))
+      (ap (λ ids. put_all ids (map rename node.store)) (ids-renamed rename p.space)
+      ∙ put_all-renamed rename P (mapped_ids p.space) node.store order (ids-named P p.space own) named.store)
+    where
+      node_stopped : List Process → List BlockId → Node
+      node_stopped processes store = record node {
+        home = home node.home;
+        processes = processes;
+        store = store;
+        polling = without_poller pid node.polling;
+        turn = None;
+      }
+
+  ids-same : (test : Status → Bool) (ps : List Process) → ids_of test (map (process_with rename) ps) ≡ ids_of test ps
+  ids-same test [] = refl
+  ids-same test (p ∷ ps) = ap (λ n. (if test p.status then 1 else 0) + 2 * n) (ids-same test ps)
+
+  pub take-renamed : (node : Node) → take_of (node_with rename home node) ≡ take_of node
+  take-renamed node =
+      ap₂ (λ asking dead. takes asking dead (slice_get node.polling 0)) (ids-same is_receiving node.processes) (ids-same is_stopped node.processes)

@@ -1,0 +1,40 @@
+//! What is proved of each cube within the machine's limits and of each trace that it gives alone. The functions do nothing:
+//! a contract is the law, which proofs cite.
+ghost use Rattle.ce_solo.specs.Laws.{FreshIsSound, StaysSound, OneOwner, Waiting, Prefix, GoesOn, Renaming};
+
+/// A cube that has just been granted is sound.
+pub fn fresh_is_sound_law()
+    ensures law { FreshIsSound }
+{}
+
+/// What a trace leaves is sound again, if the cube was sound at its beginning.
+pub fn stays_sound_law()
+    ensures law { StaysSound }
+{}
+
+/// Each block of the cube has exactly one owner, after every front of the trace.
+pub fn one_owner_law()
+    ensures law { OneOwner }
+{}
+
+/// At most one start and one kill are sent to an id, and a parcel that a node was given is for a process
+/// that asks for one, or that has stopped.
+pub fn waiting_law()
+    ensures law { Waiting }
+{}
+
+/// For any two places, what the one got from the other is a front of what that one sent it, after every
+/// front of the trace.
+pub fn prefix_law()
+    ensures law { Prefix }
+{}
+
+/// A trace can be cut: what the cube gives alone from what the first part left, it gives behind that part.
+pub fn goes_on_law()
+    ensures law { GoesOn }
+{}
+
+/// A node with the machine's names for its blocks says and hears what the node with the cube's names does, renamed.
+pub fn renaming_law()
+    ensures law { Renaming }
+{}

@@ -1,0 +1,71 @@
+-- Heads that have added keep what they added.
+use Rattle.std.proofs.Common.{◌≡◌, ℕ, List, [], ◌∷◌, ◌++◌, sym, ap, ◌∙◌, append_assoc, length, arith}
+use Rattle.std.proofs.lemmas.List.{nil_from_length, length_push}
+use Rattle.ce_model.specs.declared.topology.TheConstants.{HOST}
+use Rattle.ce_lock.specs.declared.who.Who.{Who}
+use Rattle.ce_lock.specs.Entries.{IsPrefix, entries_of}
+use Rattle.ce_lock.specs.Meanings.{Meanings}
+use Rattle.ce_lock.specs.Sitting.{Sitting, BookFacts, IsSameSeat, IsNewHead, who, seen, earlier, mine, out}
+use Rattle.ce_tally.specs.declared.tally.Added.{Added}
+use Rattle.ce_tally.specs.Rows.{IsOnly, HasAmong, HasAdded, IsFresh, made_by}
+
+module _ {O : Type 0} (book : BookFacts O) where
+  -- a new head is fresh
+  pub fresh : {F : Type 0} (m : Meanings O Added F) (family : ℕ) (s : Sitting O Added) → IsNewHead m book family s → IsFresh book family s
+  fresh m family s new = record { of_book = new.of_book; actor = new.actor; nobody_out = new.nobody_out; nothing_earlier = new.nothing_earlier; nothing_made = new.nothing_made }
+
+  -- a fresh head has added its first number
+  pub added_first : (family number : ℕ) (s t : Sitting O Added) (e : Added)
+      → IsFresh book family s → IsSameSeat s t → out t ≡ out s → mine t ≡ mine s ++ e ∷ [] → e.number ≡ number → HasAdded book family number t
+  added_first family number s t e new same out_is mine_is number_is = record {
+    of_book = same.name ∙ new.of_book;
+    actor = same.actor ∙ new.actor;
+    nobody_out = out_is ∙ new.nobody_out;
+    nothing_earlier = same.since ∙ new.nothing_earlier;
+    only = record { entry = e; alone = mine_is ∙ ap (λ (l : List Added). l ++ e ∷ []) new.nothing_made; number_is = number_is };
+  }
+
+  -- a seat that stays the same has still added it
+  pub still_added : (family number : ℕ) (s t : Sitting O Added) → HasAdded book family number s → IsSameSeat s t → mine t ≡ mine s → out t ≡ out s → HasAdded book family number t
+  still_added family number s t h same mine_is out_is = record {
+    of_book = same.name ∙ h.of_book;
+    actor = same.actor ∙ h.actor;
+    nobody_out = out_is ∙ h.nobody_out;
+    nothing_earlier = same.since ∙ h.nothing_earlier;
+    only = record { entry = h.only.entry; alone = mine_is ∙ h.only.alone; number_is = h.only.number_is };
+  }
+
+  -- what it has added is all that its actor has in what it has seen
+  pub only_one : (family number : ℕ) (s : Sitting O Added)
+      → HasAdded book family number s → entries_of (λ (x : Added). x.who) (who s) (seen s) ≡ earlier s ++ mine s → IsOnly number (made_by family HOST (seen s))
+  only_one family number s h own = record {
+    entry = h.only.entry;
+    alone = ap (λ (w : Who). entries_of (λ (x : Added). x.who) w (seen s)) (sym h.actor) ∙ (own ∙ (ap (λ (l : List Added). l ++ mine s) h.nothing_earlier ∙ h.only.alone));
+    number_is = h.only.number_is;
+  }
+
+-- an entry at the end of a front part is among all
+pub among : (family actor number : ℕ) (before h : List Added) (e : Added) (seen_by : List Added) → seen_by ≡ before ++ e ∷ [] → IsPrefix seen_by h → e.who ≡ record { family = family; actor = actor } → e.number ≡ number → HasAmong family actor number h
+among family actor number before h e seen_by is p actor_is number_is = record {
+  front = before;
+  entry = e;
+  back = p.rest;
+  whole = sym (append_assoc before (e ∷ []) p.rest) ∙ (ap (λ (l : List Added). l ++ p.rest) (sym is) ∙ p.whole);
+  actor_is = actor_is;
+  number_is = number_is;
+}
+
+pub still_among : (family actor number : ℕ) (h k : List Added) → HasAmong family actor number h → IsPrefix h k → HasAmong family actor number k
+still_among family actor number h k a p = record {
+  front = a.front;
+  entry = a.entry;
+  back = a.back ++ p.rest;
+  whole = sym (append_assoc a.front (a.entry ∷ a.back) p.rest) ∙ (ap (λ (l : List Added). l ++ p.rest) a.whole ∙ p.whole);
+  actor_is = a.actor_is;
+  number_is = a.number_is;
+}
+
+-- a list of two, from its end
+pub two_of : {A : Type 0} (items mid front : List A) (a b : A) → items ≡ mid ++ b ∷ [] → mid ≡ front ++ a ∷ [] → length items ≡ 2 → items ≡ a ∷ b ∷ []
+two_of items mid front a b p q count = let none : length front ≡ 0 = omega (arith, ap length p, ap length q, length_push mid b, length_push front a) in
+    p ∙ ap (λ (l : List _). l ++ b ∷ []) (q ∙ ap (λ (l : List _). l ++ a ∷ []) (nil_from_length front none))

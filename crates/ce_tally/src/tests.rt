@@ -1,0 +1,116 @@
+//! The book, called from one thread and from many.
+ghost use Rattle.std.specs.Prelude.{◌≡◌, ◌+◌, ◌<◌, ◌≤◌, All, IfSome};
+ghost use Rattle.ce_lock.specs.Sitting.{IsOf};
+
+use crate::row::{calls_and_meets, close_both, two_heads};
+use crate::tally::{Add, Tally};
+use ce_lock::{Book, Seat, Who};
+use ce_model::HOST;
+use std::alloc::Global;
+use std::sync::Wait;
+use std::test::Fail;
+use std::thread;
+use std::thread::{Threads, join};
+
+// The calls of two heads and a worker, each answered by the sum before.
+#[test]
+fn book(rt: HostRuntime) -> Result<(), Fail> {
+    let met = calls_and_meets(&rt, rt.alloc()).ok_or("no memory")?;
+    let replies = met.replies;
+    assert_eq!(rt; replies, [0, 5, 12]);
+    let tally = close_both(rt.alloc(), met).ok_or("no memory")?;
+    assert_eq!(rt; tally.sum(), 13);
+    let added = tally.added();
+    assert_eq!(rt; added.len(), 3);
+    assert_eq!(rt;
+        [added[0].number, added[1].number, added[2].number],
+        [5, 7, 1]
+    );
+    assert_eq!(rt;
+        added[0].who,
+        Who {
+            family: 0,
+            actor: HOST
+        }
+    );
+    assert_eq!(rt;
+        added[2].who,
+        Who {
+            family: 0,
+            actor: 3
+        }
+    );
+    Ok(())
+}
+
+// One call of a seat.
+fn one_call<R: Wait>(
+    rt: &R,
+    alloc: Global,
+    book: &Book<Tally>,
+    mut seat: Seat<Tally>,
+    number: u64,
+) -> Option<u64>
+    requires { IsOf book.now seat }
+{
+    book.call(rt, alloc, &mut seat, Add(number)).ok()
+}
+
+// Two heads call at once: the answers of the two.
+fn both_at_once<R: Threads + Wait + Sync>(rt: &R, alloc: Global) -> Option<(u64, u64)> {
+    let (book, first, second) = two_heads(alloc)?;
+    let (five, seven) = join(
+        rt,
+        || one_call(rt, alloc, &book, first, 5),
+        || one_call(rt, alloc, &book, second, 7),
+    );
+    Some((five?, seven?))
+}
+
+// Whichever comes first gets 0, and the other what it added: never are both answered 0.
+#[test]
+fn two_heads_at_once(rt: HostRuntime) -> Result<(), Fail> {
+    for _ in 0..200 {
+        let both = both_at_once(&rt, rt.alloc()).ok_or("no memory")?;
+        assert!(rt; both == (0, 5) || both == (7, 0), "both got {both:?}");
+    }
+    Ok(())
+}
+
+// Adds 1 as often as said.
+fn many_calls<R: Wait>(
+    rt: &R,
+    alloc: Global,
+    book: &Book<Tally>,
+    mut seat: Seat<Tally>,
+    count: u32,
+) -> Option<()>
+    requires { IsOf book.now seat }
+{
+    for _ in 0..count {
+        let Ok(_) = book.call(rt, alloc, &mut seat, Add(1)) else {
+            return None;
+        };
+    }
+    Some(())
+}
+
+// Eight heads add 1 in threads of their own, a thousand times each. What a ninth is answered then is the sum.
+fn eight_threads<R: Threads + Wait + Sync>(rt: &R, alloc: Global) -> Option<u64> {
+    let Ok((book, mut heads)) = Book::new(alloc, Tally::new(alloc), 9) else {
+        return None;
+    };
+    let ninth = heads.pop()?;
+    let done = thread::map_vec(rt, heads, &|seat| many_calls(rt, alloc, &book, seat, 1000)).ok()?;
+    for part in done {
+        part?;
+    }
+    one_call(rt, alloc, &book, ninth, 0)
+}
+
+#[test]
+fn eight_threads_of_a_thousand_calls(rt: HostRuntime) -> Result<(), Fail> {
+    let sum = eight_threads(&rt, rt.alloc()).ok_or("no memory")?;
+    assert_eq!(rt; sum, 8000);
+    Ok(())
+}

@@ -1,0 +1,43 @@
+-- The lines of a text, and the parts of a line.
+use Rattle.std.specs.Prelude.{ℕ, Bool, nat_lt, if◌then◌else◌, List, [], ◌∷◌, Option, Some, None, length}
+use Rattle.std.specs.List.{slice_split, before_first, after_first, position_or_len}
+use Rattle.ce_text.specs.Bytes.{is_blank, is_line_feed, is_hash}
+
+-- ---- cutting
+
+-- what stands behind the first byte that passes, where there is one
+abbrev pub behind_first : (ℕ → Bool) → List ℕ → Option (List ℕ)
+behind_first test bytes = if nat_lt (position_or_len test bytes) (length bytes) then Some (after_first test bytes) else None
+
+-- what stands before the first byte that passes, and what stands behind it
+unfoldable pub cut : (ℕ → Bool) → List ℕ → List ℕ × Option (List ℕ)
+cut test bytes = (before_first test bytes, behind_first test bytes)
+
+-- the bytes without the blanks at their front
+unfoldable pub without_front_blanks : List ℕ → List ℕ
+without_front_blanks [] = []
+without_front_blanks (byte ∷ bytes) = if is_blank byte then without_front_blanks bytes else byte ∷ bytes
+
+-- a byte in front of bytes, but no blank in front of nothing
+abbrev pub onto_trimmed : ℕ → List ℕ → List ℕ
+onto_trimmed byte [] = if is_blank byte then [] else byte ∷ []
+onto_trimmed byte (next ∷ bytes) = byte ∷ next ∷ bytes
+
+-- the bytes without the blanks at their end
+unfoldable pub without_end_blanks : List ℕ → List ℕ
+without_end_blanks [] = []
+without_end_blanks (byte ∷ bytes) = onto_trimmed byte (without_end_blanks bytes)
+
+-- the bytes without the blanks at their ends
+unfoldable pub trimmed : List ℕ → List ℕ
+trimmed bytes = without_end_blanks (without_front_blanks bytes)
+
+-- ---- lines
+
+-- the pieces of a text between its line feeds
+abbrev pub lines : List ℕ → List (List ℕ)
+lines text = slice_split is_line_feed text
+
+-- what a line has before its comment, which begins with `#`
+unfoldable pub before_comment : List ℕ → List ℕ
+before_comment line = (cut is_hash line).0

@@ -1,0 +1,18 @@
+//! Lines of a text and what stands in them: comments, blanks, words, names and numbers. The languages that are written
+//! so are read above this crate.
+#![tactic(auto)]
+
+mod bytes;
+mod line;
+mod name;
+mod number;
+mod words;
+
+pub use bytes::{are_plain, has_byte, is_blank, is_digit, is_letter, is_plain};
+pub use line::{before_comment, cut_at, cut_at_blank, trimmed};
+pub use name::is_name;
+pub use number::number_of_digits;
+pub use words::next_word;
+
+#[cfg(test)]
+mod tests;

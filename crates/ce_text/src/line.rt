@@ -1,0 +1,86 @@
+//! The parts of a line.
+
+ghost use Rattle.std.specs.Prelude.{◌≡◌, ◌==◌, ◌<◌, ◌≤◌, length, position, IfSome};
+ghost use Rattle.std.specs.Option.{option_map};
+ghost use Rattle.ce_text.specs.Bytes.{is_blank};
+ghost use Rattle.ce_text.specs.Line.{cut, without_front_blanks, without_end_blanks, trimmed, before_comment};
+
+use crate::bytes::is_blank;
+
+fn place_of(bytes: &[u8], mark: u8) -> Option<usize>
+    ensures { result ≡ position (λ byte. byte == mark) bytes.now }
+{
+    bytes.iter().position(|byte| *byte == mark)
+}
+
+fn place_of_blank(bytes: &[u8]) -> Option<usize>
+    ensures { result ≡ position is_blank bytes.now }
+{
+    bytes.iter().position(|byte| is_blank(*byte))
+}
+
+/// What stands before the first `mark`, and what stands behind it, where there is one.
+pub fn cut_at(bytes: &[u8], mark: u8) -> (&[u8], Option<&[u8]>)
+    ensures parts { (result.0.now, option_map (λ rest. rest.now) result.1)
+        ≡ cut (λ byte. byte == mark) bytes.now }
+    ensures shorter { IfSome result.1 (λ rest. length rest.now < length bytes.now) }
+{
+    match place_of(bytes, mark) {
+        None => (bytes, None),
+        Some(place) => (&bytes[..place], Some(&bytes[place + 1..])),
+    }
+}
+
+/// What stands before the first blank, and what stands behind it, where there is one.
+pub fn cut_at_blank(bytes: &[u8]) -> (&[u8], Option<&[u8]>)
+    ensures parts { (result.0.now, option_map (λ rest. rest.now) result.1) ≡ cut is_blank bytes.now }
+    ensures shorter { IfSome result.1 (λ rest. length rest.now < length bytes.now) }
+{
+    match place_of_blank(bytes) {
+        None => (bytes, None),
+        Some(place) => (&bytes[..place], Some(&bytes[place + 1..])),
+    }
+}
+
+pub(crate) fn without_front_blanks(bytes: &[u8]) -> &[u8]
+    ensures value { result.now ≡ without_front_blanks bytes.now }
+    ensures shorter { length result.now ≤ length bytes.now }
+{
+    let mut rest = bytes;
+    while let [first, others @ ..] = rest {
+        if !is_blank(*first) {
+            break;
+        }
+        rest = others;
+    }
+    rest
+}
+
+fn without_end_blanks(bytes: &[u8]) -> &[u8]
+    ensures { result.now ≡ without_end_blanks bytes.now }
+{
+    let mut rest = bytes;
+    while let [others @ .., last] = rest {
+        if !is_blank(*last) {
+            break;
+        }
+        rest = others;
+    }
+    rest
+}
+
+/// The bytes without the blanks at their ends.
+#[tactic(auto, unfolding(crate::specs::Line::trimmed))]
+pub fn trimmed(bytes: &[u8]) -> &[u8]
+    ensures { result.now ≡ trimmed bytes.now }
+{
+    without_end_blanks(without_front_blanks(bytes))
+}
+
+/// What a line has before its comment, which begins with `#`.
+#[tactic(auto, unfolding(crate::specs::Line::before_comment))]
+pub fn before_comment(line: &[u8]) -> &[u8]
+    ensures { result.now ≡ before_comment line.now }
+{
+    cut_at(line, b'#').0
+}

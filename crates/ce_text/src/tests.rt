@@ -1,0 +1,50 @@
+use crate::{before_comment, cut_at, is_name, next_word, number_of_digits, trimmed};
+use std::test::Fail;
+
+#[test]
+fn parts_of_a_line(rt: HostRuntime) {
+    assert_eq!(rt; before_comment(b"nop # a # b"), b"nop ".as_slice());
+    assert_eq!(rt; trimmed(b" \t a b\r "), b"a b".as_slice());
+    assert_eq!(rt;
+        cut_at(b"a,b,c", b','),
+        (b"a".as_slice(), Some(b"b,c".as_slice()))
+    );
+    assert_eq!(rt;
+        next_word(b"  one\ttwo "),
+        Some((b"one".as_slice(), b"two ".as_slice()))
+    );
+    assert_eq!(rt; next_word(b" \r\t"), None);
+}
+
+#[test]
+fn names(rt: HostRuntime) {
+    for (text, longest, want) in [
+        (b"a_1".as_slice(), 3, true),
+        (b"a_1".as_slice(), 2, false),
+        (b"_".as_slice(), 16, true),
+        (b"1a".as_slice(), 16, false),
+        (b"".as_slice(), 16, false),
+        (b"a-b".as_slice(), 16, false),
+    ] {
+        assert_eq!(rt; is_name(text, longest), want, "{text:?}");
+    }
+}
+
+#[test]
+fn numbers(rt: HostRuntime) -> Result<(), Fail> {
+    for (text, base, want) in [
+        (b"0010".as_slice(), 10, Some(10)),
+        (b"fF".as_slice(), 16, Some(255)),
+        (b"4294967295".as_slice(), 10, Some(4_294_967_295)),
+        (b"4294967296".as_slice(), 10, None),
+        (b"".as_slice(), 10, None),
+        (b"1a".as_slice(), 10, None),
+    ] {
+        assert_eq!(rt;
+            number_of_digits(text, base, 4_294_967_295),
+            want,
+            "{text:?}"
+        );
+    }
+    Ok(())
+}

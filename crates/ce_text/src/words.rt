@@ -1,0 +1,22 @@
+//! Words between blanks.
+
+ghost use Rattle.std.specs.Prelude.{◌≡◌, ◌∷◌, [], ◌<◌, length, MatchOption, IfSome};
+ghost use Rattle.ce_text.specs.Words.{words};
+
+use crate::line::{cut_at_blank, without_front_blanks};
+
+/// The first word of a line, and what follows it; none where the line has no word.
+pub fn next_word(line: &[u8]) -> Option<(&[u8], &[u8])>
+    ensures words { MatchOption result (words line.now ≡ [])
+        (λ found. words line.now ≡ found.0.now ∷ words found.1.now) }
+    ensures shorter { IfSome result (λ found. length found.1.now < length line.now) }
+{
+    let rest = without_front_blanks(line);
+    if rest.is_empty() {
+        return None;
+    }
+    match cut_at_blank(rest) {
+        (word, None) => Some((word, &[])),
+        (word, Some(behind)) => Some((word, behind)),
+    }
+}

@@ -1,0 +1,15 @@
+//! The mail of a cube: parcels on their way, what a node says and hears, and the queue of what waits for a node.
+#![tactic(auto)]
+
+mod batch;
+mod mailbox;
+mod parcel;
+mod talk;
+
+pub use batch::Batch;
+pub use mailbox::Mailbox;
+pub use parcel::{Item, Parcel};
+pub use talk::{Heard, Say};
+
+#[cfg(test)]
+mod tests;

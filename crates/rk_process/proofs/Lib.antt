@@ -1,0 +1,5 @@
+pub mod Found
+pub mod Goners
+pub mod Keeping
+pub mod Reaching
+pub mod Spots

@@ -1,0 +1,16 @@
+-- What a run comes to, by what the code answers.
+use Rattle.std.specs.Prelude.{ℕ, List}
+use Rattle.ce_model.specs.declared.process.Status.{Status}
+use Rattle.ce_model.specs.Space.{Space}
+use Rattle.ce_model.specs.Process.{Process, Reached, at_call, at_stop}
+use Rattle.rk_process.specs.declared.paused.Paused.{Paused}
+use Rattle.rk_process.specs.declared.paused.Paused.TheVariants.{Call, Stopped}
+
+-- the process is at this point of its turn, with so many instructions left
+abbrev pub reached_at : Paused → ℕ → Process → Reached
+reached_at Call left p = at_call left p
+reached_at (Stopped cause) left p = at_stop left p cause
+
+-- a process by its parts
+abbrev pub process_at : Status → List ℕ → ℕ → Space → Process
+process_at status regs pc space = record { status = status; regs = regs; pc = pc; space = space }

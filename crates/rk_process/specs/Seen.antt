@@ -1,0 +1,60 @@
+-- A process as the model sees it: what it has of its own, and the blocks that its node holds for it.
+use Rattle.std.specs.Prelude.{ℕ, List, [], map, replicate, Option}
+use Rattle.std.specs.List.{range_with_len}
+use Rattle.rv_model.specs.Private.{with_loaded}
+use Rattle.ce_model.specs.declared.process.Status.{Status}
+use Rattle.ce_model.specs.declared.process.Status.TheVariants.{Unborn}
+use Rattle.ce_model.specs.Blocks.{Block}
+use Rattle.ce_model.specs.Space.{Space}
+use Rattle.ce_model.specs.Process.{Process, register_count}
+use Rattle.xm_owner.specs.Holdings.{Mapping, Holding, held_at, without_process}
+
+-- what a process does, its registers, its pc, its private memory, and how many windows it has used
+pub record Own : Type 0 where
+  pub status : Status
+  pub regs : List ℕ
+  pub pc : ℕ
+  pub private : List ℕ
+  pub used : ℕ
+
+-- what the windows of a process hold that has used so many
+unfoldable pub windows_of : List Mapping → ℕ → ℕ → List (Option Block)
+windows_of mappings pid used = map (held_at mappings pid) (range_with_len 0 used)
+
+abbrev pub space_of : List ℕ → List Mapping → ℕ → ℕ → Space
+space_of private mappings pid used = record { private = private; windows = windows_of mappings pid used }
+
+-- the process of this id, with the blocks that are held for it
+abbrev pub process_of : Own → ℕ → Holding → Process
+process_of own pid held = record {
+  status = own.status;
+  regs = own.regs;
+  pc = own.pc;
+  space = space_of own.private held.mappings pid own.used;
+}
+
+-- where a block is mapped: the process, and its window
+abbrev pub place_of : Mapping → ℕ × ℕ
+place_of mapping = (mapping.pid, mapping.window)
+
+-- all that a process's instructions leave as it is: who it is, how many windows it has used, which windows of its node hold
+-- a block, what the other processes hold, and the room that is left
+pub record Rest : Type 0 where
+  pub pid : ℕ
+  pub used : ℕ
+  pub windows : List (ℕ × ℕ)
+  pub others : List Mapping
+  pub spare : ℕ
+
+abbrev pub rest_of : ℕ → ℕ → Holding → Rest
+rest_of pid used held = record {
+  pid = pid;
+  used = used;
+  windows = map place_of held.mappings;
+  others = without_process pid held.mappings;
+  spare = held.spare;
+}
+
+-- what a process has that wasn't started yet
+abbrev pub unborn_own : Own
+unborn_own = record { status = Unborn; regs = replicate register_count 0; pc = 0; private = with_loaded []; used = 0 }

@@ -1,0 +1,196 @@
+ghost use Rattle.std.specs.Prelude.{◌≡◌, ◌<◌, ◌+◌, IfOk, slice_index, slice_set, ℕ};
+ghost use Rattle.ce_model.specs.Limits.{window_count};
+ghost use Rattle.ce_model.specs.Process.{started, reached, register_count};
+ghost use Rattle.ce_model.specs.Space.{loaded_at};
+ghost use Rattle.xm_owner.specs.Holdings.{Holding};
+ghost use Rattle.rk_process.specs.Runs.{reached_at, process_at};
+ghost use Rattle.ce_model.specs.declared.process.Status.{Status};
+ghost use Rattle.rk_process.specs.Memories.{memory_seen, memory_rest};
+ghost use Rattle.rk_process.specs.Seen.{process_of, space_of, rest_of, unborn_own};
+
+use crate::Paused;
+use crate::memory::{ProcessMemory, Windows, load_at};
+use ce_model::{NoMemory, Status};
+use rv_image::Image;
+use rv_model::{PRIVATE_END, Stop};
+use rv_step::{Event, PrivateMemory, Regs, step};
+use std::alloc::Global;
+use std::marker::Model;
+use std::mem;
+use xm_owner::Held;
+
+/// The registers of the calling convention: the stack pointer, and that of a kernel call's answer.
+const SP: u8 = 2;
+
+const A0: u8 = 10;
+
+/// A process of a node: its state, its registers, its private memory, and how many windows it has used. The blocks in its
+/// windows are in the map of its node.
+#[derive(Drop)]
+pub struct Process {
+    status: Status,
+    registers: Regs,
+    pc: u32,
+    memory: ProcessMemory,
+}
+
+impl Model for Process {
+    ghost use Rattle.rk_process.specs.Seen.{Own};
+
+    ghost Value = { Own };
+
+    ghost view = { λ p. record { status = p.status; regs = p.registers.x; pc = p.pc; private = p.memory.private; used = p.memory.windows.used } };
+}
+
+impl Process {
+    /// A process that wasn't started yet. `NoMemory` may come at any time.
+    pub fn new(alloc: Global) -> Result<Process, NoMemory>
+        ensures { IfOk result (λ p. p ≡ unborn_own) }
+    {
+        Ok(Process {
+            status: Status::Unborn,
+            registers: Regs::new(),
+            pc: 0,
+            memory: ProcessMemory {
+                private: PrivateMemory::new(alloc)?,
+                held: Held::new(alloc, 0)?,
+                windows: Windows { pid: 0, used: 0 },
+            },
+        })
+    }
+
+    /// Starts the process from an image: its bytes at the start of private memory and zeros behind them, the pc at its entry,
+    /// the stack pointer at the end of private memory, all other registers 0, and no window used. It must not have been
+    /// started yet.
+    #[tactic(auto, unfolding(crate::specs::Seen::windows_of))]
+    pub fn start(&mut self, image: &Image)
+        requires { self.old.status ≡ Status.Unborn }
+        ensures { (pid : ℕ) (held : Holding) → process_of self.new pid held ≡ started image.now }
+    {
+        self.memory.private.load_image(image.loaded());
+        self.memory.windows.used = 0;
+        self.registers = Regs::new();
+        self.registers.set(SP, PRIVATE_END);
+        self.pc = image.entry();
+        self.status = Status::Running;
+    }
+
+    /// What the process does at this moment.
+    pub fn status(&self) -> Status
+        ensures { result ≡ self.now.status }
+    {
+        self.status
+    }
+
+    /// How many windows it has used.
+    pub fn windows(&self) -> u32
+        ensures { result ≡ self.now.used }
+    {
+        self.memory.windows.used
+    }
+
+    /// The value of a register, of 0 to 31.
+    pub fn reg(&self, index: u32) -> u32
+        requires { index < register_count }
+        ensures { result ≡ slice_index self.now.regs index }
+    {
+        self.registers.get(index as u8)
+    }
+
+    /// Says what the process does from now on.
+    pub fn set_status(&mut self, status: Status)
+        ensures { self.new ≡ record self.old { status = status } }
+    {
+        self.status = status;
+    }
+
+    /// Uses the next window, and answers its number; fewer than 32,768 were used.
+    #[tactic(auto, unfolding(ce_model::specs::Limits::window_count))]
+    pub fn give_window(&mut self) -> u32
+        requires { self.old.used < window_count }
+        ensures window { result ≡ self.old.used }
+        ensures after { self.new ≡ record self.old { used = self.old.used + 1 } }
+    {
+        let window = self.memory.windows.used;
+        self.memory.windows.used = window + 1;
+        window
+    }
+
+    /// Answers a kernel call: the value goes to a0.
+    pub fn answer(&mut self, value: u32)
+        ensures { self.new ≡ record self.old { regs = slice_set self.old.regs 10 value } }
+    {
+        self.registers.set(A0, value);
+    }
+
+    /// Makes it a process that wasn't started yet.
+    pub fn reset(&mut self)
+        ensures { self.new ≡ unborn_own }
+    {
+        self.memory.private.load_image(&[]);
+        self.memory.windows.used = 0;
+        self.registers = Regs::new();
+        self.pc = 0;
+        self.status = Status::Unborn;
+    }
+
+    /// The word that a load of size 4 at this address gives, or why it would stop the process; nothing changes. `pid` is the
+    /// process's id, and `held` its node's map.
+    pub fn load_word(&self, pid: u32, held: &Held, addr: u32) -> Result<u32, Stop>
+        ensures { result ≡ loaded_at (space_of self.now.private held.now.mappings pid self.now.used) addr 4 }
+    {
+        let windows = Windows {
+            pid,
+            used: self.memory.windows.used,
+        };
+        load_at(&self.memory.private, held, windows, addr, 4)
+    }
+
+    /// Runs instructions of the process, taking one from `left` for each, up to an ECALL or to its stop. The stop is
+    /// `TurnSpent` exactly where `left` is 0 and one more would run. The process is in its turn; `pid` is its id, and `held`
+    /// its node's map, of which it changes nothing but bytes in its own windows.
+    pub fn run_to_call(&mut self, pid: u32, held: &mut Held, left: &mut u32) -> Paused
+        requires { self.old.status ≡ Status.Running }
+        ensures reached { reached left.old (process_of self.old pid held.old)
+            ≡ reached_at result left.new (process_of self.new pid held.new) }
+        ensures status { self.new.status ≡ self.old.status }
+        ensures rest { rest_of pid self.new.used held.new ≡ rest_of pid self.old.used held.old }
+    {
+        self.memory.windows.pid = pid;
+        mem::swap(&mut self.memory.held, held);
+        let paused = run(&mut self.registers, &mut self.pc, &mut self.memory, left);
+        mem::swap(&mut self.memory.held, held);
+        paused
+    }
+}
+
+/// Runs instructions up to an ECALL or a stop. While they run, the pc and what is left are held apart, and they are written
+/// back at the end.
+fn run(registers: &mut Regs, pc: &mut u32, memory: &mut ProcessMemory, left: &mut u32) -> Paused
+    ensures reached { (status : Status)
+        → reached left.old (process_at status registers.old.x pc.old (memory_seen memory.old))
+        ≡ reached_at result left.new (process_at status registers.new.x pc.new (memory_seen memory.new)) }
+    ensures rest { memory_rest memory.new ≡ memory_rest memory.old }
+{
+    let mut at = *pc;
+    let mut remaining = *left;
+    while remaining > 0 {
+        remaining -= 1;
+        match step(registers, &mut at, memory) {
+            Event::Went => {}
+            Event::Call => {
+                *pc = at;
+                *left = remaining;
+                return Paused::Call;
+            }
+            Event::Stopped(cause) => {
+                *pc = at;
+                *left = remaining;
+                return Paused::Stopped(cause);
+            }
+        }
+    }
+    *pc = at;
+    *left = 0;
+    Paused::Stopped(Stop::TurnSpent)
+}
