@@ -1,8 +1,8 @@
 -- A book begins with its rule, and seats that come, go and meet keep it.
-use Rattle.std.proofs.Common.{◌≡◌, ◌≢◌, ℕ, zero, suc, ◌+◌, ◌^◌, ◌%◌, ◌<◌, ◌≤◌, Bool, true, false, List, [], ◌∷◌, ◌++◌, map, length, set, refl, sym, ap, ◌∙◌, subst, inl, inr, ⊎_elim, ◌⊎◌, arith, Some, None, length-append, lit<}
+use Rattle.std.proofs.Common.{◌≡◌, ◌≢◌, ℕ, ◌+◌, ◌^◌, ◌<◌, ◌≤◌, true, false, List, [], ◌∷◌, ◌++◌, map, length, set, refl, sym, ap, ◌∙◌, subst, ⊎_elim, arith, length-append, lit<}
 use Rattle.std.proofs.lemmas.List.{append-nil, nil_from_length}
 use mathlib.Core.Logic.{dite}
-use mathlib.Core.Option.{some, none, some-injective, some-ne-none}
+use mathlib.Core.Option.{some, some-injective, some-ne-none}
 use native.Mathlib.Decide.{ℕ_discrete}
 use lib.ListN.{get_elem?}
 use lib.Seq.{map-set}
@@ -12,17 +12,16 @@ use Rattle.ce_model.specs.declared.topology.TheConstants.{HOST}
 use Rattle.ce_lock.specs.declared.view.Place.{Place}
 use Rattle.ce_lock.specs.declared.view.Right.{Right}
 use Rattle.ce_lock.specs.declared.view.Last.{Last}
-use Rattle.ce_lock.specs.declared.view.Page.{Page}
 use Rattle.ce_lock.specs.declared.view.View.{View}
-use Rattle.ce_lock.specs.Entries.{IsPrefix, longer, Every, AtEach, IsIn, without, entries_of, IsForeign}
+use Rattle.ce_lock.specs.Entries.{longer, Every, AtEach, IsIn}
 use Rattle.ce_lock.specs.Meanings.{Meanings}
-use Rattle.ce_lock.specs.OneOrder.{IsQueue, IsFair, IsHeaded, IsSeated, IsGone, who_of, IsMissable, IsLast, IsTold, IsInOrder}
+use Rattle.ce_lock.specs.OneOrder.{IsQueue, IsFair, IsHeaded, IsSeated, IsGone, IsMissable, IsLast, IsTold}
 use Rattle.ce_lock.specs.Telling.{nowhere, nobody, copy, making, next_head, sending, sent, met, taking, last_of, closing, spent, first_view, IsLeft}
-use Rattle.ce_lock.proofs.Seats.{at_same, at_other, at_one, at_added, map_added, map_kept, each_kept, each_set, each_added, each_unset, below}
+use Rattle.ce_lock.proofs.Seats.{at_same, at_other, at_one, at_added, map_added, map_kept, each_kept, each_added, each_unset}
 use Rattle.ce_lock.proofs.Tickets.{come}
-use Rattle.ce_lock.proofs.Fair.{used, still_in, copy_comes, copy_gone, sends, sent_gone, makes, made_gone, spent_gone, copy_goes, head_goes, head_gone, last_of_family, takes_back, back_gone}
+use Rattle.ce_lock.proofs.Fair.{used, still_in, copy_comes, copy_gone, sends, sent_gone, makes, made_gone, spent_gone, copy_goes, head_goes, head_gone, takes_back, back_gone}
 use Rattle.ce_lock.proofs.Histories.{every_map, every_both, every_back, told_copy, told_fresh, told_sent, told_sender, told_joins, told_last, longer_is}
-use Rattle.ce_lock.proofs.Moves.{is_true_or_false, V, St, Rule, place_of, right_of, Home, Longest, right_at, place_at, not_spent}
+use Rattle.ce_lock.proofs.Moves.{is_true_or_false, Rule, right_at, place_at, not_spent}
 
 clash : {P : Type 0} → false ≡ true → P
 clash e = absurd (cc)

@@ -1,5 +1,5 @@
 -- Who may draw: what is fair stays so, whatever seat comes or goes.
-use Rattle.std.proofs.Common.{◌≡◌, ◌≢◌, ℕ, zero, suc, ◌+◌, ◌^◌, ◌<◌, ◌≤◌, Bool, true, false, List, [], ◌∷◌, ◌++◌, set, refl, sym, ap, ◌∙◌, subst, inl, inr, ⊎_elim, ◌⊎◌, arith, length, eqb, eq-eqb, ne_eqb, cond, lit<}
+use Rattle.std.proofs.Common.{◌≡◌, ◌≢◌, ℕ, ◌+◌, ◌^◌, ◌<◌, true, false, List, [], ◌∷◌, ◌++◌, set, refl, sym, ap, ◌∙◌, subst, inl, inr, ⊎_elim, ◌⊎◌, arith, length, eq-eqb, ne_eqb, cond, lit<}
 use mathlib.Core.Logic.{dite}
 use mathlib.Core.Option.{some}
 use native.Mathlib.Decide.{ℕ_discrete}
@@ -7,7 +7,7 @@ use lib.ListN.{get_elem?}
 use Rattle.atomic_table.proofs.Lists.{at_set, at_longer}
 use Rattle.ce_model.specs.declared.topology.TheConstants.{HOST}
 use Rattle.ce_lock.specs.declared.view.Right.{Right}
-use Rattle.ce_lock.specs.Entries.{AtEach, IsIn, without}
+use Rattle.ce_lock.specs.Entries.{IsIn, without}
 use Rattle.ce_lock.specs.OneOrder.{IsFair, IsHeaded, IsSeated, IsGone}
 use Rattle.ce_lock.specs.Telling.{nobody}
 use Rattle.ce_lock.proofs.Seats.{at_same, at_other, at_one, at_end, each_kept, each_set, each_added, at_added}

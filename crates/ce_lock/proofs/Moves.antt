@@ -1,30 +1,29 @@
 -- Each step on a word keeps the rule of the book, and tells what it is to tell.
-use Rattle.std.proofs.Common.{◌≡◌, ◌≢◌, ℕ, zero, suc, ◌+◌, ◌-◌, ◌*◌, ◌^◌, ◌%◌, ◌<◌, ◌≤◌, Bool, true, false, List, [], ◌∷◌, ◌++◌, map, length, get_or, set, refl, sym, ap, ◌∙◌, subst, inl, inr, ⊎_elim, ◌⊎◌, arith, Some, add-one, length-append, length-set, lit<}
+use Rattle.std.proofs.Common.{◌≡◌, ◌≢◌, ℕ, suc, ◌+◌, ◌-◌, ◌*◌, ◌^◌, ◌%◌, ◌<◌, ◌≤◌, Bool, true, false, List, [], ◌∷◌, ◌++◌, map, length, get_or, set, refl, sym, ap, ◌∙◌, subst, inl, inr, ⊎_elim, ◌⊎◌, arith, Some, add-one, length-append}
 use Rattle.std.proofs.Math.Nat.{mod-add-mod, mod-eq_of_lt}
-use Rattle.std.proofs.lemmas.List.{append-nil, append_cancel_left, length_push}
+use Rattle.std.proofs.lemmas.List.{append_cancel_left, length_push}
 use mathlib.Core.Logic.{dite}
 use mathlib.Core.Option.{Option, some, none}
-use native.Mathlib.Decide.{ℕ_discrete, dec_lt}
+use native.Mathlib.Decide.{ℕ_discrete}
 use lib.ListN.{get_elem?}
 use lib.Seq.{set-get_or, map-set}
-use Rattle.atomic_table.specs.Table.{State, Me, Act, keeps, takes, gives, stepped, homes_after, put_back, rest, Allows}
+use Rattle.atomic_table.specs.Table.{State, Me, keeps, takes, gives, put_back, rest, Allows}
 use Rattle.atomic_table.proofs.Lists.{set_again, at_map, set_here}
 use Rattle.ce_model.specs.declared.topology.TheConstants.{HOST}
 use Rattle.ce_lock.specs.declared.who.Who.{Who}
 use Rattle.ce_lock.specs.declared.view.Place.{Place}
 use Rattle.ce_lock.specs.declared.view.Right.{Right}
 use Rattle.ce_lock.specs.declared.view.Last.{Last}
-use Rattle.ce_lock.specs.declared.view.Page.{Page}
 use Rattle.ce_lock.specs.declared.view.View.{View}
-use Rattle.ce_lock.specs.Entries.{IsPrefix, Every, AtEach, IsIn, entries_of, IsForeign}
+use Rattle.ce_lock.specs.Entries.{IsPrefix, Every, AtEach, IsIn, entries_of}
 use Rattle.ce_lock.specs.Meanings.{Meanings}
 use Rattle.ce_lock.specs.OneOrder.{IsQueue, IsFair, IsGone, who_of, IsMissable, IsTold, IsInOrder}
 use Rattle.ce_lock.specs.Telling.{nowhere, waiting, called, holding, moved, reading, wrote, settled, Drew, Looked, Gave, Left, Took, Committed, Settled}
-use Rattle.ce_lock.proofs.Seats.{at_same, at_other, at_one, at_unmap, map_kept, each_kept, each_set, each_unset, below}
+use Rattle.ce_lock.proofs.Seats.{at_same, at_other, at_one, at_unmap, map_kept, each_kept, each_set, each_unset}
 use Rattle.ce_lock.proofs.Tickets.{retell, draw, leave, one_at_turn, served}
 use Rattle.ce_lock.proofs.Fair.{its_head}
 use Rattle.ce_lock.proofs.Pigeons.{at_most}
-use Rattle.ce_lock.proofs.Histories.{foreign_missed, own_missed, told_grows, told_wrote, told_reads, told_settles, every_append, every_map, prefix_grows, between}
+use Rattle.ce_lock.proofs.Histories.{foreign_missed, own_missed, told_grows, told_wrote, told_reads, told_settles, every_append, every_map, between}
 
 clash : {P : Type 0} → false ≡ true → P
 clash e = absurd (cc)

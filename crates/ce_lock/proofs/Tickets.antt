@@ -1,14 +1,13 @@
 -- The queue keeps its points, step by step.
-use Rattle.std.proofs.Common.{◌≡◌, ◌≢◌, ℕ, zero, suc, ◌+◌, ◌-◌, ◌*◌, ◌^◌, ◌%◌, ◌<◌, ◌≤◌, Bool, true, false, List, [], ◌∷◌, ◌++◌, set, refl, sym, ap, ◌∙◌, subst, ⊎_elim, ◌⊎◌, arith, length}
+use Rattle.std.proofs.Common.{◌≡◌, ◌≢◌, ℕ, suc, ◌+◌, ◌^◌, ◌%◌, ◌<◌, ◌≤◌, true, false, List, [], ◌∷◌, ◌++◌, set, refl, sym, ap, ◌∙◌, ⊎_elim, arith, length}
 use mathlib.Core.Logic.{dite}
 use mathlib.Core.Option.{some}
 use native.Mathlib.Decide.{ℕ_discrete}
 use lib.ListN.{get_elem?}
 use Rattle.atomic_table.proofs.Lists.{at_set, at_longer, one_turn}
 use Rattle.ce_lock.specs.declared.view.Place.{Place}
-use Rattle.ce_lock.specs.Entries.{AtEach}
 use Rattle.ce_lock.specs.OneOrder.{IsQueue}
-use Rattle.ce_lock.specs.Telling.{nowhere, waiting, called, holding}
+use Rattle.ce_lock.specs.Telling.{nowhere, waiting}
 use Rattle.ce_lock.proofs.Seats.{at_same, at_other, at_one, each_kept, each_set, each_added, at_added}
 
 false_true : {P : Type 0} → false ≡ true → P

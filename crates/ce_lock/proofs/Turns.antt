@@ -1,17 +1,16 @@
 -- A turn: what the caller sees and makes of the history while it has the object.
-use Rattle.std.proofs.Common.{◌≡◌, ◌≢◌, ℕ, ◌+◌, ◌^◌, ◌<◌, Bool, true, false, List, [], ◌∷◌, ◌++◌, length, refl, sym, ap, ◌∙◌, subst, inl, inr, Some, Ok, Err, Result, append_assoc}
+use Rattle.std.proofs.Common.{◌≡◌, ℕ, ◌^◌, ◌<◌, Bool, true, List, [], ◌∷◌, ◌++◌, length, sym, ap, ◌∙◌, subst, Some, Ok, Err, Result, append_assoc}
 use Rattle.std.proofs.lemmas.List.{append-nil}
 use Rattle.atomic_table.specs.Table.{Me, rest}
 use Rattle.ce_model.specs.declared.topology.TheConstants.{HOST}
 use Rattle.ce_lock.specs.declared.who.Who.{Who}
-use Rattle.ce_lock.specs.declared.view.Place.{Place}
 use Rattle.ce_lock.specs.declared.view.View.{View}
-use Rattle.ce_lock.specs.Entries.{IsPrefix, Every, IsForeign, entries_of}
+use Rattle.ce_lock.specs.Entries.{Every, IsForeign, entries_of}
 use Rattle.ce_lock.specs.Meanings.{Meanings}
 use Rattle.ce_lock.specs.OneOrder.{who_of}
-use Rattle.ce_lock.specs.Telling.{nowhere, waiting, called, holding, moved, reading, wrote, Drew, Took, Committed, Gave, Left}
+use Rattle.ce_lock.specs.Telling.{called, holding, moved, reading, wrote, Took, Committed, Gave}
 use Rattle.atomic_table.specs.Seated.{TableId}
-use Rattle.ce_lock.specs.Sitting.{IsAnswer, IsTurn, IsSound, IsKnown}
+use Rattle.ce_lock.specs.Sitting.{IsTurn, IsSound, IsKnown}
 use Rattle.ce_lock.proofs.Histories.{own_missed, own_mine, of_actor}
 use Rattle.ce_lock.proofs.Moves.{object_or}
 

@@ -1,5 +1,5 @@
 -- What the rule of a book knows of the object.
-use Rattle.std.specs.Prelude.{ℕ, Bool, List}
+use Rattle.std.specs.Prelude.{Bool, List}
 use Rattle.ce_lock.specs.declared.who.Who.{Who}
 
 -- the meanings of an object O with entries E, whose fixed data are F

@@ -1,15 +1,15 @@
 -- Books and seats as their callers see them.
-use Rattle.std.specs.Prelude.{◌≡◌, ◌≢◌, ◌⊎◌, ℕ, ◌+◌, ◌^◌, ◌%◌, ◌<◌, true, false, List, [], ◌∷◌, ◌++◌, map, length, Option, Some, Result, MatchResult, slice_index_or}
+use Rattle.std.specs.Prelude.{◌≡◌, ◌≢◌, ℕ, ◌^◌, ◌<◌, true, false, List, [], ◌∷◌, ◌++◌, length, Option, Some, Result, MatchResult}
 use Rattle.atomic_table.specs.Table.{Me}
 use Rattle.atomic_table.specs.Seated.{TableId}
 use Rattle.atomic_table.specs.declared.shared.Seat.{Seat}
 use Rattle.ce_model.specs.declared.topology.TheConstants.{HOST}
 use Rattle.ce_lock.specs.declared.who.Who.{Who}
 use Rattle.ce_lock.specs.declared.view.View.{View}
-use Rattle.ce_lock.specs.Entries.{IsPrefix, Every, IsIn, entries_of, IsForeign}
+use Rattle.ce_lock.specs.Entries.{Every, entries_of, IsForeign}
 use Rattle.ce_lock.specs.Meanings.{Meanings}
 use Rattle.ce_lock.specs.OneOrder.{who_of}
-use Rattle.ce_lock.specs.Telling.{nowhere, waiting, called, moved, reading, wrote}
+use Rattle.ce_lock.specs.Telling.{nowhere, reading, wrote}
 
 -- a book: which table it is, the object that it was made of, and how many families it has
 pub record BookFacts (O : Type 0) : Type 0 where

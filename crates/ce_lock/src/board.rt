@@ -1,6 +1,5 @@
-//! The table that the seats of a book share.
-//! Word 0 is the next ticket, word 1 the ticket that is served, word 2 the number of entries, all modulo
-//! 2^64. The one slot holds the object.
+//! The table that the seats of a book share. Word 0 is the next ticket, word 1 the ticket that is
+//! served, word 2 the number of entries, all modulo 2^64. The one slot holds the object.
 use crate::kept::Kept;
 use crate::view::View;
 use atomic_table::{Seat, Shared, Table, TableRule};
@@ -36,7 +35,8 @@ impl<O: Kept> TableRule<O, View<O, O::Entry>, About<O>> for InOneOrder<O> {
     ghost use Rattle.ce_lock.specs.OneOrder.{IsInOrder};
     ghost use Rattle.ce_lock.specs.Telling.{first_view};
 
-    ghost holds = { λ about. IsInOrder (meanings O.fixed O.history O.lawful O.whose O.alone_entry) about.opening.value about.families };
+    ghost holds = { λ about. IsInOrder (meanings O.fixed O.history O.lawful O.whose O.alone_entry)
+        about.opening.value about.families };
 
     ghost first = { λ about. first_view about.opening.value };
 }

@@ -18,8 +18,8 @@ use std::alloc::Global;
 use std::marker::{Brand, Model};
 use std::sync::Wait;
 
-/// An object that many threads call, one at a time, in the order of their tickets. Contracts see which book it
-/// is, the object that it was made of, and the number of families.
+/// An object that many threads call, one at a time, in the order of their tickets. Contracts see
+/// which book it is, the object that it was made of, and the number of families.
 #[derive(Drop)]
 pub struct Book<O: Kept> {
     pub(crate) table: Holding<O>,
@@ -52,7 +52,8 @@ impl<O: Kept> Book<O> {
         ensures fresh { mine result ≡ [] }
         ensures earlier { earlier result ≡ entries_of O.whose (who result) (seen head.old) }
         ensures nobody_out { out result ≡ [] }
-        ensures known { IsKnown (meanings O.fixed O.history O.lawful O.whose O.alone_entry) self.now.opening result }
+        ensures known { IsKnown (meanings O.fixed O.history O.lawful O.whose O.alone_entry)
+            self.now.opening result }
         ensures same_head { IsSameSeat head.old head.new }
         ensures out { out head.new ≡ actor ∷ out head.old }
         ensures rest { (seen head.new ≡ seen head.old) × (mine head.new ≡ mine head.old) }
@@ -65,8 +66,8 @@ impl<O: Kept> Book<O> {
         }
     }
 
-    /// Makes the call, after all calls that were served before. It may wait for its turn. With no memory for
-    /// it, no entry is made and the call comes back.
+    /// Makes the call, after all calls that were served before. It may wait for its turn. With no
+    /// memory for it, no entry is made and the call comes back.
     pub fn call<R: Wait>(
         &self,
         rt: &R,
@@ -84,9 +85,11 @@ impl<O: Kept> Book<O> {
             × (seen seat.new ≡ before ++ entry ∷ [])
             × (mine seat.new ≡ mine seat.old ++ entry ∷ [])
             × O.stands (O.fixed self.now.opening) before entry (who seat.old) call reply) }
-        ensures refused { IfErr result (λ back. (back.0 ≡ call) × IsPrefix (seen seat.old) (seen seat.new)
+        ensures refused { IfErr result (λ back. (back.0 ≡ call)
+            × IsPrefix (seen seat.old) (seen seat.new)
             × (mine seat.new ≡ mine seat.old)) }
-        ensures known { IsKnown (meanings O.fixed O.history O.lawful O.whose O.alone_entry) self.now.opening seat.new }
+        ensures known { IsKnown (meanings O.fixed O.history O.lawful O.whose O.alone_entry)
+            self.now.opening seat.new }
     {
         let who = seat.who;
         take_turn(rt, &self.table.shared, alloc, &mut seat.chair, who, call)
@@ -103,8 +106,10 @@ impl<O: Kept> Book<O> {
         ensures begins_b { IsPrefix (seen b.old) (seen a.new) }
         ensures rest_a { (mine a.new ≡ mine a.old) × (out a.new ≡ out a.old) }
         ensures rest_b { (mine b.new ≡ mine b.old) × (out b.new ≡ out b.old) }
-        ensures known_a { IsKnown (meanings O.fixed O.history O.lawful O.whose O.alone_entry) self.now.opening a.new }
-        ensures known_b { IsKnown (meanings O.fixed O.history O.lawful O.whose O.alone_entry) self.now.opening b.new }
+        ensures known_a { IsKnown (meanings O.fixed O.history O.lawful O.whose O.alone_entry)
+            self.now.opening a.new }
+        ensures known_b { IsKnown (meanings O.fixed O.history O.lawful O.whose O.alone_entry)
+            self.now.opening b.new }
     {
         self.show(a, b);
         self.show(b, a);
@@ -119,8 +124,10 @@ impl<O: Kept> Book<O> {
         ensures begins_to { IsPrefix (seen to.old) (seen to.new) }
         ensures begins_from { IsPrefix (seen from.old) (seen to.new) }
         ensures rest { (mine to.new ≡ mine to.old) × (out to.new ≡ out to.old) }
-        ensures known { IsKnown (meanings O.fixed O.history O.lawful O.whose O.alone_entry) self.now.opening to.new }
-        ensures known_from { IsKnown (meanings O.fixed O.history O.lawful O.whose O.alone_entry) self.now.opening from.new }
+        ensures known { IsKnown (meanings O.fixed O.history O.lawful O.whose O.alone_entry)
+            self.now.opening to.new }
+        ensures known_from { IsKnown (meanings O.fixed O.history O.lawful O.whose O.alone_entry)
+            self.now.opening from.new }
     {
         let board = &self.table.shared;
         let copy = copy_seat(board, &mut from.chair);
@@ -139,7 +146,8 @@ impl<O: Kept> Book<O> {
         ensures begins_head { IsPrefix (seen head.old) (seen head.new) }
         ensures begins_worker { IsPrefix (seen worker) (seen head.new) }
         ensures mine { mine head.new ≡ mine head.old }
-        ensures known { IsKnown (meanings O.fixed O.history O.lawful O.whose O.alone_entry) self.now.opening head.new }
+        ensures known { IsKnown (meanings O.fixed O.history O.lawful O.whose O.alone_entry)
+            self.now.opening head.new }
     {
         let board = &self.table.shared;
         take_back(board, &mut head.chair, worker.into_chair());

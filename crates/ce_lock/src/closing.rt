@@ -16,11 +16,14 @@ use crate::steps::{close_head, copy_seat, settle};
 impl<O: Kept> Book<O> {
     /// Ends the book, for all heads of which nobody is out, and gives the object back.
     pub fn close(self, heads: Vec<Seat<O>>) -> O
-        requires each { Every (IsHeadIn (meanings O.fixed O.history O.lawful O.whose O.alone_entry) self) heads.items }
-        requires all { (f : ℕ) → f < self.families → IsIn f (map (λ s. (who s).family) heads.items) }
+        requires each { Every (IsHeadIn (meanings O.fixed O.history O.lawful O.whose O.alone_entry)
+            self) heads.items }
+        requires all { (f : ℕ) → f < self.families
+            → IsIn f (map (λ s. (who s).family) heads.items) }
         ensures fixed { O.fixed result ≡ O.fixed self.opening }
         ensures lawful { O.lawful (O.fixed self.opening) (O.history result) }
-        ensures heads { Every (IsWhole (meanings O.fixed O.history O.lawful O.whose O.alone_entry) (O.history result)) heads.items }
+        ensures heads { Every (IsWhole (meanings O.fixed O.history O.lawful O.whose O.alone_entry)
+            (O.history result)) heads.items }
     {
         let closer = self.join_heads(heads);
         let Book { table } = self;
@@ -29,8 +32,10 @@ impl<O: Kept> Book<O> {
 
     /// Joins all heads into a copy of the last one.
     fn join_heads(&self, mut heads: Vec<Seat<O>>) -> Chair<O>
-        requires each { Every (IsHeadIn (meanings O.fixed O.history O.lawful O.whose O.alone_entry) self.now) heads.items }
-        requires all { (f : ℕ) → f < self.now.families → IsIn f (map (λ s. (who s).family) heads.items) }
+        requires each { Every (IsHeadIn (meanings O.fixed O.history O.lawful O.whose O.alone_entry)
+            self.now) heads.items }
+        requires all { (f : ℕ) → f < self.now.families
+            → IsIn f (map (λ s. (who s).family) heads.items) }
         ensures chair { result.table_id ≡ self.now.table }
         ensures live { result.me.0.right.spent ≡ false }
         ensures lasts { result.me.0.page.lasts ≡ map (λ s. last_of s.1) heads.items }
@@ -50,14 +55,16 @@ impl<O: Kept> Book<O> {
 
     /// Joins a head with nobody out into the copy.
     fn join_last(&self, closer: &mut Chair<O>, head: Chair<O>)
-        requires chairs { (closer.old.table_id ≡ self.now.table) × (head.table_id ≡ self.now.table) }
+        requires chairs { (closer.old.table_id ≡ self.now.table)
+            × (head.table_id ≡ self.now.table) }
         requires copied { (closer.old.me.0.place ≡ nowhere) × (closer.old.me.0.right ≡ nobody) }
         requires sound { (actor : Who)
             × IsSound (meanings O.fixed O.history O.lawful O.whose O.alone_entry) actor head.me }
         requires head { (head.me.0.right.actor ≡ HOST) × (head.me.0.right.away ≡ []) }
         ensures chair { IsSameChair closer.old closer.new }
         ensures copied { (closer.new.me.0.place ≡ nowhere) × (closer.new.me.0.right ≡ nobody) }
-        ensures lasts { closer.new.me.0.page.lasts ≡ last_of head.me.0 ∷ closer.old.me.0.page.lasts }
+        ensures lasts { closer.new.me.0.page.lasts
+            ≡ last_of head.me.0 ∷ closer.old.me.0.page.lasts }
     {
         let board = &self.table.shared;
         close_head(board, closer, head);
@@ -72,7 +79,8 @@ fn take_object<O: Kept>(table: Holding<O>, closer: Chair<O>) -> O
     requires live { closer.me.0.right.spent ≡ false }
     requires all { (f : ℕ) → f < table.shared.key.families
         → IsIn f (map (λ l. l.family) closer.me.0.page.lasts) }
-    ensures { IsLeft (meanings O.fixed O.history O.lawful O.whose O.alone_entry) table.shared.key.opening.value closer.me.0.page.lasts result }
+    ensures { IsLeft (meanings O.fixed O.history O.lawful O.whose O.alone_entry)
+        table.shared.key.opening.value closer.me.0.page.lasts result }
 {
     let mut closed = table.close_with(closer);
     let object = closed.take(0);

@@ -42,7 +42,8 @@ pub trait Kept: Sized {
     // After this history the actor may make this call.
     ghost fits: { Fixed → List Self.Entry → Who → Self.Call → Type 0 };
 
-    // After this history the entry is the one of the actor's call, and the reply is what the call gets.
+    // After this history the entry is the one of the actor's call, and the reply is what the call
+    // gets.
     ghost stands: { Fixed → List Self.Entry → Self.Entry → Who → Self.Call → Self.Reply → Type 0 };
 
     /// Answers one call of `who`, and adds its entry to the history. With no memory for it, nothing
@@ -67,15 +68,19 @@ pub trait Kept: Sized {
     ghost empty_is_lawful: { (f : Fixed) → lawful f [] };
 
     // A prefix of a lawful history is lawful.
-    ghost prefix_is_lawful: { (f : Fixed) (front rest : List Self.Entry) → lawful f (front ++ rest) → lawful f front };
+    ghost prefix_is_lawful: { (f : Fixed) (front rest : List Self.Entry)
+        → lawful f (front ++ rest) → lawful f front };
 
     // An entry is that of the actor who called, and alone where the call is.
-    ghost stands_for: { (f : Fixed) (before : List Self.Entry) (entry : Self.Entry) (who : Who) (call : Self.Call) (reply : Self.Reply)
+    ghost stands_for: { (f : Fixed) (before : List Self.Entry) (entry : Self.Entry) (who : Who)
+        (call : Self.Call) (reply : Self.Reply)
         → stands f before entry who call reply
         → (whose entry ≡ who) × (alone_entry entry ≡ alone call) };
 
-    // What fits still fits after one more entry of another family, or of another actor that is not alone.
-    ghost still_fits: { (f : Fixed) (before : List Self.Entry) (entry : Self.Entry) (who : Who) (call : Self.Call)
+    // What fits still fits after one more entry of another family, or of another actor that is not
+    // alone.
+    ghost still_fits: { (f : Fixed) (before : List Self.Entry) (entry : Self.Entry) (who : Who)
+        (call : Self.Call)
         → lawful f (before ++ entry ∷ []) → fits f before who call
         → IsForeign whose alone_entry who entry → fits f (before ++ entry ∷ []) who call };
 }

@@ -15,8 +15,8 @@ use std::alloc::Global;
 use std::snapshot::Snapshot;
 
 impl<O: Kept> Book<O> {
-    /// A book of the object, and a head's seat for each family, in order. With no memory for them the object
-    /// comes back.
+    /// A book of the object, and a head's seat for each family, in order. With no memory for them
+    /// the object comes back.
     pub fn new(
         alloc: Global,
         object: O,
@@ -24,10 +24,12 @@ impl<O: Kept> Book<O> {
     ) -> Result<(Book<O>, Vec<Seat<O>>), (O, NoMemory)>
         requires families { 1 ≤ families }
         requires empty { O.history object ≡ [] }
-        ensures book { IfOk result (λ made. (made.0.opening ≡ object) × (made.0.families ≡ families)) }
+        ensures book { IfOk result (λ made. (made.0.opening ≡ object)
+            × (made.0.families ≡ families)) }
         ensures count { IfOk result (λ made. length made.1.items ≡ families) }
         ensures heads { IfOk result (λ made. (k : ℕ) (d : _) → k < families
-            → IsNewHead (meanings O.fixed O.history O.lawful O.whose O.alone_entry) made.0 k (slice_index_or made.1.items k d)) }
+            → IsNewHead (meanings O.fixed O.history O.lawful O.whose O.alone_entry)
+            made.0 k (slice_index_or made.1.items k d)) }
         ensures refused { IfErr result (λ back. back.0 ≡ object) }
     {
         let Ok(heads) = Vec::with_capacity(alloc, families as usize) else {
@@ -42,7 +44,8 @@ impl<O: Kept> Book<O> {
     fn lay(alloc: Global, object: O, families: u32) -> Result<(Book<O>, Chair<O>), (O, NoMemory)>
         requires families { 1 ≤ families }
         requires empty { O.history object ≡ [] }
-        ensures book { IfOk result (λ made. (made.0.opening ≡ object) × (made.0.families ≡ families)) }
+        ensures book { IfOk result (λ made. (made.0.opening ≡ object)
+            × (made.0.families ≡ families)) }
         ensures first { IfOk result (λ made. (made.1.table_id ≡ made.0.table)
             × (made.1.me ≡ (first_view object, []))) }
         ensures refused { IfErr result (λ back. back.0 ≡ object) }
@@ -64,11 +67,13 @@ impl<O: Kept> Book<O> {
     /// The seats of all heads, each of which makes the next.
     fn seat_heads(&self, first: Chair<O>, mut heads: Vec<Seat<O>>, families: u32) -> Vec<Seat<O>>
         requires families { (1 ≤ families) × (families ≡ self.now.families) }
-        requires first { (first.table_id ≡ self.now.table) × (first.me ≡ (first_view self.now.opening, [])) }
+        requires first { (first.table_id ≡ self.now.table)
+            × (first.me ≡ (first_view self.now.opening, [])) }
         requires room { (heads.items ≡ []) × (families ≤ vec_capacity heads) }
         ensures count { length result.items ≡ families }
         ensures heads { (k : ℕ) (d : _) → k < families
-            → IsNewHead (meanings O.fixed O.history O.lawful O.whose O.alone_entry) self.now k (slice_index_or result.items k d) }
+            → IsNewHead (meanings O.fixed O.history O.lawful O.whose O.alone_entry)
+            self.now k (slice_index_or result.items k d) }
     {
         let mut maker = first;
         for family in 0..families - 1 {

@@ -38,11 +38,14 @@ impl<O: Kept> Play<O, View<O, O::Entry>> for Look {
 }
 
 impl<O: Kept> Play<O, View<O, O::Entry>> for Take {
-    ghost then = { λ _ me _ after. Took (meanings O.fixed O.history O.lawful O.whose O.alone_entry) me after };
+    ghost then = { λ _ me _ after. Took (meanings O.fixed O.history O.lawful O.whose O.alone_entry)
+        me after };
 }
 
 impl<O: Kept> Play<O, View<O, O::Entry>> for Commit {
-    ghost then = { λ _ me _ after. Committed (meanings O.fixed O.history O.lawful O.whose O.alone_entry) me after };
+    ghost then = { λ _ me _ after. Committed (meanings O.fixed O.history O.lawful O.whose
+        O.alone_entry)
+        me after };
 }
 
 impl<O: Kept> Play<O, View<O, O::Entry>> for Give {
@@ -54,7 +57,9 @@ impl<O: Kept> Play<O, View<O, O::Entry>> for Leave {
 }
 
 impl<O: Kept> Play<O, View<O, O::Entry>> for Settle {
-    ghost then = { λ _ me _ after. Settled (meanings O.fixed O.history O.lawful O.whose O.alone_entry) me after };
+    ghost then = { λ _ me _ after. Settled (meanings O.fixed O.history O.lawful O.whose
+        O.alone_entry)
+        me after };
 }
 
 /// A copy of what a seat has seen comes.

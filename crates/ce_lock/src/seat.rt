@@ -11,8 +11,8 @@ use crate::who::Who;
 use ce_model::HOST;
 use std::marker::Model;
 
-/// A right to call, and what its holder has seen of the history. Contracts see it as its table and its view;
-/// `who`, `seen`, `mine`, `earlier` and `out` of `specs/Sitting.antt` read these.
+/// A right to call, and what its holder has seen of the history. Contracts see it as its table and
+/// its view; `who`, `seen`, `mine`, `earlier` and `out` of `specs/Sitting.antt` read these.
 pub struct Seat<O: Kept> {
     pub(crate) who: Who,
     pub(crate) chair: Chair<O>,
@@ -26,7 +26,8 @@ impl<O: Kept> Model for Seat<O> {
 
     ghost view = { λ s. (s.chair.table_id, s.chair.me.0) };
 
-    ghost invariant = { λ s. IsSound (meanings O.fixed O.history O.lawful O.whose O.alone_entry) s.who s.chair.me };
+    ghost invariant = { λ s. IsSound (meanings O.fixed O.history O.lawful O.whose O.alone_entry)
+        s.who s.chair.me };
 }
 
 impl<O: Kept> Seat<O> {

@@ -52,7 +52,8 @@ pub fn take<O: Kept>(board: &Board<O>, chair: &mut Chair<O>)
     requires chair { chair.old.table_id ≡ board.now.table_id }
     requires turn { (t : ℕ) × (chair.old.me.0.place ≡ called t) }
     ensures chair { IsSameChair chair.old chair.new }
-    ensures took { Took (meanings O.fixed O.history O.lawful O.whose O.alone_entry) chair.old.me chair.new.me }
+    ensures took { Took (meanings O.fixed O.history O.lawful O.whose O.alone_entry)
+        chair.old.me chair.new.me }
 {
     board.load::<Take>(chair, COUNT);
 }
@@ -71,7 +72,8 @@ pub fn commit<O: Kept>(board: &Board<O>, chair: &mut Chair<O>)
         × (O.alone_entry e ≡ true
         → (chair.old.me.0.right.actor ≡ HOST) × (chair.old.me.0.right.away ≡ [])) }
     ensures chair { IsSameChair chair.old chair.new }
-    ensures committed { Committed (meanings O.fixed O.history O.lawful O.whose O.alone_entry) chair.old.me chair.new.me }
+    ensures committed { Committed (meanings O.fixed O.history O.lawful O.whose O.alone_entry)
+        chair.old.me chair.new.me }
 {
     board.fetch_add::<Commit>(chair, COUNT, 1);
 }
@@ -81,7 +83,8 @@ pub fn give<O: Kept>(board: &Board<O>, chair: &mut Chair<O>)
     requires sized { IsSized board.now.table_id }
     requires chair { chair.old.table_id ≡ board.now.table_id }
     requires holds { (t : ℕ) × (chair.old.me.0.place ≡ holding t) }
-    requires object { (y : O) × (o : O) × (chair.old.me.1 ≡ (0, y) ∷ []) × (chair.old.me.0.page.opening ≡ Some o)
+    requires object { (y : O) × (o : O) × (chair.old.me.1 ≡ (0, y) ∷ [])
+        × (chair.old.me.0.page.opening ≡ Some o)
         × (O.fixed y ≡ O.fixed o) × (O.history y ≡ chair.old.me.0.page.seen) }
     ensures chair { IsSameChair chair.old chair.new }
     ensures gave { Gave chair.old.me chair.new.me }
@@ -100,14 +103,16 @@ pub fn leave<O: Kept>(board: &Board<O>, chair: &mut Chair<O>)
     board.fetch_add::<Leave>(chair, SERVING, 1);
 }
 
-/// Learns, after a seat was joined into its own, that what both had seen is a part of what it has seen.
+/// Learns, after a seat was joined into its own, that what both had seen is a part of what it has
+/// seen.
 pub fn settle<O: Kept>(board: &Board<O>, chair: &mut Chair<O>)
     requires sized { IsSized board.now.table_id }
     requires chair { chair.old.table_id ≡ board.now.table_id }
     requires idle { chair.old.me.0.place ≡ nowhere }
     requires live { chair.old.me.0.right.spent ≡ false }
     ensures chair { IsSameChair chair.old chair.new }
-    ensures settled { Settled (meanings O.fixed O.history O.lawful O.whose O.alone_entry) chair.old.me chair.new.me }
+    ensures settled { Settled (meanings O.fixed O.history O.lawful O.whose O.alone_entry)
+        chair.old.me chair.new.me }
 {
     board.load::<Settle>(chair, COUNT);
 }
@@ -118,7 +123,8 @@ pub fn copy_seat<O: Kept>(board: &Board<O>, chair: &mut Chair<O>) -> Chair<O>
     requires chair { chair.old.table_id ≡ board.now.table_id }
     requires live { chair.old.me.0.right.spent ≡ false }
     ensures chair { IsSameChair chair.old chair.new × (chair.new.me ≡ chair.old.me) }
-    ensures made { (result.table_id ≡ chair.old.table_id) × (result.me ≡ (copy chair.old.me.0, [])) }
+    ensures made { (result.table_id ≡ chair.old.table_id)
+        × (result.me ≡ (copy chair.old.me.0, [])) }
 {
     board.split_seat::<Copying>(chair)
 }
@@ -130,8 +136,10 @@ pub fn next_seat<O: Kept>(board: &Board<O>, chair: &mut Chair<O>) -> Chair<O>
     requires live { chair.old.me.0.right.spent ≡ false }
     requires made { 0 < chair.old.me.0.right.heads }
     requires room { chair.old.me.0.right.heads < board.now.key.families }
-    ensures chair { IsSameChair chair.old chair.new × (chair.new.me ≡ (making chair.old.me.0, chair.old.me.1)) }
-    ensures made { (result.table_id ≡ chair.old.table_id) × (result.me ≡ (next_head chair.old.me.0, [])) }
+    ensures chair { IsSameChair chair.old chair.new
+        × (chair.new.me ≡ (making chair.old.me.0, chair.old.me.1)) }
+    ensures made { (result.table_id ≡ chair.old.table_id)
+        × (result.me ≡ (next_head chair.old.me.0, [])) }
 {
     board.split_seat::<NextHead>(chair)
 }
@@ -148,8 +156,10 @@ pub fn worker_seat<O: Kept, N: Named>(
     requires draws { chair.old.me.0.right.draws ≡ true }
     requires host { chair.old.me.0.right.actor ≡ HOST }
     requires free { (actor ≢ HOST) × ¬ IsIn actor chair.old.me.0.right.away }
-    ensures chair { IsSameChair chair.old chair.new × (chair.new.me ≡ (sending actor chair.old.me.0, chair.old.me.1)) }
-    ensures made { (result.table_id ≡ chair.old.table_id) × (result.me ≡ (sent O.whose actor chair.old.me.0, [])) }
+    ensures chair { IsSameChair chair.old chair.new
+        × (chair.new.me ≡ (sending actor chair.old.me.0, chair.old.me.1)) }
+    ensures made { (result.table_id ≡ chair.old.table_id)
+        × (result.me ≡ (sent O.whose actor chair.old.me.0, [])) }
 {
     let _ = actor;
     board.split_seat::<Sending<N>>(chair)
@@ -158,8 +168,10 @@ pub fn worker_seat<O: Kept, N: Named>(
 /// Joins a copy into a seat.
 pub fn meet_copy<O: Kept>(board: &Board<O>, chair: &mut Chair<O>, other: Chair<O>)
     requires sized { IsSized board.now.table_id }
-    requires chairs { (chair.old.table_id ≡ board.now.table_id) × (other.table_id ≡ board.now.table_id) }
-    requires idle { (chair.old.me.0.place ≡ nowhere) × (other.me.0.place ≡ nowhere) × (other.me.1 ≡ []) }
+    requires chairs { (chair.old.table_id ≡ board.now.table_id)
+        × (other.table_id ≡ board.now.table_id) }
+    requires idle { (chair.old.me.0.place ≡ nowhere) × (other.me.0.place ≡ nowhere)
+        × (other.me.1 ≡ []) }
     requires live { chair.old.me.0.right.spent ≡ false }
     requires copied { other.me.0.right ≡ nobody }
     ensures chair { IsSameChair chair.old chair.new }
@@ -171,8 +183,10 @@ pub fn meet_copy<O: Kept>(board: &Board<O>, chair: &mut Chair<O>, other: Chair<O
 /// Joins the seat of an actor into its head's.
 pub fn take_back<O: Kept>(board: &Board<O>, chair: &mut Chair<O>, other: Chair<O>)
     requires sized { IsSized board.now.table_id }
-    requires chairs { (chair.old.table_id ≡ board.now.table_id) × (other.table_id ≡ board.now.table_id) }
-    requires idle { (chair.old.me.0.place ≡ nowhere) × (other.me.0.place ≡ nowhere) × (other.me.1 ≡ []) }
+    requires chairs { (chair.old.table_id ≡ board.now.table_id)
+        × (other.table_id ≡ board.now.table_id) }
+    requires idle { (chair.old.me.0.place ≡ nowhere) × (other.me.0.place ≡ nowhere)
+        × (other.me.1 ≡ []) }
     requires draw { (chair.old.me.0.right.draws ≡ true) × (other.me.0.right.draws ≡ true) }
     requires head { chair.old.me.0.right.actor ≡ HOST }
     requires family { other.me.0.right.family ≡ chair.old.me.0.right.family }
@@ -186,8 +200,10 @@ pub fn take_back<O: Kept>(board: &Board<O>, chair: &mut Chair<O>, other: Chair<O
 /// Joins the seat of a head with nobody out into the copy that closes the book.
 pub fn close_head<O: Kept>(board: &Board<O>, chair: &mut Chair<O>, other: Chair<O>)
     requires sized { IsSized board.now.table_id }
-    requires chairs { (chair.old.table_id ≡ board.now.table_id) × (other.table_id ≡ board.now.table_id) }
-    requires idle { (chair.old.me.0.place ≡ nowhere) × (other.me.0.place ≡ nowhere) × (other.me.1 ≡ []) }
+    requires chairs { (chair.old.table_id ≡ board.now.table_id)
+        × (other.table_id ≡ board.now.table_id) }
+    requires idle { (chair.old.me.0.place ≡ nowhere) × (other.me.0.place ≡ nowhere)
+        × (other.me.1 ≡ []) }
     requires copied { chair.old.me.0.right ≡ nobody }
     requires head { (other.me.0.right.draws ≡ true) × (other.me.0.right.actor ≡ HOST) }
     requires alone { other.me.0.right.away ≡ [] }

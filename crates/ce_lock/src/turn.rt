@@ -17,8 +17,8 @@ use std::sync::Wait;
 /// The slot of the object.
 const OBJECT: usize = 0;
 
-/// Waits until the ticket is served. It parks between two looks. A caller that is woken before its turn
-/// wakes another one before it parks again, which may be the one that was meant.
+/// Waits until the ticket is served. It parks between two looks. A caller that is woken before its
+/// turn wakes another one before it parks again, which may be the one that was meant.
 fn wait_for_turn<O: Kept, R: Wait>(rt: &R, board: &Board<O>, chair: &mut Chair<O>, ticket: u64)
     requires sized { IsSized board.now.table_id }
     requires chair { chair.old.table_id ≡ board.now.table_id }
@@ -51,11 +51,13 @@ fn answer<O: Kept>(
     call: O::Call,
 ) -> Result<O::Reply, (O::Call, NoMemory)>
     requires chair { chair.old.table_id ≡ board.now.table_id }
-    requires holds { (y : O) × (chair.old.me.1 ≡ (0, y) ∷ []) × O.fits (O.fixed y) (O.history y) who call }
+    requires holds { (y : O) × (chair.old.me.1 ≡ (0, y) ∷ [])
+        × O.fits (O.fixed y) (O.history y) who call }
     ensures chair { IsSameChair chair.old chair.new }
     ensures answered { (y : O) × (z : O) × (chair.old.me.1 ≡ (0, y) ∷ [])
         × (chair.new.me ≡ (chair.old.me.0, (0, z) ∷ []))
-        × IsAnswer (meanings O.fixed O.history O.lawful O.whose O.alone_entry) O.stands y z who call result }
+        × IsAnswer (meanings O.fixed O.history O.lawful O.whose O.alone_entry)
+        O.stands y z who call result }
 {
     chair.slot_mut(board, OBJECT).act(alloc, who, call)
 }
@@ -79,7 +81,8 @@ fn work<O: Kept>(
         → (chair.old.me.0.right.actor ≡ HOST) × (chair.old.me.0.right.away ≡ []) }
     ensures chair { IsSameChair chair.old chair.new }
     ensures hand { chair.new.me.1 ≡ [] }
-    ensures turn { IsTurn (meanings O.fixed O.history O.lawful O.whose O.alone_entry) O.stands chair.old.me.0 chair.new.me.0 call result }
+    ensures turn { IsTurn (meanings O.fixed O.history O.lawful O.whose O.alone_entry)
+        O.stands chair.old.me.0 chair.new.me.0 call result }
 {
     take(board, chair);
     match answer(board, alloc, chair, who, call) {
@@ -116,7 +119,8 @@ pub fn take_turn<O: Kept, R: Wait>(
         → (chair.old.me.0.right.actor ≡ HOST) × (chair.old.me.0.right.away ≡ []) }
     ensures chair { IsSameChair chair.old chair.new }
     ensures hand { chair.new.me.1 ≡ [] }
-    ensures turn { IsTurn (meanings O.fixed O.history O.lawful O.whose O.alone_entry) O.stands chair.old.me.0 chair.new.me.0 call result }
+    ensures turn { IsTurn (meanings O.fixed O.history O.lawful O.whose O.alone_entry)
+        O.stands chair.old.me.0 chair.new.me.0 call result }
 {
     let ticket = draw(board, chair);
     wait_for_turn(rt, board, chair, ticket);

@@ -1,4 +1,5 @@
-//! What a seat knows. No value of these types is made: they are what the rule of the book speaks of.
+//! What a seat knows. No value of these types is made: they are what the rule of the book speaks
+//! of.
 use std::collections::LinkedList;
 
 /// Where a seat is in the queue.

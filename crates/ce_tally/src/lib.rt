@@ -1,5 +1,5 @@
-//! An object that a book keeps in tests and benchmarks: it adds numbers, and answers each time what the sum
-//! was before.
+//! An object that a book keeps in tests and benchmarks: it adds numbers, and answers each time what
+//! the sum was before.
 #![tactic(auto)]
 
 mod row;

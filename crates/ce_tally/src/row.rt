@@ -23,8 +23,8 @@ pub struct Met {
     pub replies: [u64; 3],
 }
 
-/// The first head adds 5 and the second 7, and they meet. Then the first head sends actor 3 out, which adds 1
-/// and comes back, and the heads meet again. `None` where there is no memory.
+/// The first head adds 5 and the second 7, and they meet. Then the first head sends actor 3 out,
+/// which adds 1 and comes back, and the heads meet again. `None` where there is no memory.
 pub fn calls_and_meets<R: Wait>(rt: &R, alloc: Global) -> Option<Met>
     ensures families { IfSome result (λ r. r.book.families ≡ 2) }
     ensures first { IfSome result (λ r. HasAdded r.book 0 5 r.first) }
@@ -112,7 +112,8 @@ pub fn close_both(alloc: Global, met: Met) -> Option<Tally>
     requires first { HasAdded met.book 0 5 met.first }
     requires second { HasAdded met.book 1 7 met.second }
     ensures lawful { IfSome result (λ t. IsTallied 0 t) }
-    ensures begins { IfSome result (λ t. IsPrefix (seen met.first) t × IsPrefix (seen met.second) t) }
+    ensures begins { IfSome result (λ t. IsPrefix (seen met.first) t
+        × IsPrefix (seen met.second) t) }
 {
     let Ok(mut heads) = Vec::with_capacity(alloc, 2) else {
         return None;

@@ -95,7 +95,8 @@ fn many_calls<R: Wait>(
     Some(())
 }
 
-// Eight heads add 1 in threads of their own, a thousand times each. What a ninth is answered then is the sum.
+// Eight heads add 1 in threads of their own, a thousand times each. What a ninth is answered then
+// is the sum.
 fn eight_threads<R: Threads + Wait + Sync>(rt: &R, alloc: Global) -> Option<u64> {
     let Ok((book, mut heads)) = Book::new(alloc, Tally::new(alloc), 9) else {
         return None;

@@ -9,3 +9,6 @@ mod process;
 pub use law::stays_gone;
 pub use paused::Paused;
 pub use process::Process;
+
+#[cfg(test)]
+mod tests;

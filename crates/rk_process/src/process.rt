@@ -65,7 +65,9 @@ impl Process {
     #[tactic(auto, unfolding(crate::specs::Seen::windows_of))]
     pub fn start(&mut self, image: &Image)
         requires { self.old.status ≡ Status.Unborn }
-        ensures { (pid : ℕ) (held : Holding) → process_of self.new pid held ≡ started image.now }
+        ensures started { (pid : ℕ) (held : Holding) → process_of self.new pid held ≡ started image.now }
+        ensures running { self.new.status ≡ Status.Running }
+        ensures windows { self.new.used ≡ 0 }
     {
         self.memory.private.load_image(image.loaded());
         self.memory.windows.used = 0;

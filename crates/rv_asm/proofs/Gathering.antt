@@ -2,7 +2,8 @@
 use Rattle.std.proofs.Common.{◌≡◌, ℕ, suc, ◌<◌, ◌≤◌, List, ◌∷◌, length, map, Option, Some, None, Result, Ok, Err, Bor, sym, ap, ◌∙◌, arith}
 use Rattle.std.specs.Prelude.{fold, option_map, IfSome}
 use Rattle.rv_asm.specs.declared.fault.AsmKind.{AsmKind}
-use Rattle.rv_asm.specs.Line.{cut, is_comma, trimmed}
+use Rattle.ce_text.specs.Line.{cut, trimmed}
+use Rattle.rv_asm.specs.Line.{is_comma}
 use Rattle.rv_asm.specs.Faults.{gathered}
 use Rattle.rv_asm.specs.Operand.{Views}
 use Rattle.rv_asm.proofs.Pieces.{pieces_cut, pieces_behind}

@@ -1,6 +1,4 @@
-pub mod Cutting
 pub mod Pieces
-pub mod Literals
 pub mod Tables
 pub mod SymbolTable
 pub mod WordTable
@@ -11,4 +9,12 @@ pub mod Passes
 pub mod Placing
 pub mod Putting
 pub mod Assembling
-pub mod Laws
+pub mod Spelled
+pub mod Running
+pub mod FirstFaults
+pub mod FirstKinds
+pub mod OperandFaults
+pub mod LineJudged
+pub mod LabelsJudged
+pub mod Comments
+pub mod Labelling

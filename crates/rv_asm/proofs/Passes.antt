@@ -2,10 +2,12 @@
 use Rattle.std.proofs.Common.{◌≡◌, ℕ, ◌+◌, true, List, ◌∷◌, Option, Some, None, Result, Ok, sym, ap, ◌∙◌}
 use Rattle.std.specs.List.{slice_split, list_all}
 use Rattle.rv_asm.specs.declared.fault.AsmKind.{AsmKind}
-use Rattle.rv_asm.specs.Line.{cut, is_line_feed, is_colon, is_plain, code_of, trimmed}
+use Rattle.ce_text.specs.Bytes.{is_line_feed, is_plain}
+use Rattle.ce_text.specs.Line.{cut, before_comment, trimmed}
+use Rattle.rv_asm.specs.Line.{is_colon}
 use Rattle.rv_asm.specs.Faults.{◌>>=◌}
 use Rattle.rv_asm.specs.FirstPass.{Laid, at_line, line_laid, lines_laid, labelled, statement}
-use Rattle.rv_asm.proofs.Pieces.{split_cut, split_behind}
+use Rattle.ce_text.proofs.Splitting.{split_cut, split_behind}
 
 -- the lines that are left, the first of which ends at the first line feed
 pub lines_step : (before : ℕ) (laid : Laid) (bytes front : List ℕ) (after : Option (List ℕ)) → (front, after) ≡ cut is_line_feed bytes
@@ -23,11 +25,11 @@ lines_more before laid next bytes front after e h =
 
 -- ---- one line
 
-module _ (number : ℕ) (laid : Laid) (line front : List ℕ) (plain : list_all is_plain (code_of line) ≡ true) where
-  pub line_alone : (front, None) ≡ cut is_colon (code_of line) → line_laid number laid line ≡ statement number laid (trimmed front)
+module _ (number : ℕ) (laid : Laid) (line front : List ℕ) (plain : list_all is_plain (before_comment line) ≡ true) where
+  pub line_alone : (front, None) ≡ cut is_colon (before_comment line) → line_laid number laid line ≡ statement number laid (trimmed front)
   unfolding line_laid
   line_alone e = rw plain (ap (λ (parts : List ℕ × Option (List ℕ)). labelled number laid parts.0 parts.1) (sym e))
 
-  pub line_labelled : (rest : List ℕ) → (front, Some rest) ≡ cut is_colon (code_of line) → line_laid number laid line ≡ labelled number laid front (Some rest)
+  pub line_labelled : (rest : List ℕ) → (front, Some rest) ≡ cut is_colon (before_comment line) → line_laid number laid line ≡ labelled number laid front (Some rest)
   unfolding line_laid
   line_labelled rest e = rw plain (ap (λ (parts : List ℕ × Option (List ℕ)). labelled number laid parts.0 parts.1) (sym e))

@@ -1,5 +1,5 @@
 -- The first pass: each line is judged, and its statements get their places.
-use Rattle.std.specs.Prelude.{◌≡◌, ℕ, ◌+◌, ◌%◌, Bool, not, ◌&&◌, ◌==◌, nat_lt, if◌then◌else◌, List, [], ◌∷◌, ◌++◌, Option, Some, None, Result, Ok, Err, bytes_eq, codes}
+use Rattle.std.specs.Prelude.{◌≡◌, ℕ, ◌+◌, ◌%◌, not, ◌&&◌, ◌==◌, nat_lt, if◌then◌else◌, List, [], ◌∷◌, ◌++◌, Option, Some, None, Result, Ok, Err, bytes_eq, codes}
 use Rattle.std.specs.List.{list_all, list_any}
 use Rattle.rv_model.specs.Image.{image_start, image_room}
 use Rattle.rv_asm.specs.declared.fault.AsmKind.{AsmKind}
@@ -9,7 +9,9 @@ use Rattle.rv_asm.specs.declared.symbols.Symbol.{Symbol}
 use Rattle.rv_asm.specs.declared.symbols.Symbol.TheVariants.{Label, Number}
 use Rattle.rv_asm.specs.declared.statement.Statement.{Statement}
 use Rattle.rv_asm.specs.declared.statement.Placed.{Placed}
-use Rattle.rv_asm.specs.Line.{lines, cut, trimmed, code_of, is_plain, is_blank, is_colon, is_comma}
+use Rattle.ce_text.specs.Bytes.{is_plain, is_blank}
+use Rattle.ce_text.specs.Line.{lines, cut, trimmed, before_comment}
+use Rattle.rv_asm.specs.Line.{is_colon, is_comma}
 use Rattle.rv_asm.specs.Name.{is_name}
 use Rattle.rv_asm.specs.Names.{Names, no_names, with_name, is_taken}
 use Rattle.rv_asm.specs.Words.{mnemonic_of}
@@ -59,19 +61,17 @@ define laid name symbol = do
   free ← refuse (is_taken laid.names name) NameTaken
   Ok (laid_of (with_name laid.names name symbol) laid.statements laid.size)
 
--- `.equ name, n`, where the statement has no further colon
-unfoldable pub equ : Laid → Bool → List ℕ → Result Laid AsmKind
-equ laid has_colon operands = do
+-- `.equ name, n`
+unfoldable pub equ : Laid → List ℕ → Result Laid AsmKind
+equ laid operands = do
   free ← refuse (is_taken laid.names (trimmed (cut is_comma operands).0)) NameTaken
-  known ← refuse has_colon UnknownWord
   parts ← two_pieces operands
   values ← both (name_piece parts.0) (number laid.names parts.1)
   define laid parts.0 (Number values.1)
 
 -- a statement of another word
-unfoldable pub lay : ℕ → Laid → Bool → List ℕ → List ℕ → Result Laid AsmKind
-lay line laid has_colon word operands = do
-  known ← refuse has_colon UnknownWord
+unfoldable pub lay : ℕ → Laid → List ℕ → List ℕ → Result Laid AsmKind
+lay line laid word operands = do
   mnemonic ← or_fault (mnemonic_of word) UnknownWord
   statements ← statements_of mnemonic laid.names operands
   place_all line laid statements
@@ -84,10 +84,10 @@ operands_of (Some rest) = trimmed rest
 -- what a line has behind its label: nothing, or a word and its operands
 unfoldable pub statement : ℕ → Laid → List ℕ → Result Laid AsmKind
 statement line laid [] = Ok laid
-statement line laid (byte ∷ bytes) =
-    let has_colon = list_any is_colon (byte ∷ bytes) in
-    let parts = cut is_blank (byte ∷ bytes) in
-    if bytes_eq parts.0 (codes ".equ") then equ laid has_colon (operands_of parts.1) else lay line laid has_colon parts.0 (operands_of parts.1)
+statement line laid (byte ∷ bytes) = do
+  one_colon ← refuse (list_any is_colon (byte ∷ bytes)) UnknownWord
+  let parts = cut is_blank (byte ∷ bytes)
+  if bytes_eq parts.0 (codes ".equ") then equ laid (operands_of parts.1) else lay line laid parts.0 (operands_of parts.1)
 
 -- a label, and the statement behind it; or a statement alone
 abbrev pub labelled : ℕ → Laid → List ℕ → Option (List ℕ) → Result Laid AsmKind
@@ -100,8 +100,8 @@ labelled line laid front (Some rest) = do
 -- one line
 unfoldable pub line_laid : ℕ → Laid → List ℕ → Result Laid AsmKind
 line_laid number laid line = do
-  plain ← refuse (not (list_all is_plain (code_of line))) BadByte
-  labelled number laid (cut is_colon (code_of line)).0 (cut is_colon (code_of line)).1
+  plain ← refuse (not (list_all is_plain (before_comment line))) BadByte
+  labelled number laid (cut is_colon (before_comment line)).0 (cut is_colon (before_comment line)).1
 
 -- ---- all lines
 

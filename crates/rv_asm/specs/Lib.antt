@@ -1,4 +1,5 @@
 pub mod Line
+pub mod LineFaults
 pub mod Name
 pub mod Table
 pub mod Register
@@ -11,10 +12,14 @@ pub mod Words
 pub mod Sizes
 pub mod Statements
 pub mod Views
+pub mod Before
+pub mod Effects
 pub mod FirstPass
 pub mod SecondPass
 pub mod Sound
 pub mod Spelling
 pub mod Assembly
+pub mod Forms
+pub mod LabelFaults
 pub mod LaidOut
 pub mod Law

@@ -6,7 +6,8 @@ use Rattle.rv_asm.specs.declared.fault.AsmKind.{AsmKind}
 use Rattle.rv_asm.specs.declared.fault.AsmKind.TheVariants.{Operands, BadRegister, BadNumber, UnknownName}
 use Rattle.rv_asm.specs.declared.symbols.Symbol.{Symbol}
 use Rattle.rv_asm.specs.declared.symbols.Symbol.TheVariants.{Label, Number}
-use Rattle.rv_asm.specs.Line.{cut, trimmed, pieces, is_token, is_opening, is_closing}
+use Rattle.ce_text.specs.Line.{cut, trimmed}
+use Rattle.rv_asm.specs.Line.{pieces, is_token, is_opening, is_closing}
 use Rattle.rv_asm.specs.Name.{is_name}
 use Rattle.rv_asm.specs.Register.{register_of}
 use Rattle.rv_asm.specs.Literal.{literal_of}

@@ -9,12 +9,12 @@ ghost use Rattle.rv_asm.specs.Faults.{GivesAll};
 
 use crate::fault::{AsmFault, AsmKind, Halt};
 use crate::layout::Layout;
-use crate::line::{are_plain, code_of, cut_at, cut_at_blank, has_colon, trimmed};
 use crate::mnemonic::mnemonic_of;
 use crate::name::is_name;
 use crate::operand::{both, name_piece, number, two_pieces};
 use crate::statement::{Placed, Statement, statements_of};
 use crate::symbols::{Symbol, Symbols};
+use ce_text::{are_plain, before_comment, cut_at, cut_at_blank, has_byte, trimmed};
 use rv_model::{IMAGE_ROOM, PRIVATE_START};
 use std::alloc::Global;
 
@@ -90,16 +90,13 @@ fn define(layout: &mut Layout, name: &[u8], symbol: Symbol) -> Result<(), Halt>
 
 /// `.equ name, n`
 #[tactic(auto, unfolding(crate::specs::FirstPass::equ))]
-fn equ(layout: &mut Layout, has_colon: bool, operands: &[u8]) -> Result<(), Halt>
-    ensures laid { Lays result (laid_out layout.new) (equ (laid_out layout.old) has_colon operands.now) }
+fn equ(layout: &mut Layout, operands: &[u8]) -> Result<(), Halt>
+    ensures laid { Lays result (laid_out layout.new) (equ (laid_out layout.old) operands.now) }
     ensures sound { OnOk result (ArePlacedSound layout.old.statements.items → ArePlacedSound layout.new.statements.items) }
 {
     let first = cut_at(operands, b',').0;
     if layout.symbols.is_taken(trimmed(first)) {
         return Err(Halt::Fault(AsmKind::NameTaken));
-    }
-    if has_colon {
-        return Err(Halt::Fault(AsmKind::UnknownWord));
     }
     let (name, n) = two_pieces(operands)?;
     let ((), n) = both(name_piece(name), number(&layout.symbols, n))?;
@@ -112,16 +109,12 @@ fn lay(
     alloc: Global,
     layout: &mut Layout,
     line: u32,
-    has_colon: bool,
     word: &[u8],
     operands: &[u8],
 ) -> Result<(), Halt>
-    ensures laid { Lays result (laid_out layout.new) (lay line (laid_out layout.old) has_colon word.now operands.now) }
+    ensures laid { Lays result (laid_out layout.new) (lay line (laid_out layout.old) word.now operands.now) }
     ensures sound { OnOk result (ArePlacedSound layout.old.statements.items → ArePlacedSound layout.new.statements.items) }
 {
-    if has_colon {
-        return Err(Halt::Fault(AsmKind::UnknownWord));
-    }
     let mnemonic = mnemonic_of(word).ok_or(AsmKind::UnknownWord)?;
     let statements = statements_of(alloc, mnemonic, &layout.symbols, operands)?;
     place_all(layout, line, statements)
@@ -145,12 +138,14 @@ fn statement(alloc: Global, layout: &mut Layout, line: u32, bytes: &[u8]) -> Res
     if bytes.is_empty() {
         return Ok(());
     }
-    let colon = has_colon(bytes);
+    if has_byte(bytes, b':') {
+        return Err(Halt::Fault(AsmKind::UnknownWord));
+    }
     let (word, rest) = cut_at_blank(bytes);
     if word == b".equ".as_slice() {
-        equ(layout, colon, operands_of(rest))
+        equ(layout, operands_of(rest))
     } else {
-        lay(alloc, layout, line, colon, word, operands_of(rest))
+        lay(alloc, layout, line, word, operands_of(rest))
     }
 }
 
@@ -179,7 +174,7 @@ fn line(alloc: Global, layout: &mut Layout, number: u32, bytes: &[u8]) -> Result
     ensures laid { Lays result (laid_out layout.new) (line_laid number (laid_out layout.old) bytes.now) }
     ensures sound { OnOk result (ArePlacedSound layout.old.statements.items → ArePlacedSound layout.new.statements.items) }
 {
-    let code = code_of(bytes);
+    let code = before_comment(bytes);
     if !are_plain(code) {
         return Err(Halt::Fault(AsmKind::BadByte));
     }

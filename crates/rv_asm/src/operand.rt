@@ -7,11 +7,12 @@ ghost use Rattle.rv_asm.specs.Symbols.{names_of};
 ghost use Rattle.rv_asm.specs.Operand.{Views, no_piece, one_piece, two_pieces, three_pieces, register, number, number_named, ranged, name_piece, twelve_bits, in_brackets, memory};
 
 use crate::fault::AsmKind;
-use crate::line::{cut_at, is_token, trimmed};
+use crate::line::is_token;
 use crate::literal::literal_of;
 use crate::name::is_name;
 use crate::register::register_of;
 use crate::symbols::{Symbol, Symbols};
+use ce_text::{cut_at, trimmed};
 
 /// The place of a kind among those that operands can have.
 fn rank(kind: AsmKind) -> u8

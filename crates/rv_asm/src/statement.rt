@@ -17,12 +17,13 @@ use crate::forms::{
     byte_of, one_label, register_label, register_memory, register_upper, register_word,
     registers_immediate, registers_label, three_registers, two_registers, word_of, zero_count,
 };
-use crate::line::{cut_at, is_token, trimmed};
+use crate::line::is_token;
 use crate::literal::literal_of;
 use crate::mnemonic::Mnemonic;
 use crate::name::{Name, is_name};
 use crate::operand::{earlier, no_piece, number, ranged};
 use crate::symbols::{Symbol, Symbols};
+use ce_text::{cut_at, trimmed};
 use rv_model::{BranchOp, ImmOp, Inst, LoadOp, RegOp, StoreOp};
 use std::alloc::{AllocError, Global};
 

@@ -1,4 +1,5 @@
 use crate::{AsmFault, AsmKind, assemble};
+use rv_model::NoMemory;
 use std::alloc::Global;
 use std::fmt::Write;
 use std::process::Abort;
@@ -12,7 +13,7 @@ fn bytes_of(alloc: Global, text: &[u8]) -> Result<Vec<u8>, AsmFault> {
     let image = assemble(alloc, text)?;
     Vec::from_slice(alloc, image.loaded()).map_err(|_| AsmFault {
         line: 0,
-        kind: AsmKind::Entry,
+        kind: AsmKind::Memory(NoMemory),
     })
 }
 
@@ -149,7 +150,7 @@ fn data(rt: HostRuntime) -> Result<(), Fail> {
     )
 }
 
-/// The programs of the worked rows.
+/// Whole programs: one that sends, one that receives for ever, one that waits for a message and leaves.
 #[test]
 fn programs(rt: HostRuntime) -> Result<(), Fail> {
     let alloc = rt.alloc();
@@ -263,7 +264,7 @@ fn example(rt: HostRuntime) -> Result<(), Fail> {
 #[test]
 fn faults_in_order(rt: HostRuntime) {
     let rows = [
-        // Six texts and their answers.
+        // One fault alone.
         ("addi a0, a0, 2048", 1, AsmKind::BadNumber),
         ("j nowhere", 1, AsmKind::UnknownName),
         ("li a0", 1, AsmKind::Operands),
@@ -326,7 +327,9 @@ fn refused_forms(rt: HostRuntime) {
         ("x: .equ x, 1", 1, AsmKind::NameTaken),
         (".equ x, 1\nx: nop", 2, AsmKind::NameTaken),
         ("x: nop\n.equ x", 2, AsmKind::NameTaken),
-        ("x: nop\ny: .equ x, a:b", 2, AsmKind::NameTaken),
+        // A second colon comes before the name of `.equ`, as without a label in front.
+        ("x: nop\ny: .equ x, a:b", 2, AsmKind::UnknownWord),
+        ("x: nop\n.equ x, a:b", 2, AsmKind::UnknownWord),
         (".equ start, 0x10004\n.byte 1, 2, 3", 0, AsmKind::Entry),
         // Numbers.
         ("li a0, -0x1", 1, AsmKind::BadNumber),

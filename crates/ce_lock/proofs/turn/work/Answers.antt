@@ -1,7 +1,6 @@
-use Rattle.std.proofs.Common.{◌≡◌, ℕ, ◌++◌, List, refl, sym, ap, ◌∙◌, subst, Some}
+use Rattle.std.proofs.Common.{◌≡◌, refl, sym, ◌∙◌, subst}
 use Rattle.ce_lock.specs.declared.who.Who.{Who}
 use Rattle.ce_lock.specs.Entries.{Every, IsForeign}
-use Rattle.ce_lock.specs.OneOrder.{who_of}
 use Rattle.ce_lock.proofs.Turns.{carries, in_hand, acted_place, acted_hand, acted_opening, unchanged, entry_fits, committed_hand, committed_place, committed_back, given, refused, turn_made, turn_refused}
 use Rattle.ce_lock.proofs.turn.work.Goals as goal
 

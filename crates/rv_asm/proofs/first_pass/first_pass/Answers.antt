@@ -1,8 +1,8 @@
 use Rattle.std.proofs.Common.{◌+◌, ◌∙◌, sym, arith, length}
-use Rattle.rv_asm.specs.Line.{is_line_feed}
+use Rattle.ce_text.specs.Bytes.{is_line_feed}
 use Rattle.rv_asm.specs.FirstPass.{Laid, line_laid, lines_laid, first_pass}
 use Rattle.rv_asm.specs.LaidOut.{laid_out}
-use Rattle.rv_asm.proofs.Pieces.{split_behind}
+use Rattle.ce_text.proofs.Splitting.{split_behind}
 use Rattle.rv_asm.proofs.Gathering.{left, left_shorter}
 use Rattle.rv_asm.proofs.Stopping.{stops_all}
 use Rattle.rv_asm.proofs.Passes.{lines_step, lines_more}

@@ -1,9 +1,10 @@
 use Rattle.std.proofs.Common.{◌≡◌, ◌+◌, ◌≤◌, length}
-use Rattle.rv_asm.specs.Line.{is_line_feed, lines}
+use Rattle.ce_text.specs.Bytes.{is_line_feed}
+use Rattle.ce_text.specs.Line.{lines}
 use Rattle.rv_asm.specs.FirstPass.{lines_laid, nothing_laid}
 use Rattle.rv_asm.specs.LaidOut.{laid_out}
 use Rattle.rv_asm.specs.Sound.{ArePlacedSound}
-use Rattle.rv_asm.proofs.Pieces.{split_behind}
+use Rattle.ce_text.proofs.Splitting.{split_behind}
 use Rattle.rv_asm.proofs.Gathering.{left, left_size}
 use Rattle.rv_asm.proofs.first_pass.first_pass.Given as goal
 

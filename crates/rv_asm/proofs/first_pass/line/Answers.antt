@@ -1,21 +1,22 @@
 use Rattle.std.proofs.Common.{◌≡◌, true, sym, ap, ◌∙◌}
 use Rattle.std.specs.List.{list_all}
-use Rattle.rv_asm.specs.Line.{is_plain, code_of}
+use Rattle.ce_text.specs.Bytes.{is_plain}
+use Rattle.ce_text.specs.Line.{before_comment}
 use Rattle.rv_asm.specs.LaidOut.{laid_out}
 use Rattle.rv_asm.proofs.Passes.{line_alone, line_labelled}
 use Rattle.rv_asm.proofs.first_pass.line.Goals as goal
 
 pub returns-in-None-clause-laid : goal.returns-in-None-clause-laid
 returns-in-None-clause-laid c =
-    let plain : list_all is_plain (code_of c.args.bytes.now) ≡ true = ap (list_all is_plain) (sym c.code_of-code.ensures) ∙ sym c.if-not-are_plain.ensures in
-    let parts = rw (c.in-None.is, c.code_of-code.ensures) at c.cut_at.ensures.parts in
+    let plain : list_all is_plain (before_comment c.args.bytes.now) ≡ true = ap (list_all is_plain) (sym c.before_comment-code.ensures) ∙ sym c.if-not-are_plain.ensures in
+    let parts = rw (c.in-None.is, c.before_comment-code.ensures) at c.cut_at.ensures.parts in
     let whole = line_alone c.args.number (laid_out c.args.layout.now) c.args.bytes.now c.cut_at.result.0.now plain parts in
     rw (whole, ← c.trimmed.ensures) c.statement.ensures.laid
 
 pub returns-in-Some-clause-laid : goal.returns-in-Some-clause-laid
 returns-in-Some-clause-laid c =
-    let plain : list_all is_plain (code_of c.args.bytes.now) ≡ true = ap (list_all is_plain) (sym c.code_of-code.ensures) ∙ sym c.if-not-are_plain.ensures in
-    let parts = rw (c.in-Some.is, c.code_of-code.ensures) at c.cut_at.ensures.parts in
+    let plain : list_all is_plain (before_comment c.args.bytes.now) ≡ true = ap (list_all is_plain) (sym c.before_comment-code.ensures) ∙ sym c.if-not-are_plain.ensures in
+    let parts = rw (c.in-Some.is, c.before_comment-code.ensures) at c.cut_at.ensures.parts in
     let whole = line_labelled c.args.number (laid_out c.args.layout.now) c.args.bytes.now c.cut_at.result.0.now plain c.in-Some.rest.now parts in
     let laid = rw c.in-Some.rest-is at c.labelled.ensures.laid in
     rw whole laid

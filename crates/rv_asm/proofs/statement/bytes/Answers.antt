@@ -3,7 +3,7 @@ use Rattle.rv_asm.specs.declared.fault.AsmKind.{AsmKind}
 use Rattle.rv_asm.specs.declared.statement.Statement.{Statement}
 use Rattle.rv_asm.specs.Faults.{all_of, gathered}
 use Rattle.rv_asm.specs.Symbols.{names_of}
-use Rattle.rv_asm.specs.Line.{trimmed}
+use Rattle.ce_text.specs.Line.{trimmed}
 use Rattle.rv_asm.specs.Statements.{byte_value}
 use Rattle.rv_asm.specs.Views.{items_of}
 use Rattle.rv_asm.proofs.Gathering.{left, with_rest, with_more}

@@ -1,4 +1,4 @@
-use Rattle.std.proofs.Common.{◌≡◌, ap, ◌∙◌, Some}
+use Rattle.std.proofs.Common.{ap, ◌∙◌}
 use Rattle.ce_lock.proofs.Turns.{sound_turn, turn_opening, known_of}
 use Rattle.ce_lock.proofs.book.Book.call.Goals as goal
 

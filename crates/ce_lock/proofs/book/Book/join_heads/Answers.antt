@@ -1,7 +1,5 @@
-use Rattle.std.proofs.Common.{◌≡◌, ℕ, ◌+◌, ◌<◌, List, [], ◌∷◌, ◌++◌, length, map, refl, sym, ap, ◌∙◌, subst, rules, arith}
+use Rattle.std.proofs.Common.{◌≡◌, ◌<◌, List, [], ◌∷◌, ◌++◌, length, map, sym, ap, ◌∙◌, subst, arith}
 use Rattle.std.proofs.lemmas.List.{nil_from_length}
-use Rattle.ce_lock.specs.declared.view.View.{View}
-use Rattle.ce_lock.specs.declared.view.Last.{Last}
 use Rattle.ce_lock.specs.Entries.{IsIn}
 use Rattle.ce_lock.specs.Telling.{last_of}
 use Rattle.ce_lock.specs.Sitting.{Sitting, who}

@@ -1,4 +1,4 @@
-use Rattle.std.proofs.Common.{◌≡◌, ℕ, List, ◌++◌, map, length, vec_len}
+use Rattle.std.proofs.Common.{◌≡◌, List, ◌++◌, map, vec_len}
 use Rattle.ce_lock.specs.Telling.{nowhere, nobody, last_of}
 use Rattle.ce_lock.specs.Sitting.{Sitting}
 use Rattle.ce_lock.proofs.book.Book.join_heads.Given as goal

@@ -1,4 +1,4 @@
-use Rattle.std.proofs.Common.{◌≡◌, ℕ, ◌<◌, ◌^◌, List, [], ◌∷◌, ◌++◌, sym, ap, ◌∙◌, subst, rules, arith}
+use Rattle.std.proofs.Common.{◌≡◌, ◌<◌, ◌^◌, List, [], ◌∷◌, ◌++◌, sym, ap, ◌∙◌, subst, rules, arith}
 use Rattle.atomic_table.specs.Table.{opening}
 use Rattle.ce_lock.specs.Meanings.{meanings}
 use Rattle.ce_lock.specs.OneOrder.{IsInOrder}

@@ -1,6 +1,5 @@
-use Rattle.std.proofs.Common.{◌≡◌, ℕ, ◌+◌, ◌-◌, ◌<◌, List, [], ◌∷◌, ◌++◌, length, get_or, refl, sym, ap, ◌∙◌, subst, rules, arith}
+use Rattle.std.proofs.Common.{◌≡◌, ℕ, ◌+◌, ◌-◌, List, [], length, get_or, sym, ap, ◌∙◌, subst, arith}
 use Rattle.std.proofs.lemmas.List.{length_push}
-use Rattle.ce_lock.specs.declared.view.View.{View}
 use Rattle.ce_lock.specs.Meanings.{meanings}
 use Rattle.ce_lock.specs.Sitting.{Sitting, IsNewHead}
 use Rattle.ce_lock.specs.Telling.{making, next_head, fresh_head}

@@ -1,5 +1,3 @@
-use Rattle.std.proofs.Common.{sym, subst}
-use Rattle.ce_lock.specs.Sitting.{IsSound}
 use Rattle.ce_lock.proofs.Endings.{sound_head}
 use Rattle.ce_lock.proofs.seat.Seat.of_head.Goals as goal
 

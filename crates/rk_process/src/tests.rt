@@ -1,0 +1,169 @@
+// The instruction words were worked out by hand from the RISC-V unprivileged specification.
+use super::*;
+use ce_model::{BlockId, Status};
+use rv_image::Image;
+use rv_model::Stop;
+use std::alloc::Global;
+use std::test::Fail;
+use xm_block::Block;
+use xm_owner::Held;
+
+const ENTRY: u32 = 0x0001_0000;
+
+fn image(alloc: Global, words: &[u32]) -> Result<Image, Fail> {
+    let mut bytes = Vec::new(alloc);
+    for word in words {
+        bytes.extend_from_slice(&word.to_le_bytes())?;
+    }
+    Ok(Image::of_parts(ENTRY, bytes, 0)?)
+}
+
+fn block(alloc: Global, index: u32) -> Result<Block, Fail> {
+    Ok(Block::new(alloc, BlockId { home: 0, index })?)
+}
+
+#[test]
+fn openings(rt: HostRuntime) -> Result<(), Fail> {
+    let process = Process::new(rt.alloc())?;
+    assert_eq!(rt; process.status(), Status::Unborn);
+    assert_eq!(rt; process.windows(), 0);
+    Ok(())
+}
+
+#[test]
+fn rules_of_private_memory(rt: HostRuntime) -> Result<(), Fail> {
+    let held = Held::new(rt.alloc(), 0)?;
+    let process = Process::new(rt.alloc())?;
+    assert_eq!(rt;
+        process.load_word(4, &held, 0x0001_0001),
+        Err(Stop::Misaligned(0x0001_0001))
+    );
+    assert_eq!(rt; process.load_word(4, &held, 0x0001_0000), Ok(0));
+    assert_eq!(rt;
+        process.load_word(4, &held, 0x0000_FFFC),
+        Err(Stop::Unmapped(0x0000_FFFC))
+    );
+    assert_eq!(rt; process.load_word(4, &held, 0x0002_FFFC), Ok(0));
+    assert_eq!(rt;
+        process.load_word(4, &held, 0x0003_0000),
+        Err(Stop::Unmapped(0x0003_0000))
+    );
+    assert_eq!(rt;
+        process.load_word(4, &held, 0x7FFF_FFFC),
+        Err(Stop::Unmapped(0x7FFF_FFFC))
+    );
+    assert_eq!(rt;
+        process.load_word(4, &held, 0x8000_0000),
+        Err(Stop::Unmapped(0x8000_0000))
+    );
+    Ok(())
+}
+
+#[test]
+#[tactic(auto, unfolding(ce_model::specs::Limits::window_count, ce_model::specs::Limits::block_room))]
+fn rules_of_windows(rt: HostRuntime) -> Result<(), Fail> {
+    let mut held = Held::new(rt.alloc(), 1)?;
+    let mut process = Process::new(rt.alloc())?;
+    let mut bytes = block(rt.alloc(), 0)?;
+    bytes.fill(&[1, 2, 3, 4, 5, 6, 7, 8]);
+    held.map(4, process.give_window(), bytes);
+    assert_eq!(rt; process.windows(), 1);
+    assert_eq!(rt;
+        process.load_word(4, &held, 0x8000_0001),
+        Err(Stop::Misaligned(0x8000_0001))
+    );
+    assert_eq!(rt; process.load_word(4, &held, 0x8000_0000), Ok(0x0403_0201));
+    assert_eq!(rt; process.load_word(4, &held, 0x8000_0004), Ok(0x0807_0605));
+    assert_eq!(rt;
+        process.load_word(4, &held, 0x8000_0008),
+        Err(Stop::PastEnd(0x8000_0008))
+    );
+    assert_eq!(rt;
+        process.load_word(4, &held, 0x8001_0000),
+        Err(Stop::Unmapped(0x8001_0000))
+    );
+    assert_eq!(rt;
+        process.load_word(5, &held, 0x8000_0000),
+        Err(Stop::Gone(0x8000_0000))
+    );
+    assert!(rt; held.unmap(4, 0).is_some());
+    assert_eq!(rt;
+        process.load_word(4, &held, 0x8000_0001),
+        Err(Stop::Misaligned(0x8000_0001))
+    );
+    assert_eq!(rt;
+        process.load_word(4, &held, 0x8000_0000),
+        Err(Stop::Gone(0x8000_0000))
+    );
+    assert_eq!(rt;
+        process.load_word(4, &held, 0x8000_FFFC),
+        Err(Stop::Gone(0x8000_FFFC))
+    );
+    Ok(())
+}
+
+// lui a0, 0x80001; sw sp, -4(a0); lui a0, 0x80010; lb a1, 0(a0)
+#[test]
+#[tactic(auto, unfolding(ce_model::specs::Limits::window_count, ce_model::specs::Limits::block_room))]
+fn sizes(rt: HostRuntime) -> Result<(), Fail> {
+    let mut held = Held::new(rt.alloc(), 2)?;
+    let mut process = Process::new(rt.alloc())?;
+    process.start(&image(
+        rt.alloc(),
+        &[0x8000_1537, 0xFE25_2E23, 0x8001_0537, 0x0005_0583],
+    )?);
+    let mut full = block(rt.alloc(), 0)?;
+    full.reset(4096);
+    held.map(0, process.give_window(), full);
+    held.map(0, process.give_window(), block(rt.alloc(), 1)?);
+    let mut left = 10;
+    let paused = process.run_to_call(0, &mut held, &mut left);
+    assert_eq!(rt; paused, Paused::Stopped(Stop::PastEnd(0x8001_0000)));
+    assert_eq!(rt; left, 6);
+    assert_eq!(rt; process.load_word(0, &held, 0x8000_0FFC), Ok(0x0003_0000));
+    assert_eq!(rt;
+        process.load_word(0, &held, 0x8000_1000),
+        Err(Stop::PastEnd(0x8000_1000))
+    );
+    Ok(())
+}
+
+// li a0, 42; li a7, 14; ecall
+#[test]
+fn run_to_a_call(rt: HostRuntime) -> Result<(), Fail> {
+    let mut held = Held::new(rt.alloc(), 0)?;
+    let mut process = Process::new(rt.alloc())?;
+    process.start(&image(rt.alloc(), &[0x02A0_0513, 0x00E0_0893, 0x0000_0073])?);
+    assert_eq!(rt; process.status(), Status::Running);
+    assert_eq!(rt; process.reg(2), 0x0003_0000);
+    let mut left = 10;
+    let paused = process.run_to_call(0, &mut held, &mut left);
+    assert_eq!(rt; paused, Paused::Call);
+    assert_eq!(rt; left, 7);
+    assert_eq!(rt; process.reg(10), 42);
+    assert_eq!(rt; process.reg(17), 14);
+    process.answer(7);
+    assert_eq!(rt; process.reg(10), 7);
+    process.set_status(Status::Asking);
+    assert_eq!(rt; process.status(), Status::Asking);
+    process.reset();
+    assert_eq!(rt; process.status(), Status::Unborn);
+    assert_eq!(rt; process.reg(10), 0);
+    assert_eq!(rt; process.load_word(0, &held, ENTRY), Ok(0));
+    Ok(())
+}
+
+// A loop that jumps to itself. With nothing left it stops before anything is fetched.
+#[test]
+fn turn_spent(rt: HostRuntime) -> Result<(), Fail> {
+    let mut held = Held::new(rt.alloc(), 0)?;
+    let mut process = Process::new(rt.alloc())?;
+    process.start(&image(rt.alloc(), &[0x0000_006F])?);
+    let mut left = 3;
+    let paused = process.run_to_call(0, &mut held, &mut left);
+    assert_eq!(rt; paused, Paused::Stopped(Stop::TurnSpent));
+    assert_eq!(rt; left, 0);
+    let again = process.run_to_call(0, &mut held, &mut left);
+    assert_eq!(rt; again, Paused::Stopped(Stop::TurnSpent));
+    Ok(())
+}

@@ -1,9 +1,0 @@
-use Rattle.std.proofs.Common.{Some, None, sym}
-use Rattle.rv_asm.proofs.Cutting.{cut_at_place}
-use Rattle.rv_asm.proofs.line.cut_at.Goals as goal
-
-pub returns-in-None-clause-parts : goal.returns-in-None-clause-parts
-returns-in-None-clause-parts c = sym (cut_at_place _ c.args.bytes.now None c.in-None.ensures)
-
-pub returns-in-Some-clause-parts : goal.returns-in-Some-clause-parts
-returns-in-Some-clause-parts c = sym (cut_at_place _ c.args.bytes.now (Some c.in-Some.place) c.in-Some.ensures)

@@ -1,0 +1,150 @@
+-- What belongs in the places of a statement's operands, and how operands are faulty there: each kind of fault is a test of
+-- its own on an operand and on what names mean before its line.
+use Rattle.std.specs.Prelude.{ℕ, Bool, false, not, ◌&&◌, ◌||◌, ◌==◌, if◌then◌else◌, max, List, [], ◌∷◌, replicate, Option, Some, None, is_none, length, ℤ, pos, negsuc, int_le}
+use Rattle.rv_asm.specs.declared.fault.AsmKind.{AsmKind}
+use Rattle.rv_asm.specs.declared.fault.AsmKind.TheVariants.{Operands, BadRegister, BadNumber, UnknownName}
+use Rattle.rv_asm.specs.declared.symbols.Symbol.{Symbol}
+use Rattle.rv_asm.specs.declared.symbols.Symbol.TheVariants.{Label, Number}
+use Rattle.rv_asm.specs.declared.mnemonic.Mnemonic.{Mnemonic}
+use Rattle.rv_asm.specs.declared.mnemonic.Mnemonic.TheVariants as words
+use Rattle.ce_text.specs.Line.{cut, trimmed}
+use Rattle.rv_asm.specs.Line.{pieces, is_token, is_opening, is_closing}
+use Rattle.rv_asm.specs.Name.{is_name}
+use Rattle.rv_asm.specs.Register.{register_of}
+use Rattle.rv_asm.specs.Literal.{literal_of}
+use Rattle.rv_asm.specs.Names.{Names}
+use Rattle.rv_asm.specs.Operand.{closed, least_immediate, greatest_immediate}
+
+-- what belongs in the place of an operand
+pub data Form : Type 0 where
+  a_register : Form
+  any_number : Form
+  -- a number from the least to the greatest
+  a_number : ℤ → ℤ → Form
+  -- `n(rs1)`
+  a_memory : Form
+  a_name : Form
+  -- a number or a label, in `.word`
+  a_value : Form
+
+-- ---- numbers
+
+-- the number that a name stands for: the one that an earlier `.equ` gave
+abbrev pub number_meant : Option Symbol → Option ℤ
+number_meant (Some (Number n)) = Some n
+number_meant (Some (Label address)) = None
+number_meant None = None
+
+-- the number that a token gives: a name's, and else the one that is written
+abbrev pub number_given : Names → List ℕ → Option ℤ
+number_given names token = if is_name token then number_meant (names token) else literal_of token
+
+-- neither a name nor a number
+abbrev pub is_no_number : List ℕ → Bool
+is_no_number token = not (is_name token) && is_none (literal_of token)
+
+-- a name that no earlier `.equ` gave
+abbrev pub is_unknown : Names → List ℕ → Bool
+is_unknown names token = is_name token && is_none (number_meant (names token))
+
+abbrev pub is_outside : ℤ → ℤ → Option ℤ → Bool
+is_outside least greatest None = false
+is_outside least greatest (Some n) = not (int_le least n && int_le n greatest)
+
+-- ---- `n(rs1)`
+
+abbrev pub is_bracketed : Option (List ℕ) → Bool
+is_bracketed None = false
+is_bracketed (Some behind) = closed (cut is_closing behind).1
+
+-- what stands before the opening bracket
+abbrev pub offset_text : List ℕ → List ℕ
+offset_text text = trimmed (cut is_opening text).0
+
+abbrev pub base_behind : Option (List ℕ) → List ℕ
+base_behind None = []
+base_behind (Some behind) = trimmed (cut is_closing behind).0
+
+-- what stands between the brackets
+abbrev pub base_text : List ℕ → List ℕ
+base_text text = base_behind (cut is_opening text).1
+
+-- ---- faults of an operand
+
+-- it has not the form that belongs in its place
+unfoldable pub is_malformed : Form → List ℕ → Bool
+is_malformed a_name text = not (is_name text)
+is_malformed a_memory text = not (is_bracketed (cut is_opening text).1 && is_token (offset_text text) && is_token (base_text text))
+is_malformed form text = not (is_token text)
+
+-- where a register belongs, there is none
+unfoldable pub lacks_register : Form → List ℕ → Bool
+lacks_register a_register text = is_none (register_of text)
+lacks_register a_memory text = is_none (register_of (base_text text))
+lacks_register form text = false
+
+-- where a number belongs, there is none, or one that is out of range
+unfoldable pub lacks_number : Names → Form → List ℕ → Bool
+lacks_number names any_number text = is_no_number text
+lacks_number names a_value text = is_no_number text
+lacks_number names (a_number least greatest) text = is_no_number text || is_outside least greatest (number_given names text)
+lacks_number names a_memory text = is_no_number (offset_text text) || is_outside (negsuc 2047) (pos 2047) (number_given names (offset_text text))
+lacks_number names form text = false
+
+-- where a number belongs, there is a name that no earlier `.equ` gave
+unfoldable pub lacks_name : Names → Form → List ℕ → Bool
+lacks_name names any_number text = is_unknown names text
+lacks_name names (a_number least greatest) text = is_unknown names text
+lacks_name names a_memory text = is_unknown names (offset_text text)
+lacks_name names form text = false
+
+-- ---- faults of a statement's operands
+
+-- the first of the kinds that operands can have
+abbrev pub first_kind : (malformed register number name : Bool) → Option AsmKind
+first_kind malformed register number name =
+    if malformed then Some Operands else (if register then Some BadRegister else (if number then Some BadNumber else (if name then Some UnknownName else None)))
+
+-- some operand passes a test in its place
+abbrev pub any_operand : (Form → List ℕ → Bool) → List Form → List (List ℕ) → Bool
+any_operand test [] texts = false
+any_operand test (form ∷ forms) [] = false
+any_operand test (form ∷ forms) (text ∷ texts) = test form text || any_operand test forms texts
+
+-- the fault of operands in their places: each kind is judged over all of them before the next
+unfoldable pub operands_fault : Names → List Form → List (List ℕ) → Option AsmKind
+operands_fault names forms texts =
+    first_kind (not (length texts == length forms) || any_operand is_malformed forms texts)
+    (any_operand lacks_register forms texts)
+    (any_operand (lacks_number names) forms texts)
+    (any_operand (lacks_name names) forms texts)
+
+-- the operands of a statement: none where nothing is written
+abbrev pub operand_texts : List ℕ → List (List ℕ)
+operand_texts [] = []
+operand_texts (byte ∷ bytes) = pieces (byte ∷ bytes)
+
+-- what belongs in the places of so many operands; `.word` and `.byte` have any number of them but none
+abbrev pub forms_of : Mnemonic → ℕ → List Form
+forms_of (words.Plain inst) count = []
+forms_of words.Lui count = a_register ∷ a_number (pos 0) (pos 1048575) ∷ []
+forms_of words.Auipc count = a_register ∷ a_number (pos 0) (pos 1048575) ∷ []
+forms_of words.Jalr count = a_register ∷ a_memory ∷ []
+forms_of (words.Load op) count = a_register ∷ a_memory ∷ []
+forms_of (words.Store op) count = a_register ∷ a_memory ∷ []
+forms_of (words.OpImm op) count = a_register ∷ a_register ∷ a_number (least_immediate op) (greatest_immediate op) ∷ []
+forms_of (words.Op op) count = a_register ∷ a_register ∷ a_register ∷ []
+forms_of words.Mv count = a_register ∷ a_register ∷ []
+forms_of words.Li count = a_register ∷ any_number ∷ []
+forms_of words.La count = a_register ∷ a_name ∷ []
+forms_of words.Jal count = a_register ∷ a_name ∷ []
+forms_of (words.Jump rd) count = a_name ∷ []
+forms_of (words.Branch op) count = a_register ∷ a_register ∷ a_name ∷ []
+forms_of words.Word count = replicate (max 1 count) a_value
+forms_of words.Byte count = replicate (max 1 count) (a_number (negsuc 127) (pos 255))
+forms_of words.Zero count = a_number (pos 0) (pos 122880) ∷ []
+
+-- the fault of a statement's operands
+abbrev pub statement_fault : Names → Mnemonic → List ℕ → Option AsmKind
+statement_fault names mnemonic operands =
+    let texts = operand_texts operands in operands_fault names (forms_of mnemonic (length texts)) texts
