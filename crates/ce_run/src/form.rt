@@ -13,13 +13,16 @@ mod lines;
 mod words;
 
 use crate::name::Name;
-use ce_model::NoMemory;
+use ce_model::{GREATEST_COUNT, NoMemory};
 use commands::commands_of;
 use image::{ImageForm, body_of, image_line, program_of};
 use lines::next_line;
 use rv_asm::{AsmFault, AsmKind};
 use rv_image::{Image, ImageFault};
 use std::alloc::{AllocError, AllocFailed, Global};
+
+/// The most bytes that a script may have.
+pub const SCRIPT_LIMIT: usize = 1_048_576;
 
 /// What a script of the built form says.
 #[derive(Drop)]
@@ -30,7 +33,7 @@ pub(crate) struct BuiltForm {
     pub(crate) program: Image,
     /// The user's name.
     pub(crate) user: Name,
-    /// How many dispatches `run` allows, 1,000,000 at most.
+    /// How many dispatches `run` allows, `GREATEST_COUNT` at most.
     pub(crate) count: u32,
 }
 
@@ -113,9 +116,9 @@ struct Outline<'a> {
 
 /// Reads a script of the built form. It is of another form also where its image is refused, unless memory runs out.
 pub(crate) fn read_form(alloc: Global, text: &[u8]) -> Result<BuiltForm, FormError>
-    requires { length text.now ≤ 1048576 }
+    requires { length text.now ≤ SCRIPT_LIMIT }
     ensures ok { IfOk result (Says text.now) }
-    ensures small { IfOk result (λ form. form.count ≤ 1000000) }
+    ensures small { IfOk result (λ form. form.count ≤ GREATEST_COUNT) }
     ensures not_built { IsErrOf result NotBuilt → ¬ IsBuilt text.now }
 {
     let script = outline_of(text).ok_or(FormError::NotBuilt)?;
@@ -134,7 +137,7 @@ fn outline_of(text: &[u8]) -> Option<Outline<'_>>
     ensures outline { option_map (λ it. outline it.image.now it.form it.body.now it.user.now it.count) result ≡ outline_of (lines_of text.now) }
     ensures image { IfSome result (λ it. is_name it.image.now ≡ true) }
     ensures user { IfSome result (λ it. is_name it.user.now ≡ true) }
-    ensures small { IfSome result (λ it. it.count ≤ 1000000) }
+    ensures small { IfSome result (λ it. it.count ≤ GREATEST_COUNT) }
     ensures shorter { IfSome result (λ it. length it.body.now ≤ length text.now) }
 {
     let (image, form, rest) = head_of(text)?;
