@@ -1,11 +1,10 @@
 -- What reading to the end, and writing all, do to a source and to a sink.
-use Rattle.std.specs.Prelude.{◌≡◌, ◌↔◌, ℕ, ◌+◌, ◌<◌, ◌≤◌, List, Option, Result, Vec, IsErrOf, IfOk, OnErr, length}
+use Rattle.std.specs.Prelude.{◌≡◌, ◌↔◌, ℕ, ◌+◌, ◌<◌, ◌≤◌, List, Option, Result, Vec, IsErrOf, IfOk, length}
 use Rattle.std.specs.Io.KnownBytes.{prepend_known, IsAtEnd}
 use Rattle.std.specs.declared.alloc.Global.{Global}
 use Rattle.ce_io.specs.Counts.{raised}
-use Rattle.ce_io.specs.Faults.{Rose}
 use Rattle.ce_io.specs.declared.whole.ReadError.{ReadError}
-use Rattle.ce_io.specs.declared.whole.ReadError.TheVariants.{TooLong, Read}
+use Rattle.ce_io.specs.declared.whole.ReadError.TheVariants.{TooLong}
 
 -- a source before and after a call, with what it tells: the bytes to come, where it tells them, how many bytes it gave, and
 -- how often a read failed

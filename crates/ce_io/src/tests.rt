@@ -120,8 +120,14 @@ impl Write for Faulty {
 }
 
 /// What a source or a sink answers over `CALLS`: interruptions are tried again, and each other fault is told.
-const ANSWERS: [Result<usize, Failed>; 6] =
-    [Ok(1), Err(Failed), Err(Failed), Err(Failed), Err(Failed), Ok(1)];
+const ANSWERS: [Result<usize, Failed>; 6] = [
+    Ok(1),
+    Err(Failed),
+    Err(Failed),
+    Err(Failed),
+    Err(Failed),
+    Ok(1),
+];
 
 #[test]
 fn interruptions_are_tried_again_and_faults_told(rt: HostRuntime) {

@@ -1,4 +1,4 @@
-use Rattle.std.proofs.Common.{◌≤◌, length, arith}
+use Rattle.std.proofs.Common.{arith}
 use Rattle.ce_io.proofs.Known.{ends_too_long, ends_in_memory}
 use Rattle.ce_io.proofs.whole.read_to_end.Goals as goal
 
