@@ -55,7 +55,8 @@ pub fn read_to_end<S: Source>(
     source: &mut S,
     limit: usize,
 ) -> Result<Vec<u8>, ReadError>
-    ensures read { HasReadToEnd (reading S.left S.given S.faults source.old source.new) limit PIECE result }
+    ensures read { HasReadToEnd
+        (reading S.left S.given S.faults source.old source.new) limit PIECE result }
     ensures failed { IsErrOf result Read → Rose (S.faults source.old) (S.faults source.new) }
     ensures passed { (result ≡ Err Read) ⊎ (S.faults source.new ≡ S.faults source.old) }
 {
@@ -78,7 +79,8 @@ pub fn read_to_end<S: Source>(
 #[tactic(auto, using(crate::proofs::Known::append_more, crate::proofs::Known::append_all))]
 pub fn write_all<K: Sink>(sink: &mut K, bytes: &[u8]) -> Result<(), Failed>
     ensures ok { OnOk result (K.written sink.new ≡ append_known (K.written sink.old) bytes.now) }
-    ensures part { OnErr result ((n : ℕ) × (K.written sink.new ≡ append_known (K.written sink.old) (take n bytes.now))) }
+    ensures part { OnErr result ((n : ℕ)
+        × (K.written sink.new ≡ append_known (K.written sink.old) (take n bytes.now))) }
     ensures cause { HasCause (K.faults sink.old) (K.faults sink.new) result }
 {
     let mut done = 0;

@@ -74,7 +74,8 @@ impl Fault {
 /// Writes the line that tells of a fault, with a line feed. `Failed` comes where the sink failed, which has then
 /// taken a front part of the line.
 pub fn write_fault<K: Sink>(fault: &Fault, sink: &mut K) -> Result<(), Failed>
-    ensures ok { OnOk result (K.written sink.new ≡ append_known (K.written sink.old) (line_of fault.now)) }
+    ensures ok { OnOk result (K.written sink.new
+        ≡ append_known (K.written sink.old) (line_of fault.now)) }
     ensures part { OnErr result ((n : ℕ)
         × (K.written sink.new ≡ append_known (K.written sink.old) (take n (line_of fault.now)))) }
     ensures cause { HasCause (K.faults sink.old) (K.faults sink.new) result }

@@ -134,7 +134,9 @@ pub(crate) fn read_form(alloc: Global, text: &[u8]) -> Result<BuiltForm, FormErr
 /// What a script of the built form says.
 #[tactic(auto, unfolding(crate::specs::BuiltForm::outline_of))]
 fn outline_of(text: &[u8]) -> Option<Outline<'_>>
-    ensures outline { option_map (λ it. outline it.image.now it.form it.body.now it.user.now it.count) result ≡ outline_of (lines_of text.now) }
+    ensures outline { option_map
+        (λ it. outline it.image.now it.form it.body.now it.user.now it.count) result
+        ≡ outline_of (lines_of text.now) }
     ensures image { IfSome result (λ it. is_name it.image.now ≡ true) }
     ensures user { IfSome result (λ it. is_name it.user.now ≡ true) }
     ensures small { IfSome result (λ it. it.count ≤ GREATEST_COUNT) }
@@ -155,7 +157,8 @@ fn outline_of(text: &[u8]) -> Option<Outline<'_>>
 /// The image's name and form in the first two lines, and the text behind them.
 #[tactic(auto, unfolding(crate::specs::BuiltForm::head_of))]
 fn head_of(text: &[u8]) -> Option<(&[u8], ImageForm, &[u8])>
-    ensures head { option_map (λ head. (head.0.now, head.1, lines_of head.2.now)) result ≡ head_of (lines_of text.now) }
+    ensures head { option_map (λ head. (head.0.now, head.1, lines_of head.2.now)) result
+        ≡ head_of (lines_of text.now) }
     ensures named { IfSome result (λ head. is_name head.0.now ≡ true) }
     ensures shorter { IfSome result (λ head. length head.2.now ≤ length text.now) }
 {

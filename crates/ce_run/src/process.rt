@@ -54,8 +54,10 @@ impl Process {
 
     /// Runs to the next note, and answers its word, or why the process ended.
     pub(crate) fn run(&mut self) -> Result<u32, Stop>
-        ensures noted { IfOk result (λ word. says (running_node self.old) ≡ record { node = running_node self.new; call = note_word 0 word }) }
-        ensures ended { IfErr result (λ cause. says (running_node self.old) ≡ record { node = ended_node cause self.new; call = take_work 0 1 None }) }
+        ensures noted { IfOk result (λ word. says (running_node self.old) ≡
+            record { node = running_node self.new; call = note_word 0 word }) }
+        ensures ended { IfErr result (λ cause. says (running_node self.old) ≡
+            record { node = ended_node cause self.new; call = take_work 0 1 None }) }
         ensures fewer { IfOk result (λ word. self.new.calls < self.old.calls) }
     {
         match self.run_to_call() {

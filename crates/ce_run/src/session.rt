@@ -34,7 +34,9 @@ pub(crate) fn run_script(alloc: Global, form: &BuiltForm) -> Result<Record, NoMe
 
 /// A machine whose user was granted its node, and has had the image started there.
 fn open(alloc: Global) -> Result<(Machine, Subcube), NoMemory>
-    ensures machine { IfOk result (λ opened. opened.0 ≡ record { history = first_entry ∷ spawn_entry ∷ []; armed = 0; dispatched = 0; waiting = Some 0 }) }
+    ensures machine { IfOk result
+        (λ opened. opened.0 ≡
+        record { history = first_entry ∷ spawn_entry ∷ []; armed = 0; dispatched = 0; waiting = Some 0 }) }
     ensures granted { IfOk result (λ opened. opened.1 ≡ the_node) }
 {
     let mut machine = Machine::new(alloc);
@@ -78,7 +80,8 @@ fn only_user(
 /// process runs to its end in its one turn, so the round behind it has no work.
 fn run(alloc: Global, machine: &mut Machine, image: &Image, count: u32) -> Result<Answer, NoMemory>
     requires { machine.old.waiting ≡ Some 0 }
-    ensures { IfOk result (λ answer. Adds machine.old.history machine.new.history (IsRunOf image.now count answer)) }
+    ensures { IfOk result
+        (λ answer. Adds machine.old.history machine.new.history (IsRunOf image.now count answer)) }
 {
     machine.arm(count)?;
     if is_start(machine.take(0)?) {
@@ -93,7 +96,8 @@ fn run(alloc: Global, machine: &mut Machine, image: &Image, count: u32) -> Resul
 
 /// The turn of the process, from its start to its end.
 fn turn(alloc: Global, machine: &mut Machine, image: &Image) -> Result<(), NoMemory>
-    ensures { OnOk result ((words : List ℕ) × Notes (begun image.now) words × (machine.new ≡ record machine.old { history = machine.old.history ++ note_entries words })) }
+    ensures { OnOk result ((words : List ℕ) × Notes (begun image.now) words × (machine.new ≡
+        record machine.old { history = machine.old.history ++ note_entries words })) }
 {
     let mut process = Process::start(alloc, image)?;
     while let Ok(word) = process.run() {

@@ -199,10 +199,7 @@ fn a_script_of_the_greatest_length(rt: HostRuntime) -> Result<(), Fail> {
 #[test]
 fn an_image_of_the_greatest_length(rt: HostRuntime) -> Result<(), Fail> {
     let alloc = rt.alloc();
-    let mut body = text(
-        alloc,
-        &["02A00513 00E00893 00000073 00D00893 00000073\n"],
-    )?;
+    let mut body = text(alloc, &["02A00513 00E00893 00000073 00D00893 00000073\n"])?;
     for _ in 5..30_720 {
         body.push_str("00000000\n")?;
     }
@@ -219,7 +216,11 @@ fn an_image_of_the_greatest_length(rt: HostRuntime) -> Result<(), Fail> {
 #[test]
 fn a_turn_of_the_most_notes(rt: HostRuntime) -> Result<(), Fail> {
     let alloc = rt.alloc();
-    let ran = run_image(alloc, "asm", "li a0, 42\nli a7, 14\nagain: ecall\nj again\n")?;
+    let ran = run_image(
+        alloc,
+        "asm",
+        "li a0, 42\nli a7, 14\nagain: ecall\nj again\n",
+    )?;
     let mut want = text(alloc, &[HEAD_REPORT, "run 10\n= quiet\n", CUBE])?;
     want.push_str("host arm 10\nnode 0 take 0 0 - start 0 hello\n")?;
     for _ in 0..4_096 {

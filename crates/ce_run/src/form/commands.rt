@@ -42,7 +42,8 @@ fn run_line(line: &[u8]) -> Option<u32>
 /// The user's name and the count of `run`, in the lines behind the image.
 #[tactic(auto, unfolding(crate::specs::BuiltForm::commands_of))]
 pub(super) fn commands_of<'a>(image: &[u8], text: &'a [u8]) -> Option<(&'a [u8], u32)>
-    ensures commands { option_map (λ found. (found.0.now, found.1)) result ≡ commands_of image.now (lines_of text.now) }
+    ensures commands { option_map (λ found. (found.0.now, found.1)) result
+        ≡ commands_of image.now (lines_of text.now) }
     ensures named { IfSome result (λ found. is_name found.0.now ≡ true) }
     ensures small { IfSome result (λ found. found.1 ≤ GREATEST_COUNT) }
 {
