@@ -3,32 +3,24 @@
 
 use ce_gate::Open;
 use ce_io::{StdSink, StdSource};
-use ce_run::{Ended, Fault, top, write_fault};
+use ce_run::run_command;
 use std::env::Env;
 use std::process::ExitCode;
 use std::{env, io};
 
 fn main(rt: HostRuntime) -> ExitCode {
+    let mut source = StdSource::new(rt.stdin());
+    let mut sink = StdSink::new(rt.stdout());
     let mut errors = StdSink::new(rt.stderr());
-    let Ended { status, fault, .. } = match words_of(&rt) {
-        Ok(words) => {
-            let mut source = StdSource::new(rt.stdin());
-            let mut sink = StdSink::new(rt.stdout());
-            top(
-                &rt,
-                rt.alloc(),
-                words.as_slice(),
-                &mut source,
-                &mut sink,
-                &Open,
-            )
-        }
-        Err(_) => unreadable(),
-    };
-    if let Some(fault) = fault {
-        // Where even this line can't be written, the status still tells of the fault.
-        let _ = write_fault(&fault, &mut errors);
-    }
+    let status = run_command(
+        &rt,
+        rt.alloc(),
+        words_of(&rt),
+        &mut source,
+        &mut sink,
+        &mut errors,
+        &Open,
+    );
     ExitCode::from(status)
 }
 
@@ -39,13 +31,4 @@ fn words_of<R: Env + AllocGlobal>(rt: &R) -> io::Result<Vec<String>> {
         words.push(word)?;
     }
     Ok(words)
-}
-
-/// The end of a run whose words can't be read, as where one isn't text.
-fn unreadable() -> Ended {
-    Ended {
-        status: 2,
-        kept: None,
-        fault: Some(Fault::Usage),
-    }
 }

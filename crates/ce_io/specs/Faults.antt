@@ -1,5 +1,5 @@
 -- Counts of faults, and the cause that an answer has in them.
-use Rattle.std.specs.Prelude.{ℕ, ◌+◌, ◌-◌, ◌^◌, ◌≤◌, min, Result, Ok, Err, OnErr}
+use Rattle.std.specs.Prelude.{◌≡◌, ℕ, ◌+◌, ◌-◌, ◌^◌, ◌≤◌, min, Result, Ok, Err, OnOk, OnErr}
 use Rattle.ce_io.specs.declared.failed.Failed.{Failed}
 use Rattle.ce_io.specs.Counts.{raised}
 
@@ -7,10 +7,11 @@ use Rattle.ce_io.specs.Counts.{raised}
 abbrev pub Rose : ℕ → ℕ → Type 0
 Rose before now = min (before + 1) (2 ^ 64 - 1) ≤ now
 
--- the count hasn't fallen, and a failure comes only where it rose
+-- the count hasn't fallen, a failure comes only where it rose, and no failure only where it stands
 pub record HasCause {T : Type 0} (before now : ℕ) (result : Result T Failed) : Type 0 where
   pub later : before ≤ now
   pub failed : OnErr result (Rose before now)
+  pub passed : OnOk result (now ≡ before)
 
 -- the count after a call that counts its failure, and nothing else
 abbrev pub faults_after : {T : Type 0} → ℕ → Result T Failed → ℕ

@@ -11,6 +11,7 @@ mod source;
 mod standard;
 #[cfg(test)]
 mod tests;
+mod whole;
 
 pub use failed::Failed;
 pub use memory_sink::MemSink;
@@ -18,3 +19,4 @@ pub use memory_source::MemSource;
 pub use sink::Sink;
 pub use source::Source;
 pub use standard::{StdSink, StdSource};
+pub use whole::{PIECE, ReadError, read_to_end, write_all};

@@ -1,68 +1,32 @@
-ghost use Rattle.std.specs.Prelude.{◌≡◌, IfOk, IfSome, OnOk, length};
-ghost use Rattle.std.specs.Io.KnownBytes.{append_known};
-ghost use Rattle.ce_io.specs.Counts.{raised};
-ghost use Rattle.ce_io.specs.Faults.{Rose, HasCause};
-
+//! What no clause says of sources and sinks: examples, and failing ends.
 use super::*;
 use std::alloc::Global;
 use std::io;
 use std::io::{ErrorKind, Read, Write};
 use std::test::Fail;
 
-#[derive(Clone, Copy, Debug, PartialEq, Eq)]
-enum Halt {
-    Memory,
-    Read,
-    Endless,
-}
-
-// Reads to the end, as a caller does who knows nothing but the bound.
-fn read_all<S: Source>(alloc: Global, source: &mut S) -> Result<Vec<u8>, Halt>
-    ensures told { IfOk result (λ bytes. IfSome (S.left source.old) (λ told. bytes.items ≡ told)) }
-    ensures given { IfOk result (λ bytes.
-        S.given source.new ≡ raised (S.given source.old) (length bytes.items)) }
-    ensures cause { result ≡ Err Halt.Read → Rose (S.faults source.old) (S.faults source.new) }
-{
-    let mut bytes = Vec::new(alloc);
-    let mut piece = [0; 4];
-    for _ in 0..u64::MAX {
-        let Ok(count) = source.read(&mut piece) else {
-            return Err(Halt::Read);
-        };
-        if count == 0 {
-            return Ok(bytes);
-        }
-        if bytes.extend_from_slice(&piece[..count]).is_err() {
-            return Err(Halt::Memory);
-        }
-    }
-    Err(Halt::Endless)
-}
-
-// Writes it all, or up to the first failure.
-fn write_all<K: Sink>(sink: &mut K, bytes: &[u8]) -> Result<(), Failed>
-    ensures written { OnOk result (K.written sink.new ≡ append_known (K.written sink.old) bytes.now) }
-    ensures cause { HasCause (K.faults sink.old) (K.faults sink.new) result }
-{
-    let mut rest = bytes;
-    while !rest.is_empty() {
-        let count = sink.write(rest)?;
-        rest = &rest[count..];
-    }
-    Ok(())
-}
-
 #[test]
 fn a_source_is_read_to_its_end(rt: HostRuntime) -> Result<(), Fail> {
     let alloc = rt.alloc();
     let bytes = [1, 2, 3, 4, 5, 6, 7];
-    let mut memory = MemSource::new(bytes.to_vec(alloc)?, Vec::new(alloc), 3);
-    assert_eq!(rt; read_all(alloc, &mut memory)?.as_slice(), bytes.as_slice());
-    let mut standard = StdSource::new(bytes.as_slice());
-    assert_eq!(rt;
-        read_all(alloc, &mut standard)?.as_slice(),
-        bytes.as_slice()
-    );
+    for limit in [7, 8] {
+        let mut memory = MemSource::new(bytes.to_vec(alloc)?, Vec::new(alloc), 3);
+        assert_eq!(rt;
+            read_to_end(alloc, &mut memory, limit)?.as_slice(),
+            bytes.as_slice()
+        );
+        let mut standard = StdSource::new(bytes.as_slice());
+        assert_eq!(rt;
+            read_to_end(alloc, &mut standard, limit)?.as_slice(),
+            bytes.as_slice()
+        );
+    }
+    let mut long = StdSource::new(bytes.as_slice());
+    let refused = read_to_end(alloc, &mut long, 6);
+    assert!(rt; matches!(refused, Err(ReadError::TooLong)));
+    let mut failing = MemSource::new(bytes.to_vec(alloc)?, [2].to_vec(alloc)?, 3);
+    let refused = read_to_end(alloc, &mut failing, 8);
+    assert!(rt; matches!(refused, Err(ReadError::Read)));
     Ok(())
 }
 
@@ -100,33 +64,80 @@ fn a_sink_without_room_fails(rt: HostRuntime) -> Result<(), Fail> {
     Ok(())
 }
 
-// Is interrupted, fails, and then gives a 7 at each read.
+/// What each call of a reader or a writer does: fails so, or moves one byte.
+const CALLS: [Option<ErrorKind>; 9] = [
+    Some(ErrorKind::Interrupted),
+    Some(ErrorKind::Interrupted),
+    Some(ErrorKind::Interrupted),
+    None,
+    Some(ErrorKind::Other),
+    Some(ErrorKind::Interrupted),
+    Some(ErrorKind::UnexpectedEof),
+    Some(ErrorKind::WouldBlock),
+    Some(ErrorKind::TimedOut),
+];
+
+/// Does what `CALLS` says, and then moves one byte a call, a 7 where it is read.
 #[derive(Drop)]
 struct Faulty {
-    calls: u64,
+    calls: usize,
+}
+
+impl Faulty {
+    fn call(&mut self) -> io::Result<usize> {
+        let call = self.calls;
+        self.calls = call.saturating_add(1);
+        match CALLS.get(call) {
+            Some(Some(kind)) => Err(io::Error::from(*kind)),
+            _ => Ok(1),
+        }
+    }
 }
 
 impl Read for Faulty {
     fn read(&mut self, buf: &mut [u8]) -> io::Result<usize> {
-        let call = self.calls;
-        self.calls = call.saturating_add(1);
-        if call == 0 {
-            return Err(io::Error::from(ErrorKind::Interrupted));
+        if buf.is_empty() {
+            return Ok(0);
         }
-        if call == 1 || buf.is_empty() {
-            return Err(io::Error::from(ErrorKind::Other));
-        }
+        self.call()?;
         buf[0] = 7;
         Ok(1)
     }
 }
 
+impl Write for Faulty {
+    fn write(&mut self, buf: &[u8]) -> io::Result<usize> {
+        if buf.is_empty() {
+            return Ok(0);
+        }
+        self.call()?;
+        Ok(1)
+    }
+
+    fn flush(&mut self) -> io::Result<()> {
+        Ok(())
+    }
+}
+
+/// What a source or a sink answers over `CALLS`: interruptions are tried again, and each other fault is told.
+const ANSWERS: [Result<usize, Failed>; 6] = [
+    Ok(1),
+    Err(Failed),
+    Err(Failed),
+    Err(Failed),
+    Err(Failed),
+    Ok(1),
+];
+
 #[test]
-fn a_reader_that_fails_is_told(rt: HostRuntime) {
+fn interruptions_are_tried_again_and_faults_told(rt: HostRuntime) {
     let mut source = StdSource::new(Faulty { calls: 0 });
+    let mut sink = StdSink::new(Faulty { calls: 0 });
     let mut piece = [0; 2];
-    assert_eq!(rt; source.read(&mut piece), Err(Failed));
-    assert_eq!(rt; source.read(&mut piece), Ok(1));
+    for answer in ANSWERS {
+        assert_eq!(rt; source.read(&mut piece), answer);
+        assert_eq!(rt; sink.write(&piece), answer);
+    }
     assert_eq!(rt; piece[0], 7);
 }
 

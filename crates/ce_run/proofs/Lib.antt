@@ -1,9 +1,9 @@
 pub mod Body
 pub mod BodyText
 pub mod Digits
+pub mod Ends
 pub mod HelloRow
 pub mod InnerSteps
-pub mod Known
 pub mod LineCuts
 pub mod NameBytes
 pub mod OneCubeFacts

@@ -3,6 +3,7 @@ use Rattle.std.proofs.Common.{◌≡◌, ℕ, zero, suc, ◌≤◌, List, [], �
 use Rattle.std.specs.List.{AllByRecursion}
 use Rattle.std.proofs.lemmas.List.{append-nil, append_assoc}
 use Rattle.std.proofs.lemmas.Bool.Decides.{nat_tests}
+use Rattle.ce_model.specs.declared.limits.TheConstants.{GREATEST_COUNT}
 use Rattle.ce_model.specs.declared.entry.Entry.{Entry}
 use Rattle.ce_model.specs.declared.entry.What.TheVariants.{Arm, Look, Note, Take}
 use Rattle.ce_model.specs.declared.entry.Found.TheVariants.{Quiet as FoundQuiet, Spent as FoundSpent}
@@ -18,7 +19,7 @@ use Rattle.ce_run.specs.declared.record.Command.TheVariants.{Getcube as AskCube,
 use Rattle.ce_run.specs.declared.record.Answer.{Answer}
 use Rattle.ce_run.specs.declared.record.Record.{Record}
 use Rattle.ce_run.specs.Commands.{IsTurnStep, IsRun, IsRoundWithWork, IsRoundWithoutWork, AreCommands, serial, joined}
-use Rattle.ce_run.specs.Legal.{IsAloneIn, Legal, Serial, steps_of_user}
+use Rattle.ce_run.specs.Legal.{IsAloneIn, IsLegal, IsSerial, steps_of_user}
 use Rattle.ce_run.specs.Script.{Named, Script}
 use Rattle.ce_run.specs.OneCube.{the_node, first_entry, host_entry, node_entry, place_0, IsInnerStep, IsOneCube, begun, Notes, note_entries, start_entries, spawn_entry, replies_of, IsRunOf}
 use Rattle.ce_run.proofs.InnerSteps.{spawn_inner}
@@ -136,7 +137,7 @@ run_entries count words =
 not_none : (more : ℕ) → (0 == suc more) ≡ false
 not_none more = grind (arith, nat_tests)
 
-ran_stands : (image : ImageParts) (more : ℕ) (words : List ℕ) → suc more ≤ 1000000 → Notes (begun image) words
+ran_stands : (image : ImageParts) (more : ℕ) (words : List ℕ) → suc more ≤ GREATEST_COUNT → Notes (begun image) words
     → Stands image (spawn_entry ∷ run_entries (suc more) words) (hears (image ∷ []) (says (after_notes (begun image) words)).node (got Idle)) (suc more) 1 at_rest
 ran_stands image more words le h =
     let count : ℕ = suc more in
@@ -166,7 +167,7 @@ record Whole (image : ImageParts) (t : List Entry) : Type 0 where
   lawful : IsLawful (one_machine image) (first_entry ∷ t)
   alone : IsAlone (one_cube image) t
 
-run_whole : (image : ImageParts) (count : ℕ) (answer : Answer) (steps : List Entry) → count ≤ 1000000 → IsRunOf image count answer steps
+run_whole : (image : ImageParts) (count : ℕ) (answer : Answer) (steps : List Entry) → count ≤ GREATEST_COUNT → IsRunOf image count answer steps
     → Whole image (spawn_entry ∷ steps)
 run_whole image zero answer steps le h =
     let s = spent_stands image in
@@ -177,7 +178,7 @@ run_whole image (suc more) answer steps le h =
     let P : List Entry → Type 0 = λ u. Whole image (spawn_entry ∷ u) in
     subst P (sym h.3) (record { inner = s.inner; lawful = s.lawful; alone = s.alone })
 
-pub run_inner : (image : ImageParts) (count : ℕ) (answer : Answer) (steps : List Entry) → count ≤ 1000000 → IsRunOf image count answer steps
+pub run_inner : (image : ImageParts) (count : ℕ) (answer : Answer) (steps : List Entry) → count ≤ GREATEST_COUNT → IsRunOf image count answer steps
     → IsOneCube (first_entry ∷ spawn_entry ∷ steps)
 run_inner image count answer steps le run = (refl, (run_whole image count answer steps le run).inner)
 
@@ -258,14 +259,14 @@ users_all (entry ∷ t) h = rw (ap (λ user. user == 0) h.0.user) (ap (λ more. 
 joined_all : (steps : List Entry) → joined (segments_with steps) ≡ first_entry ∷ spawn_entry ∷ steps
 joined_all steps = ap (λ more. first_entry ∷ spawn_entry ∷ more) (append-nil steps)
 
-module _ (named : Named) (user : List ℕ) (count : ℕ) (answer : Answer) (steps : List Entry) (le : count ≤ 1000000) (run : IsRunOf named.image count answer steps) where
+module _ (named : Named) (user : List ℕ) (count : ℕ) (answer : Answer) (steps : List Entry) (le : count ≤ GREATEST_COUNT) (run : IsRunOf named.image count answer steps) where
   whole : Whole named.image (spawn_entry ∷ steps)
   whole = run_whole named.image count answer steps le run
 
   go : AreCommands serial (named.image ∷ []) 0 None (replies_of the_node count answer) (segments_with steps)
   go = commands_go named.image count answer steps whole.inner (run_is named.image count answer steps run)
 
-  pub run_is_legal : Legal (script_with named user count) (record_with user count answer steps)
+  pub run_is_legal : IsLegal (script_with named user count) (record_with user count answer steps)
   run_is_legal =
       let history : List Entry = first_entry ∷ spawn_entry ∷ steps in
       let P : List (ℕ × Grant) → Type 0 = AllByRecursion (IsAloneIn (script_with named user count) history) in
@@ -285,7 +286,7 @@ module _ (named : Named) (user : List ℕ) (count : ℕ) (answer : Answer) (step
             (subst (IsAlone (one_cube named.image)) (sym (whole_view (spawn_entry ∷ steps) whole.inner)) whole.alone, tt);
       }
 
-  pub run_is_serial : Serial (script_with named user count) (record_with user count answer steps)
+  pub run_is_serial : IsSerial (script_with named user count) (record_with user count answer steps)
   run_is_serial = record {
     segments = segments_with steps;
     one_each = refl;
@@ -294,13 +295,13 @@ module _ (named : Named) (user : List ℕ) (count : ℕ) (answer : Answer) (step
   }
 
 -- what is kept is legal where it is this record
-module _ (named : Named) (user : List ℕ) (count : ℕ) (answer : Answer) (steps : List Entry) (le : count ≤ 1000000) (run : IsRunOf named.image count answer steps)
+module _ (named : Named) (user : List ℕ) (count : ℕ) (answer : Answer) (steps : List Entry) (le : count ≤ GREATEST_COUNT) (run : IsRunOf named.image count answer steps)
     (kept : Record) (is : kept ≡ record_with user count answer steps) where
   pub kept_is_one : IsOneCube kept.history
   kept_is_one = subst IsOneCube (sym (ap (λ (k : Record). k.history) is)) (run_inner named.image count answer steps le run)
 
-  pub kept_is_legal : Legal (script_with named user count) kept
-  kept_is_legal = subst (Legal (script_with named user count)) (sym is) (run_is_legal named user count answer steps le run)
+  pub kept_is_legal : IsLegal (script_with named user count) kept
+  kept_is_legal = subst (IsLegal (script_with named user count)) (sym is) (run_is_legal named user count answer steps le run)
 
-  pub kept_is_serial : Serial (script_with named user count) kept
-  kept_is_serial = subst (Serial (script_with named user count)) (sym is) (run_is_serial named user count answer steps le run)
+  pub kept_is_serial : IsSerial (script_with named user count) kept
+  kept_is_serial = subst (IsSerial (script_with named user count)) (sym is) (run_is_serial named user count answer steps le run)

@@ -3,6 +3,7 @@ use Rattle.std.proofs.Common.{◌≡◌, ℕ, ◌+◌, ◌≤◌, List, [], ◌�
 use Rattle.std.specs.Option.{IsSomeAnd}
 use Rattle.std.specs.List.{AllByRecursion, list_any}
 use Rattle.std.proofs.lemmas.List.{append-nil}
+use Rattle.ce_model.specs.declared.limits.TheConstants.{GREATEST_COUNT}
 use Rattle.ce_model.specs.declared.topology.TheConstants.{HOST}
 use Rattle.ce_model.specs.declared.entry.Entry.{Entry}
 use Rattle.ce_model.specs.declared.entry.What.{What}
@@ -80,7 +81,7 @@ module _ (image : ImageParts) (t : List Entry) (node : Node) (armed used : ℕ) 
   quiet_stays entry a items =
       ap (is_node_quiet items) (last_of-more 0 t entry ∙ ap (λ b. if b then Some entry else last_of 0 t) a) ∙ s.quiet_is items
 
-  pub arm_step : (count : ℕ) → count ≤ 1000000 → Stands image (t ++ host_entry (Arm count) ∷ []) node count 0 kept_of_node
+  pub arm_step : (count : ℕ) → count ≤ GREATEST_COUNT → Stands image (t ++ host_entry (Arm count) ∷ []) node count 0 kept_of_node
   arm_step count le =
       let entry : Entry = host_entry (Arm count) in
       record {

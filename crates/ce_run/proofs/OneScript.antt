@@ -1,10 +1,10 @@
 -- A text is one script at most.
-use Rattle.std.proofs.Common.{◌≡◌, ℕ, List, Option, Some, None, IfSome, Ok, Result, ap, sym, ◌∙◌, subst}
+use Rattle.std.proofs.Common.{◌≡◌, ℕ, List, Option, Some, Ok, Result, ap, sym, ◌∙◌, subst}
 use Rattle.rv_model.specs.Image.{ImageParts, image_parts, image_start}
 use Rattle.rv_asm.specs.declared.fault.AsmFault.{AsmFault}
 use Rattle.rv_asm.specs.Assembly.{Assembly, assembled, IsLaidOut}
 use Rattle.rv_asm.specs.Spelling.{Spells}
-use Rattle.rv_asm.proofs.Laws.{one_spelling}
+use Rattle.rv_asm.proofs.Spelled.{one_spelling}
 use Rattle.rv_image.specs.Rki1.{fields_of}
 use Rattle.rv_image.proofs.Spelled.{fields_of-rki1}
 use Rattle.ce_run.specs.declared.form.BuiltForm.{BuiltForm}
@@ -13,7 +13,7 @@ use Rattle.ce_run.specs.declared.form.image.ImageForm.{ImageForm}
 use Rattle.ce_run.specs.declared.form.image.ImageForm.TheVariants.{Hex, Asm, Rki}
 use Rattle.ce_run.specs.ImageBody.{Describes, body_bytes}
 use Rattle.ce_run.specs.BuiltForm.{Outline, Says, built_of}
-use Rattle.ce_run.specs.Script.{Script, IsScript, OfScript, script_of_form}
+use Rattle.ce_run.specs.Script.{Script, IsScript, script_of_form}
 
 same_bytes : (x : Option (List ℕ)) (a b : List ℕ) → x ≡ Some a → x ≡ Some b → a ≡ b
 same_bytes x a b h k = cc
@@ -45,15 +45,7 @@ one_form text form form' h k =
     let image : form.program ≡ form'.program = one_image h.0.form h.0.body form.program form'.program h.2 (subst P (sym same) k.2) in
     h.3 ∙ ap (λ o. built_of o form.program) same ∙ ap (built_of k.0) image ∙ sym k.3
 
--- what holds of the script that was read holds of each that the text is
-pub of_script : (text : List ℕ) (form : BuiltForm) (P : Script → Type 0) → Says text form → P (script_of_form form)
-    → (script : Script) → IsScript text script → P script
-of_script text form P says p script is =
-    subst P (ap script_of_form (one_form text form is.0 says is.1) ∙ sym is.2) p
-
--- the same of what is kept of a run, where the source told its bytes
-pub of_kept : {R : Type 0} (kept : Option R) (left : Option (List ℕ)) (form : BuiltForm) (Q : List ℕ → Type 0) (P : R → Script → Type 0)
-    → IfSome left (λ text. Q text × Says text form) → IfSome kept (λ k. P k (script_of_form form)) → IfSome kept (λ k. OfScript left (P k))
-of_kept None left form Q P says p = tt
-of_kept (Some k) None form Q P says p = tt
-of_kept (Some k) (Some text) form Q P says p = of_script text form (P k) says.1 p
+-- a text is one script at most
+pub one_script : (text : List ℕ) (script script' : Script) → IsScript text script → IsScript text script' → script ≡ script'
+one_script text script script' h k =
+    h.2 ∙ ap script_of_form (one_form text h.0 k.0 h.1 k.1) ∙ sym k.2

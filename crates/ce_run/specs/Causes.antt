@@ -1,5 +1,5 @@
 -- Why a run ended as it did.
-use Rattle.std.specs.Prelude.{◌≡◌, ℕ, ◌-◌, ◌^◌, ◌<◌, ◌≤◌, List, [], ◌∷◌, Option, Some, None, Bool, false, codes, take}
+use Rattle.std.specs.Prelude.{◌≡◌, ℕ, List, [], ◌∷◌, Option, Some, None, Bool, false, codes, take}
 use Rattle.std.specs.Str.{bytes_eq}
 use Rattle.std.specs.Io.KnownBytes.{append_known}
 use Rattle.ce_run.specs.declared.ended.Fault.{Fault}
@@ -31,17 +31,6 @@ abbrev pub EndsReading : Fault → Type 0
 EndsReading Usage = ⊥
 EndsReading Write = ⊥
 EndsReading other = Unit {0}
-
--- a count of what a source gave tells how much it was, unless it stands at the end of its type
-abbrev pub Tells : ℕ → Type 0
-Tells count = count < 2 ^ 64 - 1
-
--- by its counts before and after, a source gave more bytes than a script may have, or no more than that
-abbrev pub GaveTooMuch : ℕ → ℕ → Type 0
-GaveTooMuch before now = 1048576 < now - before
-
-abbrev pub GaveFew : ℕ → ℕ → Type 0
-GaveFew before now = now - before ≤ 1048576
 
 -- what was written at the end: the whole report, or, where the sink failed, a front part of it
 abbrev pub Reports : Option Fault → List ℕ → Option (List ℕ) → Option (List ℕ) → Type 0

@@ -5,7 +5,8 @@ use Rattle.std.specs.Str.{bytes_eq}
 use Rattle.std.specs.Int.{w32, to_le_bytes}
 use Rattle.rv_model.specs.Image.{ImageParts, IsImage, image_parts, image_start}
 use Rattle.rv_asm.specs.Assembly.{Assembles}
-use Rattle.rv_asm.specs.Line.{is_blank, code_of, trimmed}
+use Rattle.ce_text.specs.Bytes.{is_blank}
+use Rattle.ce_text.specs.Line.{before_comment, trimmed}
 use Rattle.rv_image.specs.Rki1.{IsRki1}
 use Rattle.ce_run.specs.declared.form.digits.Digits.{Digits}
 use Rattle.ce_run.specs.declared.form.digits.Digits.TheVariants.{Word, Bytes}
@@ -17,7 +18,7 @@ use Rattle.ce_run.specs.Words.{number_in, hex_word}
 -- the line that ends a body: of instruction words `end` and nothing else, and of the other forms a line whose only word is `end`
 abbrev pub ends_body : ImageForm → List ℕ → Bool
 ends_body Hex line = bytes_eq line (codes "end")
-ends_body other line = bytes_eq (trimmed (code_of line)) (codes "end")
+ends_body other line = bytes_eq (trimmed (before_comment line)) (codes "end")
 
 -- ---- words of digits
 
@@ -52,7 +53,7 @@ words_of digits line = slice_split (separates digits) line
 -- what a line has besides a comment, which lines of instruction words don't have
 abbrev pub part_of : Digits → List ℕ → List ℕ
 part_of Word line = line
-part_of Bytes line = code_of line
+part_of Bytes line = before_comment line
 
 -- the bytes of the words of a line
 abbrev pub line_bytes : Digits → List ℕ → Option (List ℕ)

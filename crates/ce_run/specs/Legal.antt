@@ -39,7 +39,7 @@ IsAloneIn script history numbered = IsAlone (cube_of (images_of script) numbered
 -- the script has no user), each command makes its steps and has its reply, all rounds are of one kind, and each cube's
 -- trace is the one that it gives alone. Each getcube is granted: its user holds no cube then, and the cube is the first that
 -- is free, by `lawful`; a getcube that is refused has no reply yet.
-pub record Legal (script : Script) (kept : Record) : Type 0 where
+pub record IsLegal (script : Script) (kept : Record) : Type 0 where
   pub kind : RoundKind
   pub keeps : KeepsScript script kept
   pub lawful : IsLawful (machine_of script) kept.history
@@ -51,7 +51,7 @@ abbrev pub segments_of_user : Script → List (List Entry) → ℕ → List (Lis
 segments_of_user script segments user = map (λ own. own.1) (filter (λ own. own.0.0 == user) (zip script.commands segments))
 
 -- the steps of each command stand together, the commands of all users go in the script's order, and every round is a serial one
-pub record Serial (script : Script) (kept : Record) : Type 0 where
+pub record IsSerial (script : Script) (kept : Record) : Type 0 where
   pub segments : List (List Entry)
   pub one_each : length segments ≡ length script.commands
   pub all : kept.history ≡ joined segments

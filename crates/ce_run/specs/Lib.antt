@@ -5,11 +5,11 @@ pub mod Fault
 pub mod FormError
 pub mod Hello
 pub mod ImageBody
-pub mod InputError
 pub mod Kept
 pub mod Legal
 pub mod Lines
 pub mod OneCube
+pub mod Promise
 pub mod Running
 pub mod Script
 pub mod Small

@@ -1,5 +1,5 @@
 -- What a script says.
-use Rattle.std.specs.Prelude.{◌≡◌, ℕ, List, [], ◌∷◌, Option, Some, IfSome}
+use Rattle.std.specs.Prelude.{◌≡◌, ℕ, List, [], ◌∷◌, Option, Some}
 use Rattle.rv_model.specs.Image.{ImageParts}
 use Rattle.ce_run.specs.declared.record.Command.{Command}
 use Rattle.ce_run.specs.declared.record.Command.TheVariants.{Getcube, Spawn, Run}
@@ -31,7 +31,3 @@ script_of_form form = record {
 -- a text is a script, and this is the script
 abbrev pub IsScript : List ℕ → Script → Type 0
 IsScript text script = (form : BuiltForm) × Says text form × (script ≡ script_of_form form)
-
--- this holds of the script that a text is, where the text is told; a text is one script at most
-abbrev pub OfScript : Option (List ℕ) → (Script → Type 0) → Type 0
-OfScript left P = IfSome left (λ text. (script : Script) → IsScript text script → P script)

@@ -3,6 +3,7 @@ use Rattle.std.specs.Prelude.{ℕ, List, [], ◌∷◌, Option, Some, None, Bool
 use Rattle.std.specs.List.{list_all}
 use Rattle.std.specs.Str.Parse.{digits_value}
 use Rattle.std.specs.Char.{digit_value, is_ascii_alphabetic, is_ascii_alphanumeric}
+use Rattle.ce_model.specs.declared.limits.TheConstants.{GREATEST_COUNT}
 use Rattle.ce_run.specs.Lines.{◌>>=◌}
 
 -- a byte that may stand in a name behind the first: a letter, a digit or `_`
@@ -22,8 +23,8 @@ number_in radix digits = if list_all (λ b. nat_lt (digit_value b) radix) digits
 unfoldable pub hex_word : List ℕ → Option ℕ
 hex_word digits = if length digits == 8 then number_in 16 digits else None
 
--- a count of dispatches: one to ten decimal digits, up to 1,000,000
+-- a count of dispatches: one to ten decimal digits, up to the greatest
 unfoldable pub count_of : List ℕ → Option ℕ
 count_of digits = do
   n ← if nat_lt 0 (length digits) && nat_lt (length digits) 11 then number_in 10 digits else None
-  if nat_le n 1000000 then Some n else None
+  if nat_le n GREATEST_COUNT then Some n else None

@@ -1,12 +1,11 @@
 //! How a call ends, and the lines that say so.
-ghost use Rattle.std.specs.Prelude.{◌≡◌, ◌≤◌, ℕ, OnOk, OnErr, take};
+ghost use Rattle.std.specs.Prelude.{◌≡◌, ℕ, OnOk, OnErr, take};
 ghost use Rattle.std.specs.Io.KnownBytes.{append_known};
-ghost use Rattle.ce_io.specs.Faults.{Rose};
+ghost use Rattle.ce_io.specs.Faults.{HasCause};
 ghost use Rattle.ce_run.specs.Fault.{line_of, status_of};
 
-use crate::output::write_all;
 use crate::record::Record;
-use ce_io::{Failed, Sink};
+use ce_io::{Failed, Sink, write_all};
 use ce_model::NoMemory;
 use thiserror::Error;
 
@@ -75,10 +74,11 @@ impl Fault {
 /// Writes the line that tells of a fault, with a line feed. `Failed` comes where the sink failed, which has then
 /// taken a front part of the line.
 pub fn write_fault<K: Sink>(fault: &Fault, sink: &mut K) -> Result<(), Failed>
-    ensures ok { OnOk result (K.written sink.new ≡ append_known (K.written sink.old) (line_of fault.now)) }
-    ensures part { OnErr result ((n : ℕ) × (K.written sink.new ≡ append_known (K.written sink.old) (take n (line_of fault.now)))) }
-    ensures later { K.faults sink.old ≤ K.faults sink.new }
-    ensures failed { OnErr result (Rose (K.faults sink.old) (K.faults sink.new)) }
+    ensures ok { OnOk result (K.written sink.new
+        ≡ append_known (K.written sink.old) (line_of fault.now)) }
+    ensures part { OnErr result ((n : ℕ)
+        × (K.written sink.new ≡ append_known (K.written sink.old) (take n (line_of fault.now)))) }
+    ensures cause { HasCause (K.faults sink.old) (K.faults sink.new) result }
 {
     write_all(sink, fault.line())
 }

@@ -13,13 +13,16 @@ mod lines;
 mod words;
 
 use crate::name::Name;
-use ce_model::NoMemory;
+use ce_model::{GREATEST_COUNT, NoMemory};
 use commands::commands_of;
 use image::{ImageForm, body_of, image_line, program_of};
 use lines::next_line;
 use rv_asm::{AsmFault, AsmKind};
 use rv_image::{Image, ImageFault};
 use std::alloc::{AllocError, AllocFailed, Global};
+
+/// The most bytes that a script may have.
+pub const SCRIPT_LIMIT: usize = 1_048_576;
 
 /// What a script of the built form says.
 #[derive(Drop)]
@@ -30,7 +33,7 @@ pub(crate) struct BuiltForm {
     pub(crate) program: Image,
     /// The user's name.
     pub(crate) user: Name,
-    /// How many dispatches `run` allows, 1,000,000 at most.
+    /// How many dispatches `run` allows, `GREATEST_COUNT` at most.
     pub(crate) count: u32,
 }
 
@@ -113,9 +116,9 @@ struct Outline<'a> {
 
 /// Reads a script of the built form. It is of another form also where its image is refused, unless memory runs out.
 pub(crate) fn read_form(alloc: Global, text: &[u8]) -> Result<BuiltForm, FormError>
-    requires { length text.now ≤ 1048576 }
+    requires { length text.now ≤ SCRIPT_LIMIT }
     ensures ok { IfOk result (Says text.now) }
-    ensures small { IfOk result (λ form. form.count ≤ 1000000) }
+    ensures small { IfOk result (λ form. form.count ≤ GREATEST_COUNT) }
     ensures not_built { IsErrOf result NotBuilt → ¬ IsBuilt text.now }
 {
     let script = outline_of(text).ok_or(FormError::NotBuilt)?;
@@ -131,10 +134,12 @@ pub(crate) fn read_form(alloc: Global, text: &[u8]) -> Result<BuiltForm, FormErr
 /// What a script of the built form says.
 #[tactic(auto, unfolding(crate::specs::BuiltForm::outline_of))]
 fn outline_of(text: &[u8]) -> Option<Outline<'_>>
-    ensures outline { option_map (λ it. outline it.image.now it.form it.body.now it.user.now it.count) result ≡ outline_of (lines_of text.now) }
+    ensures outline { option_map
+        (λ it. outline it.image.now it.form it.body.now it.user.now it.count) result
+        ≡ outline_of (lines_of text.now) }
     ensures image { IfSome result (λ it. is_name it.image.now ≡ true) }
     ensures user { IfSome result (λ it. is_name it.user.now ≡ true) }
-    ensures small { IfSome result (λ it. it.count ≤ 1000000) }
+    ensures small { IfSome result (λ it. it.count ≤ GREATEST_COUNT) }
     ensures shorter { IfSome result (λ it. length it.body.now ≤ length text.now) }
 {
     let (image, form, rest) = head_of(text)?;
@@ -152,7 +157,8 @@ fn outline_of(text: &[u8]) -> Option<Outline<'_>>
 /// The image's name and form in the first two lines, and the text behind them.
 #[tactic(auto, unfolding(crate::specs::BuiltForm::head_of))]
 fn head_of(text: &[u8]) -> Option<(&[u8], ImageForm, &[u8])>
-    ensures head { option_map (λ head. (head.0.now, head.1, lines_of head.2.now)) result ≡ head_of (lines_of text.now) }
+    ensures head { option_map (λ head. (head.0.now, head.1, lines_of head.2.now)) result
+        ≡ head_of (lines_of text.now) }
     ensures named { IfSome result (λ head. is_name head.0.now ≡ true) }
     ensures shorter { IfSome result (λ head. length head.2.now ≤ length text.now) }
 {

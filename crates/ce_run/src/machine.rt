@@ -44,7 +44,11 @@ impl Machine {
     }
 
     fn post(&mut self, actor: u32, what: What) -> Result<(), NoMemory>
-        ensures ok { OnOk result (self.new ≡ record self.old { history = self.old.history ++ (record { user = 0; actor = actor; what = what }) ∷ [] }) }
+        ensures ok { OnOk result (self.new ≡
+            record self.old {
+              history = self.old.history
+                  ++ (record { user = 0; actor = actor; what = what }) ∷ [];
+            }) }
         ensures armed { self.new.armed ≡ self.old.armed }
         ensures dispatched { self.new.dispatched ≡ self.old.dispatched }
     {
@@ -56,7 +60,8 @@ impl Machine {
     /// Grants the one cube that there is.
     pub(crate) fn getcube(&mut self) -> Result<Subcube, NoMemory>
         ensures granted { IfOk result (λ sub. sub ≡ the_node) }
-        ensures posted { OnOk result (self.new ≡ record self.old { history = self.old.history ++ first_entry ∷ [] }) }
+        ensures posted { OnOk result (self.new ≡
+            record self.old { history = self.old.history ++ first_entry ∷ [] }) }
     {
         let granted = Subcube { mask: 0, base: 0 };
         let sub = Some(granted);
@@ -105,7 +110,8 @@ impl Machine {
 
     /// Gives the node its next work. `dead` has bit 0 where the process has stopped.
     pub(crate) fn take(&mut self, dead: u32) -> Result<Given, NoMemory>
-        ensures given { IfOk result (λ given. given ≡ given_of self.old.waiting self.old.armed self.old.dispatched) }
+        ensures given { IfOk result
+            (λ given. given ≡ given_of self.old.waiting self.old.armed self.old.dispatched) }
         ensures posted { IfOk result (λ given. self.new ≡ after_given given (record self.old {
           history = self.old.history ++ node_entry (Take 0 dead None given) ∷ [];
         })) }
@@ -144,7 +150,8 @@ impl Machine {
 
     /// Keeps a word that the process noted.
     pub(crate) fn note(&mut self, word: u32) -> Result<(), NoMemory>
-        ensures posted { OnOk result (self.new ≡ record self.old { history = self.old.history ++ node_entry (Note 0 word) ∷ [] }) }
+        ensures posted { OnOk result (self.new ≡
+            record self.old { history = self.old.history ++ node_entry (Note 0 word) ∷ [] }) }
     {
         self.post(NODE, What::Note { pid: PID, word })?;
         Ok(())
@@ -152,8 +159,10 @@ impl Machine {
 
     /// Tells whether the node has work.
     pub(crate) fn look(&mut self) -> Result<Found, NoMemory>
-        ensures found { IfOk result (λ found. found ≡ found_of self.old.waiting self.old.armed self.old.dispatched) }
-        ensures posted { IfOk result (λ found. self.new ≡ record self.old { history = self.old.history ++ host_entry (Look found) ∷ [] }) }
+        ensures found { IfOk result
+            (λ found. found ≡ found_of self.old.waiting self.old.armed self.old.dispatched) }
+        ensures posted { IfOk result (λ found. self.new ≡
+            record self.old { history = self.old.history ++ host_entry (Look found) ∷ [] }) }
     {
         let found = self.next_found();
         self.post(HOST, What::Look { found })?;

@@ -1,4 +1,4 @@
-ghost use Rattle.std.specs.Prelude.{◌≡◌, IfOk, true};
+ghost use Rattle.std.specs.Prelude.{◌≡◌, IfOk, IsTrue};
 ghost use Rattle.std.specs.String.{string_bytes};
 ghost use Rattle.ce_run.specs.Words.{is_name};
 
@@ -13,17 +13,21 @@ pub struct Name {
 }
 
 impl Model for Name {
-    ghost use Rattle.std.specs.Prelude.{List, ℕ};
+    ghost use Rattle.std.specs.Prelude.{List, ℕ, IsTrue};
     ghost use Rattle.std.specs.String.{string_bytes};
+    ghost use Rattle.ce_run.specs.Words.{is_name};
 
     ghost Value = { List ℕ };
 
     ghost view = { λ name. string_bytes name.text };
+
+    ghost invariant = { λ name. IsTrue (is_name (string_bytes name.text)) };
 }
 
 impl Name {
-    /// The name of this text.
+    /// The name of this text, which must be a name's.
     pub fn from_text(text: String) -> Name
+        requires { IsTrue (is_name (string_bytes text)) }
         ensures { result ≡ string_bytes text }
     {
         Name { text }
@@ -31,7 +35,7 @@ impl Name {
 
     /// The name that these bytes spell.
     pub(crate) fn of_bytes(alloc: Global, bytes: &[u8]) -> Result<Name, NoMemory>
-        requires { is_name bytes.now ≡ true }
+        requires { IsTrue (is_name bytes.now) }
         ensures { IfOk result (λ name. name ≡ bytes.now) }
     {
         let mut text = String::with_capacity(alloc, bytes.len())?;
@@ -43,7 +47,8 @@ impl Name {
 
     /// The name as text.
     pub fn as_str(&self) -> &str
-        ensures { result.now ≡ self.now }
+        ensures bytes { result.now ≡ self.now }
+        ensures name { IsTrue (is_name self.now) }
     {
         self.text.as_str()
     }

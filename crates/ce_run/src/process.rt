@@ -4,7 +4,7 @@ ghost use Rattle.ce_run.specs.Small.Process.{at_call, at_end, ended, reached};
 ghost use Rattle.ce_run.specs.Small.Node.{says, note_word, take_work};
 ghost use Rattle.ce_run.specs.Running.{process_of, running_node, ended_node, IsStart};
 
-use ce_model::{NoMemory, Stop};
+use ce_model::{NoMemory, Stop, TURN_CALLS, TURN_INSTRUCTIONS};
 use rv_image::Image;
 use rv_model::PRIVATE_END;
 use rv_step::{Event, PrivateMemory, Regs, step};
@@ -22,11 +22,6 @@ const A7: u8 = 17;
 const EXIT: u32 = 13;
 /// The kernel call that leaves a word in the trace.
 const NOTE: u32 = 14;
-
-/// How many instructions a turn may run, and how many counted calls it may make.
-const TURN_LENGTH: u32 = 4_000_000;
-
-const TURN_CALLS: u32 = 4_096;
 
 /// A process in its turn, with what the turn has left.
 #[derive(Drop)]
@@ -52,15 +47,17 @@ impl Process {
             registers,
             pc: image.entry(),
             memory,
-            left: TURN_LENGTH,
+            left: TURN_INSTRUCTIONS,
             calls: TURN_CALLS,
         })
     }
 
     /// Runs to the next note, and answers its word, or why the process ended.
     pub(crate) fn run(&mut self) -> Result<u32, Stop>
-        ensures noted { IfOk result (λ word. says (running_node self.old) ≡ record { node = running_node self.new; call = note_word 0 word }) }
-        ensures ended { IfErr result (λ cause. says (running_node self.old) ≡ record { node = ended_node cause self.new; call = take_work 0 1 None }) }
+        ensures noted { IfOk result (λ word. says (running_node self.old) ≡
+            record { node = running_node self.new; call = note_word 0 word }) }
+        ensures ended { IfErr result (λ cause. says (running_node self.old) ≡
+            record { node = ended_node cause self.new; call = take_work 0 1 None }) }
         ensures fewer { IfOk result (λ word. self.new.calls < self.old.calls) }
     {
         match self.run_to_call() {

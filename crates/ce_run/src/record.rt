@@ -10,7 +10,7 @@ pub enum Command {
     Getcube(u32),
     /// Starts the image of this number, counted from 0 in the script's order, as the process of this place.
     Spawn(u32, Place),
-    /// Allows this many dispatches, 1,000,000 at most, and runs until no node has work or none is left.
+    /// Allows this many dispatches, `GREATEST_COUNT` at most, and runs until no node has work or none is left.
     Run(u32),
 }
 

@@ -33,7 +33,8 @@ pub(crate) fn write_report(
 }
 
 fn push_users(text: &mut String, form: &BuiltForm, users: &[UserRecord]) -> Result<(), AllocError>
-    ensures { OnOk result (string_bytes text.new ≡ string_bytes text.old ++ flat_map (user_text (script_of_form form.now)) users.now) }
+    ensures { OnOk result (string_bytes text.new
+        ≡ string_bytes text.old ++ flat_map (user_text (script_of_form form.now)) users.now) }
 {
     for user in users {
         push_user(text, form, user)?;
@@ -44,7 +45,8 @@ fn push_users(text: &mut String, form: &BuiltForm, users: &[UserRecord]) -> Resu
 /// The section of the one cube that there is.
 fn push_cube(text: &mut String, form: &BuiltForm, history: &[Entry]) -> Result<(), AllocError>
     requires { IsOneCube history.now }
-    ensures { OnOk result (string_bytes text.new ≡ string_bytes text.old ++ cube_text (script_of_form form.now) history.now (0, first_grant)) }
+    ensures { OnOk result (string_bytes text.new ≡ string_bytes text.old
+        ++ cube_text (script_of_form form.now) history.now (0, first_grant)) }
 {
     push_head(text, form)?;
     push_trace(text, form, &history[1..])
@@ -59,7 +61,8 @@ fn push_head(text: &mut String, form: &BuiltForm) -> Result<(), AllocError>
 }
 
 fn push_parts(text: &mut String, first: &str, second: &str, third: &str) -> Result<(), AllocError>
-    ensures { OnOk result (string_bytes text.new ≡ string_bytes text.old ++ (first.now ++ (second.now ++ third.now))) }
+    ensures { OnOk result (string_bytes text.new
+        ≡ string_bytes text.old ++ (first.now ++ (second.now ++ third.now))) }
 {
     text.push_str(first)?;
     text.push_str(second)?;
@@ -67,7 +70,8 @@ fn push_parts(text: &mut String, first: &str, second: &str, third: &str) -> Resu
 }
 
 fn push_trace(text: &mut String, form: &BuiltForm, trace: &[Entry]) -> Result<(), AllocError>
-    ensures { OnOk result (string_bytes text.new ≡ string_bytes text.old ++ flat_map (entry_line (script_of_form form.now)) trace.now) }
+    ensures { OnOk result (string_bytes text.new
+        ≡ string_bytes text.old ++ flat_map (entry_line (script_of_form form.now)) trace.now) }
 {
     for entry in trace {
         push_entry(text, form, entry)?;

@@ -1,6 +1,6 @@
 //! The commands of a script, carried out one after another.
 ghost use Rattle.std.specs.Prelude.{◌≡◌, ◌≤◌, [], ◌∷◌, ◌++◌, ℕ, List, Some, IfOk, OnOk};
-ghost use Rattle.ce_run.specs.Legal.{Legal, Serial};
+ghost use Rattle.ce_run.specs.Legal.{IsLegal, IsSerial};
 ghost use Rattle.ce_run.specs.OneCube.{IsOneCube, Adds, IsRunOf, Notes, begun, first_entry, note_entries, replies_of, spawn_entry, the_node};
 ghost use Rattle.ce_run.specs.Script.{script_of_form};
 
@@ -9,7 +9,7 @@ use crate::machine::{Machine, is_start};
 use crate::name::Name;
 use crate::process::Process;
 use crate::record::{Answer, Command, Record, UserRecord};
-use ce_model::{Found, NoMemory, Place, Subcube};
+use ce_model::{Found, GREATEST_COUNT, NoMemory, Place, Subcube};
 use rv_image::Image;
 use sqlite_items::Items;
 use std::alloc::Global;
@@ -19,10 +19,10 @@ const PROCESS: u32 = 1;
 
 /// Carries out a script, on a machine of its own.
 pub(crate) fn run_script(alloc: Global, form: &BuiltForm) -> Result<Record, NoMemory>
-    requires { form.now.count ≤ 1000000 }
+    requires { form.now.count ≤ GREATEST_COUNT }
     ensures history { IfOk result (λ kept. IsOneCube kept.history) }
-    ensures legal { IfOk result (Legal (script_of_form form.now)) }
-    ensures serial { IfOk result (Serial (script_of_form form.now)) }
+    ensures legal { IfOk result (IsLegal (script_of_form form.now)) }
+    ensures serial { IfOk result (IsSerial (script_of_form form.now)) }
 {
     let (mut machine, granted) = open(alloc)?;
     let answer = run(alloc, &mut machine, &form.program, form.count)?;
@@ -34,7 +34,9 @@ pub(crate) fn run_script(alloc: Global, form: &BuiltForm) -> Result<Record, NoMe
 
 /// A machine whose user was granted its node, and has had the image started there.
 fn open(alloc: Global) -> Result<(Machine, Subcube), NoMemory>
-    ensures machine { IfOk result (λ opened. opened.0 ≡ record { history = first_entry ∷ spawn_entry ∷ []; armed = 0; dispatched = 0; waiting = Some 0 }) }
+    ensures machine { IfOk result
+        (λ opened. opened.0 ≡
+        record { history = first_entry ∷ spawn_entry ∷ []; armed = 0; dispatched = 0; waiting = Some 0 }) }
     ensures granted { IfOk result (λ opened. opened.1 ≡ the_node) }
 {
     let mut machine = Machine::new(alloc);
@@ -78,7 +80,8 @@ fn only_user(
 /// process runs to its end in its one turn, so the round behind it has no work.
 fn run(alloc: Global, machine: &mut Machine, image: &Image, count: u32) -> Result<Answer, NoMemory>
     requires { machine.old.waiting ≡ Some 0 }
-    ensures { IfOk result (λ answer. Adds machine.old.history machine.new.history (IsRunOf image.now count answer)) }
+    ensures { IfOk result
+        (λ answer. Adds machine.old.history machine.new.history (IsRunOf image.now count answer)) }
 {
     machine.arm(count)?;
     if is_start(machine.take(0)?) {
@@ -93,7 +96,8 @@ fn run(alloc: Global, machine: &mut Machine, image: &Image, count: u32) -> Resul
 
 /// The turn of the process, from its start to its end.
 fn turn(alloc: Global, machine: &mut Machine, image: &Image) -> Result<(), NoMemory>
-    ensures { OnOk result ((words : List ℕ) × Notes (begun image.now) words × (machine.new ≡ record machine.old { history = machine.old.history ++ note_entries words })) }
+    ensures { OnOk result ((words : List ℕ) × Notes (begun image.now) words × (machine.new ≡
+        record machine.old { history = machine.old.history ++ note_entries words })) }
 {
     let mut process = Process::start(alloc, image)?;
     while let Ok(word) = process.run() {

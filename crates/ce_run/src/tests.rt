@@ -9,6 +9,7 @@ use super::*;
 use ce_gate::Open;
 use ce_io::{MemSink, MemSource};
 use std::alloc::Global;
+use std::io;
 use std::test::Fail;
 
 const HELLO: &str =
@@ -44,15 +45,12 @@ const SOUND: Ends<'static> = Ends {
 fn run_line(alloc: Global, line: &[&str], script: &[u8], ends: Ends) -> Result<Ran, Fail>
     requires { 1 ≤ ends.most }
 {
-    let mut words = Vec::new(alloc);
-    for word in line {
-        words.push(String::from_str(alloc, word)?)?;
-    }
+    let words = words_of(alloc, line)?;
     let bytes = Vec::from_slice(alloc, script)?;
     let reads = Vec::from_slice(alloc, ends.failing_read)?;
     let writes = Vec::from_slice(alloc, ends.failing_write)?;
     let mut source = MemSource::new(bytes, reads, ends.most);
-    let mut sink = MemSink::new(alloc, 4096, writes, ends.most).map_err(|_| "no memory")?;
+    let mut sink = MemSink::new(alloc, 131_072, writes, ends.most).map_err(|_| "no memory")?;
     let ended = serial_call(alloc, words.as_slice(), &mut source, &mut sink);
     let written = Vec::from_slice(alloc, sink.bytes())?;
     Ok(Ran {
@@ -161,7 +159,10 @@ fn images_without_a_note(rt: HostRuntime) -> Result<(), Fail> {
 #[test]
 fn script_limits(rt: HostRuntime) -> Result<(), Fail> {
     let alloc = rt.alloc();
-    for (len, fault) in [(1_048_576, Fault::NotBuilt), (1_048_577, Fault::TooLong)] {
+    for (len, fault) in [
+        (SCRIPT_LIMIT, Fault::NotBuilt),
+        (SCRIPT_LIMIT + 1, Fault::TooLong),
+    ] {
         let script = vec![in alloc; b'#'; len]?;
         let mut words = Vec::new(alloc);
         words.push(String::from_str(alloc, "--serial")?)?;
@@ -172,6 +173,62 @@ fn script_limits(rt: HostRuntime) -> Result<(), Fail> {
         assert_eq!(rt; ended.fault, Some(fault));
         assert_eq!(rt; sink.bytes().len(), 0);
     }
+    Ok(())
+}
+
+/// The longest script, most of which is comments.
+#[test]
+fn a_script_of_the_greatest_length(rt: HostRuntime) -> Result<(), Fail> {
+    let alloc = rt.alloc();
+    let head = "machine 0\nimage hello asm\n";
+    let body = "\nli a0, 42\nli a7, 14\necall\nli a7, 13\necall\nend\n";
+    let mut script = text(alloc, &[head])?;
+    for _ in head.len() + body.len() + COMMANDS.len()..SCRIPT_LIMIT {
+        script.push('#')?;
+    }
+    script.push_str(body)?;
+    script.push_str(COMMANDS)?;
+    assert_eq!(rt; script.len(), SCRIPT_LIMIT);
+    let ran = run_script(alloc, script.as_str())?;
+    assert_eq!(rt; ran.status, 0);
+    assert_eq!(rt; ran.written.as_slice(), HELLO_REPORT.as_bytes());
+    Ok(())
+}
+
+/// An image that fills the private memory up to the stack: 30,720 words.
+#[test]
+fn an_image_of_the_greatest_length(rt: HostRuntime) -> Result<(), Fail> {
+    let alloc = rt.alloc();
+    let mut body = text(alloc, &["02A00513 00E00893 00000073 00D00893 00000073\n"])?;
+    for _ in 5..30_720 {
+        body.push_str("00000000\n")?;
+    }
+    let ran = run_image(alloc, "hex", body.as_str())?;
+    assert_eq!(rt; ran.status, 0);
+    assert_eq!(rt; ran.written.as_slice(), HELLO_REPORT.as_bytes());
+    body.push_str("00000000\n")?;
+    let ran = run_image(alloc, "hex", body.as_str())?;
+    assert_eq!(rt; ran.status, 1);
+    Ok(())
+}
+
+/// A process that would note for ever makes as many notes as a turn allows.
+#[test]
+fn a_turn_of_the_most_notes(rt: HostRuntime) -> Result<(), Fail> {
+    let alloc = rt.alloc();
+    let ran = run_image(
+        alloc,
+        "asm",
+        "li a0, 42\nli a7, 14\nagain: ecall\nj again\n",
+    )?;
+    let mut want = text(alloc, &[HEAD_REPORT, "run 10\n= quiet\n", CUBE])?;
+    want.push_str("host arm 10\nnode 0 take 0 0 - start 0 hello\n")?;
+    for _ in 0..4_096 {
+        want.push_str("node 0 note 0 42\n")?;
+    }
+    want.push_str("node 0 take 0 1 - idle\nhost look quiet\nend\n")?;
+    assert_eq!(rt; ran.status, 0);
+    assert_eq!(rt; ran.written.as_slice(), want.as_bytes());
     Ok(())
 }
 
@@ -405,14 +462,57 @@ fn refused_images(rt: HostRuntime) -> Result<(), Fail> {
     Ok(())
 }
 
+/// The whole command: what its status and its line of standard error are, by its words and its script.
+#[test]
+fn commands_end(rt: HostRuntime) -> Result<(), Fail> {
+    let alloc = rt.alloc();
+    let no_memory = Err(io::Error::from(io::ErrorKind::OutOfMemory));
+    let no_text = Err(io::Error::from(io::ErrorKind::InvalidData));
+    for (words, script, status, line) in [
+        (words_of(alloc, &["--serial"]), HELLO, 0, ""),
+        (words_of(alloc, &["--serial"]), "", 1, "ce: not built\n"),
+        (words_of(alloc, &[]), HELLO, 2, USAGE),
+        (no_text, HELLO, 2, USAGE),
+        (no_memory, HELLO, 4, "ce: no memory\n"),
+    ] {
+        let bytes = Vec::from_slice(alloc, script.as_bytes())?;
+        let mut source = MemSource::new(bytes, Vec::new(alloc), 64);
+        let mut sink = MemSink::new(alloc, 4096, Vec::new(alloc), 64).map_err(|_| "no memory")?;
+        let mut errors = MemSink::new(alloc, 64, Vec::new(alloc), 3).map_err(|_| "no memory")?;
+        let ended = run_command(
+            &rt,
+            alloc,
+            words,
+            &mut source,
+            &mut sink,
+            &mut errors,
+            &Open,
+        );
+        assert_eq!(rt; ended, status);
+        assert_eq!(rt; errors.bytes(), line.as_bytes());
+        let report = if status == 0 { HELLO_REPORT } else { "" };
+        assert_eq!(rt; sink.bytes(), report.as_bytes());
+    }
+    Ok(())
+}
+
+fn words_of(alloc: Global, line: &[&str]) -> io::Result<Vec<String>> {
+    let mut words = Vec::new(alloc);
+    for word in line {
+        words.push(String::from_str(alloc, word)?)?;
+    }
+    Ok(words)
+}
+
+const USAGE: &str = "ce: usage: ce [--serial] [--load N]\n";
+
 #[test]
 fn fault_lines(rt: HostRuntime) -> Result<(), Fail> {
     let alloc = rt.alloc();
     for (fault, line) in [
         (Fault::TooLong, "ce: script too long\n"),
-        (Fault::TooLong, "ce: script too long\n"),
         (Fault::NotBuilt, "ce: not built\n"),
-        (Fault::Usage, "ce: usage: ce [--serial] [--load N]\n"),
+        (Fault::Usage, USAGE),
         (Fault::Read, "ce: read fault\n"),
         (Fault::Write, "ce: write fault\n"),
         (Fault::Memory(ce_model::NoMemory), "ce: no memory\n"),

@@ -5,6 +5,7 @@
 -- machine's own numbers for its nodes.
 use Rattle.std.specs.Prelude.{◌≡◌, ℕ, ◌+◌, ◌^◌, ◌<◌, ◌≤◌, List, [], ◌∷◌, ◌++◌, Option, Some, None, Bool, true, false, not, ◌&&◌, ◌==◌, if◌then◌else◌, IsTrue, IsSomeAnd, length, map, filter, find, fold, replicate, slice_index_or, slice_set}
 use Rattle.std.specs.List.{list_any}
+use Rattle.ce_model.specs.declared.limits.TheConstants.{GREATEST_COUNT}
 use Rattle.ce_model.specs.declared.topology.TheConstants.{HOST}
 use Rattle.ce_model.specs.declared.topology.Place.{Place}
 use Rattle.ce_model.specs.declared.topology.Subcube.{Subcube}
@@ -243,7 +244,7 @@ FitsAs parts history user actor (Getcube dim sub) = IsGetcube parts history user
 FitsAs parts history user actor Peek = actor ≡ HOST
 FitsAs parts history user actor Drain = HoldsCube parts history user (λ cube. (actor ≡ HOST) × (cube.drained ≡ false))
 FitsAs parts history user actor Freecube = HoldsCube parts history user (λ cube. (actor ≡ HOST) × (cube.drained ≡ true))
-FitsAs parts history user actor (Arm count) = (count ≤ 1000000) × HoldsCube parts history user (IsHostStep parts history actor (Arm count))
+FitsAs parts history user actor (Arm count) = (count ≤ GREATEST_COUNT) × HoldsCube parts history user (IsHostStep parts history actor (Arm count))
 FitsAs parts history user actor (Look found) = HoldsCube parts history user (IsHostStep parts history actor (Look found))
 FitsAs parts history user actor (Spawn pid image to fresh) =
     HoldsCube parts history user (λ cube. MaySpawn parts cube pid image to × IsHostStep parts history actor (Spawn pid image to fresh) cube)

@@ -3,6 +3,7 @@
 --
 -- A node: what it says to the machine next, and what it becomes by the answer.
 use Rattle.std.specs.Prelude.{ℕ, ◌+◌, ◌*◌, ◌-◌, List, [], ◌∷◌, Option, Some, None, Bool, true, false, if◌then◌else◌, ◌==◌, replicate, slice_index, slice_set, slice_index_or}
+use Rattle.ce_model.specs.declared.limits.TheConstants.{TURN_CALLS, TURN_INSTRUCTIONS}
 use Rattle.ce_model.specs.declared.process.Status.{Status}
 use Rattle.ce_model.specs.declared.process.Status.TheVariants.{Running, Asking, Polling, Stopped}
 use Rattle.rv_model.specs.declared.stop.Stop.TheVariants.{Exited, Killed, NoCall, TurnSpent}
@@ -61,10 +62,10 @@ take_of node = take_work (ids_of is_waiting node.processes) (ids_of is_stopped n
 
 -- how many instructions a turn may run, and how many counted calls it may make
 abbrev pub turn_length : ℕ
-turn_length = 4_000_000
+turn_length = TURN_INSTRUCTIONS
 
 abbrev pub turn_calls : ℕ
-turn_calls = 4_096
+turn_calls = TURN_CALLS
 
 -- a node, and the call that it makes
 pub record Saying : Type 0 where

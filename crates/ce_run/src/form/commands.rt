@@ -8,6 +8,7 @@ ghost use Rattle.ce_run.specs.BuiltForm.{user_line, spawn_line, run_line, comman
 use super::image::name_of;
 use super::lines::{after, before, next_line};
 use super::words::count_of;
+use ce_model::GREATEST_COUNT;
 
 /// The name in the line `user NAME`.
 #[tactic(auto, unfolding(crate::specs::BuiltForm::user_line))]
@@ -32,7 +33,7 @@ fn spawn_line(line: &[u8]) -> Option<&[u8]>
 #[tactic(auto, unfolding(crate::specs::BuiltForm::run_line))]
 fn run_line(line: &[u8]) -> Option<u32>
     ensures count { result ≡ run_line line.now }
-    ensures small { IfSome result (λ count. count ≤ 1000000) }
+    ensures small { IfSome result (λ count. count ≤ GREATEST_COUNT) }
 {
     let digits = after(b"run ", line)?;
     count_of(digits)
@@ -41,9 +42,10 @@ fn run_line(line: &[u8]) -> Option<u32>
 /// The user's name and the count of `run`, in the lines behind the image.
 #[tactic(auto, unfolding(crate::specs::BuiltForm::commands_of))]
 pub(super) fn commands_of<'a>(image: &[u8], text: &'a [u8]) -> Option<(&'a [u8], u32)>
-    ensures commands { option_map (λ found. (found.0.now, found.1)) result ≡ commands_of image.now (lines_of text.now) }
+    ensures commands { option_map (λ found. (found.0.now, found.1)) result
+        ≡ commands_of image.now (lines_of text.now) }
     ensures named { IfSome result (λ found. is_name found.0.now ≡ true) }
-    ensures small { IfSome result (λ found. found.1 ≤ 1000000) }
+    ensures small { IfSome result (λ found. found.1 ≤ GREATEST_COUNT) }
 {
     let (user, text) = next_line(text)?;
     let (getcube, text) = next_line(text)?;

@@ -9,7 +9,7 @@ ghost use Rattle.ce_run.specs.declared.form.digits.Digits.TheVariants.{Word};
 use super::FormError;
 use super::lines::next_line;
 use super::words::{hex_byte, hex_word};
-use rv_asm::code_of;
+use ce_text::before_comment;
 use std::alloc::Global;
 
 /// What a word of hexadecimal digits stands for.
@@ -41,8 +41,10 @@ fn place_of_separator(digits: Digits, text: &[u8]) -> Option<usize>
 /// The first word of a line, and what follows what stands behind it, where there is more.
 #[tactic(auto, using(crate::proofs::LineCuts::words_some, crate::proofs::LineCuts::words_none))]
 fn next_word(digits: Digits, line: &[u8]) -> (&[u8], Option<&[u8]>)
-    ensures words { MatchOption result.1 (words_of digits line.now ≡ result.0.now ∷ []) (λ rest. words_of digits line.now ≡ result.0.now ∷ words_of digits rest.now) }
-    ensures shorter { MatchOption result.1 (result.0.now ≡ line.now) (λ rest. length rest.now < length line.now) }
+    ensures words { MatchOption result.1 (words_of digits line.now ≡ result.0.now ∷ [])
+        (λ rest. words_of digits line.now ≡ result.0.now ∷ words_of digits rest.now) }
+    ensures shorter { MatchOption result.1 (result.0.now ≡ line.now)
+        (λ rest. length rest.now < length line.now) }
 {
     match place_of_separator(digits, line) {
         Some(end) => (&line[..end], Some(&line[end + 1..])),
@@ -56,14 +58,15 @@ fn part_of(digits: Digits, line: &[u8]) -> &[u8]
 {
     match digits {
         Digits::Word => line,
-        Digits::Bytes => code_of(line),
+        Digits::Bytes => before_comment(line),
     }
 }
 
 /// Adds the bytes that digits write, two digits each.
 #[tactic(auto, using(crate::proofs::Body::digits_step, crate::proofs::Body::digits_bad, crate::proofs::Body::front_none))]
 fn push_digits(bytes: &mut Vec<u8>, digits: &[u8]) -> Result<(), FormError>
-    ensures ok { OnOk result (with_front bytes.old.items (digit_bytes digits.now) ≡ Some bytes.new.items) }
+    ensures ok { OnOk result (with_front bytes.old.items (digit_bytes digits.now)
+        ≡ Some bytes.new.items) }
     ensures not_built { IsErrOf result NotBuilt → digit_bytes digits.now ≡ None }
 {
     let mut rest = digits;
@@ -82,7 +85,8 @@ fn push_digits(bytes: &mut Vec<u8>, digits: &[u8]) -> Result<(), FormError>
 
 /// Adds the bytes of an instruction word.
 fn push_value(bytes: &mut Vec<u8>, word: &[u8]) -> Result<(), FormError>
-    ensures ok { OnOk result (with_front bytes.old.items (word_bytes Word word.now) ≡ Some bytes.new.items) }
+    ensures ok { OnOk result (with_front bytes.old.items (word_bytes Word word.now)
+        ≡ Some bytes.new.items) }
     ensures not_built { IsErrOf result NotBuilt → word_bytes Word word.now ≡ None }
 {
     let value = hex_word(word).ok_or(FormError::NotBuilt)?;
@@ -92,7 +96,8 @@ fn push_value(bytes: &mut Vec<u8>, word: &[u8]) -> Result<(), FormError>
 
 /// Adds the bytes of a word.
 fn push_word(bytes: &mut Vec<u8>, digits: Digits, word: &[u8]) -> Result<(), FormError>
-    ensures ok { OnOk result (with_front bytes.old.items (word_bytes digits word.now) ≡ Some bytes.new.items) }
+    ensures ok { OnOk result (with_front bytes.old.items (word_bytes digits word.now)
+        ≡ Some bytes.new.items) }
     ensures not_built { IsErrOf result NotBuilt → word_bytes digits word.now ≡ None }
 {
     match digits {
@@ -104,7 +109,8 @@ fn push_word(bytes: &mut Vec<u8>, digits: Digits, word: &[u8]) -> Result<(), For
 /// Adds the bytes of a line's words.
 #[tactic(auto, using(crate::proofs::Body::words_step, crate::proofs::Body::words_last, crate::proofs::Body::words_bad, crate::proofs::Body::front_none))]
 fn push_line(bytes: &mut Vec<u8>, digits: Digits, line: &[u8]) -> Result<(), FormError>
-    ensures ok { OnOk result (with_front bytes.old.items (line_bytes digits line.now) ≡ Some bytes.new.items) }
+    ensures ok { OnOk result (with_front bytes.old.items (line_bytes digits line.now)
+        ≡ Some bytes.new.items) }
     ensures not_built { IsErrOf result NotBuilt → line_bytes digits line.now ≡ None }
 {
     let mut rest = part_of(digits, line);

@@ -13,7 +13,8 @@ use super::FormError;
 use super::digits::{Digits, body_bytes};
 use super::lines::{after, next_line};
 use super::words::is_name;
-use rv_asm::{assemble, code_of, trimmed};
+use ce_text::{before_comment, trimmed};
+use rv_asm::assemble;
 use rv_image::{Image, read};
 use rv_model::PRIVATE_START;
 use std::alloc::Global;
@@ -70,14 +71,15 @@ fn ends_body(form: ImageForm, line: &[u8]) -> bool
 {
     match form {
         ImageForm::Hex => line == b"end".as_slice(),
-        ImageForm::Asm | ImageForm::Rki => trimmed(code_of(line)) == b"end".as_slice(),
+        ImageForm::Asm | ImageForm::Rki => trimmed(before_comment(line)) == b"end".as_slice(),
     }
 }
 
 /// The text of an image's body, and the text behind the line that ends it.
 #[tactic(auto, using(crate::proofs::BodyText::goes_on, crate::proofs::BodyText::ends, crate::proofs::BodyText::has_no_end))]
 pub(super) fn body_of(form: ImageForm, text: &[u8]) -> Option<(&[u8], &[u8])>
-    ensures body { option_map (λ found. (found.0.now, lines_of found.1.now)) result ≡ body_of form (lines_of text.now) }
+    ensures body { option_map (λ found. (found.0.now, lines_of found.1.now)) result
+        ≡ body_of form (lines_of text.now) }
     ensures shorter { IfSome result (λ found. length found.0.now ≤ length text.now) }
 {
     let mut rest = text;
@@ -93,7 +95,8 @@ pub(super) fn body_of(form: ImageForm, text: &[u8]) -> Option<(&[u8], &[u8])>
 /// The image of a body of instruction words.
 fn image_of_words(alloc: Global, body: &[u8]) -> Result<Image, FormError>
     ensures ok { IfOk result (Describes forms.Hex body.now) }
-    ensures not_built { IsErrOf result NotBuilt → (image : ImageParts) → ¬ Describes forms.Hex body.now image }
+    ensures not_built { IsErrOf result NotBuilt → (image : ImageParts)
+        → ¬ Describes forms.Hex body.now image }
 {
     let bytes = body_bytes(alloc, Digits::Word, body)?;
     Ok(Image::of_parts(PRIVATE_START, bytes, 0)?)
@@ -103,7 +106,8 @@ fn image_of_words(alloc: Global, body: &[u8]) -> Result<Image, FormError>
 fn image_of_assembly(alloc: Global, body: &[u8]) -> Result<Image, FormError>
     requires { length body.now < 2 ^ 31 }
     ensures ok { IfOk result (Describes forms.Asm body.now) }
-    ensures not_built { IsErrOf result NotBuilt → (image : ImageParts) → ¬ Describes forms.Asm body.now image }
+    ensures not_built { IsErrOf result NotBuilt → (image : ImageParts)
+        → ¬ Describes forms.Asm body.now image }
 {
     Ok(assemble(alloc, body)?)
 }
@@ -111,7 +115,8 @@ fn image_of_assembly(alloc: Global, body: &[u8]) -> Result<Image, FormError>
 /// The image of a body whose words are RKI1.
 fn image_of_rki1(alloc: Global, body: &[u8]) -> Result<Image, FormError>
     ensures ok { IfOk result (Describes forms.Rki body.now) }
-    ensures not_built { IsErrOf result NotBuilt → (image : ImageParts) → ¬ Describes forms.Rki body.now image }
+    ensures not_built { IsErrOf result NotBuilt → (image : ImageParts)
+        → ¬ Describes forms.Rki body.now image }
 {
     let bytes = body_bytes(alloc, Digits::Bytes, body)?;
     Ok(read(alloc, bytes.as_slice())?)
@@ -121,7 +126,8 @@ fn image_of_rki1(alloc: Global, body: &[u8]) -> Result<Image, FormError>
 pub(super) fn program_of(alloc: Global, form: ImageForm, body: &[u8]) -> Result<Image, FormError>
     requires { length body.now < 2 ^ 31 }
     ensures ok { IfOk result (Describes form body.now) }
-    ensures not_built { IsErrOf result NotBuilt → (image : ImageParts) → ¬ Describes form body.now image }
+    ensures not_built { IsErrOf result NotBuilt → (image : ImageParts)
+        → ¬ Describes form body.now image }
 {
     match form {
         ImageForm::Hex => image_of_words(alloc, body),

@@ -13,9 +13,12 @@ fn position_of(byte: u8, text: &[u8]) -> Option<usize>
 /// The first line of a text, and what follows its line feed; none where the text is empty.
 #[tactic(auto, using(crate::proofs::LineCuts::lines_some, crate::proofs::LineCuts::lines_none))]
 pub(super) fn next_line(text: &[u8]) -> Option<(&[u8], &[u8])>
-    ensures lines { MatchOption result (lines_of text.now ≡ []) (λ found. lines_of text.now ≡ found.0.now ∷ lines_of found.1.now) }
-    ensures shorter { MatchOption result (text.now ≡ []) (λ found. length found.1.now < length text.now) }
-    ensures whole { IfSome result (λ found. (found.1.now ≡ []) ⊎ (text.now ≡ found.0.now ++ 10 ∷ found.1.now)) }
+    ensures lines { MatchOption result (lines_of text.now ≡ [])
+        (λ found. lines_of text.now ≡ found.0.now ∷ lines_of found.1.now) }
+    ensures shorter { MatchOption result (text.now ≡ [])
+        (λ found. length found.1.now < length text.now) }
+    ensures whole { IfSome result
+        (λ found. (found.1.now ≡ []) ⊎ (text.now ≡ found.0.now ++ 10 ∷ found.1.now)) }
 {
     if text.is_empty() {
         return None;

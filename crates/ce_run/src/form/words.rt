@@ -3,8 +3,7 @@ ghost use Rattle.std.specs.Prelude.{◌≡◌, ◌≤◌, ◌<◌, ◌^◌, ◌�
 ghost use Rattle.std.specs.List.{list_all};
 ghost use Rattle.ce_run.specs.Words.{is_name_byte, is_name, number_in, hex_word, count_of};
 
-/// The largest count of `run`.
-const MAX_COUNT: u64 = 1_000_000;
+use ce_model::GREATEST_COUNT;
 
 fn is_name_byte(byte: u8) -> bool
     ensures { result ≡ is_name_byte byte }
@@ -67,17 +66,17 @@ pub(crate) fn hex_byte(high: u8, low: u8) -> Option<u8>
     u8::try_from(number).ok()
 }
 
-/// The count that one to ten decimal digits write, up to 1,000,000.
+/// The count that one to ten decimal digits write, up to `GREATEST_COUNT`.
 #[tactic(auto, unfolding(crate::specs::Words::count_of))]
 pub(crate) fn count_of(digits: &[u8]) -> Option<u32>
     ensures count { result ≡ count_of digits.now }
-    ensures small { IfSome result (λ count. count ≤ 1000000) }
+    ensures small { IfSome result (λ count. count ≤ GREATEST_COUNT) }
 {
     if digits.is_empty() || digits.len() > 10 {
         return None;
     }
     let number = number_in(10, digits)?;
-    if number <= MAX_COUNT {
+    if number <= u64::from(GREATEST_COUNT) {
         u32::try_from(number).ok()
     } else {
         None

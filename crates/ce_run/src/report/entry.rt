@@ -16,7 +16,8 @@ pub(super) fn push_entry(
     form: &BuiltForm,
     entry: &Entry,
 ) -> Result<(), AllocError>
-    ensures { OnOk result (string_bytes text.new ≡ string_bytes text.old ++ entry_line (script_of_form form.now) entry.now) }
+    ensures { OnOk result (string_bytes text.new
+        ≡ string_bytes text.old ++ entry_line (script_of_form form.now) entry.now) }
 {
     push_actor(text, entry.actor)?;
     push_what(text, form, &entry.what)?;
@@ -35,7 +36,8 @@ fn push_actor(text: &mut String, actor: u32) -> Result<(), AllocError>
 
 /// What was done.
 fn push_what(text: &mut String, form: &BuiltForm, what: &What) -> Result<(), AllocError>
-    ensures { OnOk result (string_bytes text.new ≡ string_bytes text.old ++ what_text (script_of_form form.now) what.now) }
+    ensures { OnOk result (string_bytes text.new
+        ≡ string_bytes text.old ++ what_text (script_of_form form.now) what.now) }
 {
     match what {
         What::Arm { count } => write!(text, " arm {count}"),
@@ -68,7 +70,8 @@ fn push_what(text: &mut String, form: &BuiltForm, what: &What) -> Result<(), All
 }
 
 fn push_look(text: &mut String, found: Found) -> Result<(), AllocError>
-    ensures { OnOk result (string_bytes text.new ≡ string_bytes text.old ++ (codes " look " ++ found_text found)) }
+    ensures { OnOk result (string_bytes text.new
+        ≡ string_bytes text.old ++ (codes " look " ++ found_text found)) }
 {
     match found {
         Found::Quiet => text.push_str(" look quiet"),
@@ -89,7 +92,8 @@ fn push_place(text: &mut String, place: Place) -> Result<(), AllocError>
 }
 
 fn push_fresh(text: &mut String, fresh: bool) -> Result<(), AllocError>
-    ensures { OnOk result (string_bytes text.new ≡ string_bytes text.old ++ (codes " " ++ fresh_text fresh)) }
+    ensures { OnOk result (string_bytes text.new
+        ≡ string_bytes text.old ++ (codes " " ++ fresh_text fresh)) }
 {
     match fresh {
         true => text.push_str(" ok"),
@@ -98,7 +102,8 @@ fn push_fresh(text: &mut String, fresh: bool) -> Result<(), AllocError>
 }
 
 fn push_poller(text: &mut String, poller: Option<u32>) -> Result<(), AllocError>
-    ensures { OnOk result (string_bytes text.new ≡ string_bytes text.old ++ (poller_text poller ++ codes " ")) }
+    ensures { OnOk result (string_bytes text.new
+        ≡ string_bytes text.old ++ (poller_text poller ++ codes " ")) }
 {
     match poller {
         None => text.push_str("- "),
@@ -108,7 +113,8 @@ fn push_poller(text: &mut String, poller: Option<u32>) -> Result<(), AllocError>
 
 /// What a take was given.
 fn push_given(text: &mut String, form: &BuiltForm, given: Given) -> Result<(), AllocError>
-    ensures { OnOk result (string_bytes text.new ≡ string_bytes text.old ++ given_text (script_of_form form.now) given) }
+    ensures { OnOk result (string_bytes text.new
+        ≡ string_bytes text.old ++ given_text (script_of_form form.now) given) }
 {
     match given {
         Given::Start { pid, image } => {

@@ -18,7 +18,8 @@ pub(super) fn push_user(
     form: &BuiltForm,
     user: &UserRecord,
 ) -> Result<(), AllocError>
-    ensures { OnOk result (string_bytes text.new ≡ string_bytes text.old ++ user_text (script_of_form form.now) user.now) }
+    ensures { OnOk result (string_bytes text.new
+        ≡ string_bytes text.old ++ user_text (script_of_form form.now) user.now) }
 {
     let name = user.name.as_str();
     writeln!(text, "user {name}")?;
@@ -31,7 +32,8 @@ pub(super) fn push_user(
 
 /// A command as the script has it.
 fn push_command(text: &mut String, form: &BuiltForm, command: &Command) -> Result<(), AllocError>
-    ensures { OnOk result (string_bytes text.new ≡ string_bytes text.old ++ command_line (script_of_form form.now) command.now) }
+    ensures { OnOk result (string_bytes text.new
+        ≡ string_bytes text.old ++ command_line (script_of_form form.now) command.now) }
 {
     match command {
         Command::Getcube(dim) => writeln!(text, "getcube {dim}"),
@@ -47,7 +49,8 @@ fn push_command(text: &mut String, form: &BuiltForm, command: &Command) -> Resul
 
 /// A reply.
 fn push_answer(text: &mut String, answer: &Answer) -> Result<(), AllocError>
-    ensures { OnOk result (string_bytes text.new ≡ string_bytes text.old ++ answer_line answer.now) }
+    ensures { OnOk result (string_bytes text.new
+        ≡ string_bytes text.old ++ answer_line answer.now) }
 {
     match answer {
         Answer::Granted(sub) => push_granted(text, *sub),
@@ -58,7 +61,8 @@ fn push_answer(text: &mut String, answer: &Answer) -> Result<(), AllocError>
 }
 
 fn push_granted(text: &mut String, sub: Subcube) -> Result<(), AllocError>
-    ensures { OnOk result (string_bytes text.new ≡ string_bytes text.old ++ answer_line (Granted sub)) }
+    ensures { OnOk result (string_bytes text.new
+        ≡ string_bytes text.old ++ answer_line (Granted sub)) }
 {
     let mask = sub.mask;
     let base = sub.base;

@@ -1,22 +1,15 @@
-use Rattle.std.proofs.Common.{◌≡◌, [], Some}
-use Rattle.ce_run.specs.Causes.{Reports}
-use Rattle.ce_run.specs.Legal.{Legal, Serial}
-use Rattle.ce_run.specs.Text.{report}
-use Rattle.ce_run.proofs.OneScript.{of_kept}
+use Rattle.std.proofs.Common.{◌≡◌, map, sym, subst}
+use Rattle.std.specs.String.{string_bytes}
+use Rattle.ce_io.specs.Whole.{reading, writing}
+use Rattle.ce_run.specs.declared.ended.Ended.{Ended}
+use Rattle.ce_run.specs.Promise.{HasEnded}
+use Rattle.ce_run.proofs.Ends.{ends_at_words}
 use Rattle.ce_run.proofs.program.serial_call.Goals as goal
 
-pub returns-in-Ok-clause-reported : goal.returns-in-Ok-clause-reported
-returns-in-Ok-clause-reported g c =
-    of_kept c.run_form.result.kept (g.S.Source.left c.args.source.now) c.in-Ok.form (λ text. g.S.Source.left c.read_script.new.source ≡ Some [])
-    (λ kept script. Reports c.run_form.result.fault (report script kept) (g.K.Sink.written c.args.sink.now) (g.K.Sink.written c.run_form.new.sink))
-    c.in-Ok.ensures.form c.run_form.ensures.reported
-
-pub returns-in-Ok-clause-legal : goal.returns-in-Ok-clause-legal
-returns-in-Ok-clause-legal g c =
-    of_kept c.run_form.result.kept (g.S.Source.left c.args.source.now) c.in-Ok.form (λ text. g.S.Source.left c.read_script.new.source ≡ Some [])
-    (λ kept script. Legal script kept) c.in-Ok.ensures.form c.run_form.ensures.legal
-
-pub returns-in-Ok-clause-serial : goal.returns-in-Ok-clause-serial
-returns-in-Ok-clause-serial g c =
-    of_kept c.run_form.result.kept (g.S.Source.left c.args.source.now) c.in-Ok.form (λ text. g.S.Source.left c.read_script.new.source ≡ Some [])
-    (λ kept script. Serial script kept) c.in-Ok.ensures.form c.run_form.ensures.serial
+pub returns-then-not-is_serial-clause-ended : goal.returns-then-not-is_serial-clause-ended
+returns-then-not-is_serial-clause-ended g c =
+    let words = map string_bytes c.args.words.now in
+    let P : Ended → Type 0 = HasEnded words (reading g.S.Source.left g.S.Source.given g.S.Source.faults c.args.source.now c.args.source.now)
+    (writing g.K.Sink.written g.K.Sink.faults c.args.sink.now c.args.sink.now) in
+    subst P (sym c.refused.ensures)
+    (ends_at_words g.S.Source.left g.S.Source.given g.S.Source.faults c.args.source.now g.K.Sink.written g.K.Sink.faults c.args.sink.now words (cc))

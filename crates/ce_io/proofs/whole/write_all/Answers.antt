@@ -1,8 +1,8 @@
 use Rattle.std.proofs.Common.{◌≡◌, ◌+◌, ◌-◌, ◌≤◌, length, take, drop, ap, ◌∙◌, arith, length-drop, ℕ}
 use Rattle.std.proofs.lemmas.Grind.{common_steps}
 use Rattle.std.specs.Io.KnownBytes.{append_known}
-use Rattle.ce_run.proofs.Known.{append_more}
-use Rattle.ce_run.proofs.output.write_all.Goals as goal
+use Rattle.ce_io.proofs.Known.{append_more}
+use Rattle.ce_io.proofs.whole.write_all.Goals as goal
 
 pub loop-done-preserved : goal.loop-done-preserved
 loop-done-preserved g c =
@@ -16,6 +16,6 @@ loop-done-preserved g c =
     let more = append_more (written c.args.sink.now) (written c.loop-done.sink) bytes done n within c.loop-done.invariant.written in
     record {
       written = c.in_ok-done.ensures.written ∙ ap (λ piece. append_known (written c.loop-done.sink) (take n piece)) rest ∙ more;
-      faults = omega (arith, c.in_ok-done.ensures.cause.later);
+      faults = c.in_ok-done.ensures.cause.passed ∙ c.loop-done.invariant.faults;
       within = within;
     }

@@ -1,6 +1,6 @@
 use Rattle.std.proofs.Common.{◌≡◌, ◌≤◌, ◌-◌, length, take}
 use Rattle.std.specs.Io.KnownBytes.{append_known}
-use Rattle.ce_run.proofs.output.write_all.Given as goal
+use Rattle.ce_io.proofs.whole.write_all.Given as goal
 
 abbrev pub invariant-loop-done : goal.invariant-loop-done
 invariant-loop-done g l =
@@ -8,7 +8,7 @@ invariant-loop-done g l =
     let faults = g.K.Sink.faults in
     record {
       written : written l.sink ≡ append_known (written l.fn.sink) (take l.done l.bytes);
-      faults : faults l.fn.sink ≤ faults l.sink;
+      faults : faults l.sink ≡ faults l.fn.sink;
       within : l.done ≤ length l.bytes;
     }
 

@@ -1,0 +1,91 @@
+//! Reading a source to its end, and writing all to a sink.
+ghost use Rattle.std.specs.Prelude.{◌≡◌, ◌⊎◌, ℕ, Err, IsErrOf, OnErr, OnOk, take};
+ghost use Rattle.std.specs.Io.KnownBytes.{append_known};
+ghost use Rattle.ce_io.specs.Faults.{Rose, HasCause};
+ghost use Rattle.ce_io.specs.Whole.{HasReadToEnd, reading};
+ghost use Rattle.ce_io.specs.declared.whole.ReadError.TheVariants.{Read};
+
+use crate::{Failed, Sink, Source};
+use ce_model::NoMemory;
+use std::alloc::{AllocError, Global};
+use thiserror::Error;
+
+/// How many bytes are asked for at a time.
+pub const PIECE: usize = 4096;
+
+/// Why a source was not read to its end.
+#[derive(Clone, Copy, Debug, PartialEq, Eq, Error)]
+pub enum ReadError {
+    /// It gave more bytes than the limit allows.
+    #[error("too long")]
+    TooLong,
+    /// A read failed.
+    #[error("a read failed")]
+    Read,
+    /// Memory ran out.
+    #[error("no memory")]
+    Memory(NoMemory),
+}
+
+impl From<AllocError> for ReadError {
+    ghost use Rattle.ce_io.specs.ReadError.{IsMemory};
+
+    ghost from_gives = { λ _ e. IsMemory e };
+
+    fn from(fault: AllocError) -> Self {
+        ReadError::Memory(NoMemory::from(fault))
+    }
+}
+
+impl From<Failed> for ReadError {
+    ghost use Rattle.std.specs.Prelude.{◌≡◌};
+    ghost use Rattle.ce_io.specs.declared.whole.ReadError.TheVariants.{Read};
+
+    ghost from_gives = { λ _ e. e ≡ Read };
+
+    fn from(_: Failed) -> Self {
+        ReadError::Read
+    }
+}
+
+/// All the bytes of a source, up to its end. `TooLong` comes exactly where it gave more than `limit` bytes, and then
+/// it gave `PIECE` more at most; `Read` where a read failed, which is not tried again.
+pub fn read_to_end<S: Source>(
+    alloc: Global,
+    source: &mut S,
+    limit: usize,
+) -> Result<Vec<u8>, ReadError>
+    ensures read { HasReadToEnd
+        (reading S.left S.given S.faults source.old source.new) limit PIECE result }
+    ensures failed { IsErrOf result Read → Rose (S.faults source.old) (S.faults source.new) }
+    ensures passed { (result ≡ Err Read) ⊎ (S.faults source.new ≡ S.faults source.old) }
+{
+    let mut text = Vec::new(alloc);
+    let mut piece = [0; PIECE];
+    loop {
+        let count = source.read(&mut piece)?;
+        if count == 0 {
+            return Ok(text);
+        }
+        if count > limit - text.len() {
+            return Err(ReadError::TooLong);
+        }
+        text.extend_from_slice(&piece[..count])?;
+    }
+}
+
+/// Writes all of these bytes. After `Failed`, which comes where a write failed, the sink has taken a front part of
+/// them.
+#[tactic(auto, using(crate::proofs::Known::append_more, crate::proofs::Known::append_all))]
+pub fn write_all<K: Sink>(sink: &mut K, bytes: &[u8]) -> Result<(), Failed>
+    ensures ok { OnOk result (K.written sink.new ≡ append_known (K.written sink.old) bytes.now) }
+    ensures part { OnErr result ((n : ℕ)
+        × (K.written sink.new ≡ append_known (K.written sink.old) (take n bytes.now))) }
+    ensures cause { HasCause (K.faults sink.old) (K.faults sink.new) result }
+{
+    let mut done = 0;
+    while done < bytes.len() {
+        done += sink.write(&bytes[done..])?;
+    }
+    Ok(())
+}

@@ -1,0 +1,73 @@
+//! All that the program does, over any source and any sinks.
+ghost use Rattle.std.specs.Prelude.{◌≡◌, ◌⊎◌, Some, MatchResult, map};
+ghost use Rattle.std.specs.String.{string_bytes};
+ghost use Rattle.std.specs.IoError.{error_kind};
+ghost use Rattle.std.specs.declared.io.ErrorKind.TheVariants.{OutOfMemory};
+ghost use Rattle.ce_io.specs.Whole.{reading, writing};
+ghost use Rattle.ce_run.specs.Causes.{IsMemory, RanToEnd};
+ghost use Rattle.ce_run.specs.Promise.{HasRefusedWords, IsTold, KeepsPromise};
+ghost use Rattle.ce_run.specs.declared.ended.Ended.{Ended};
+ghost use Rattle.ce_run.specs.declared.ended.Fault.TheVariants.{Usage};
+
+use crate::ended::{Ended, Fault, write_fault};
+use crate::program::{refused, top};
+use ce_gate::Gate;
+use ce_io::{Sink, Source};
+use ce_model::NoMemory;
+use std::alloc::Global;
+use std::io;
+use std::io::ErrorKind;
+use std::thread::Threads;
+
+/// Runs the script of `source` as the words of the command line say, writes the report to `sink` and the line of
+/// the fault, where there is one, to `errors`, and answers the exit status. Words that can't be read for want of
+/// memory end it as `Memory`; those that can't be read otherwise, as where one isn't text, are refused as `Usage`.
+pub fn run_command<R: Threads + Sync, S: Source, K: Sink, E: Sink, G: Gate>(
+    rt: &R,
+    alloc: Global,
+    words: io::Result<Vec<String>>,
+    source: &mut S,
+    sink: &mut K,
+    errors: &mut E,
+    gate: &G,
+) -> u8
+    // Of the end of a run, which answers the words, the status is answered, and the fault is told.
+    ensures { (end : Ended) × (result ≡ end.status)
+        × IsTold end.fault (writing E.written E.faults errors.old errors.new)
+        × MatchResult words
+        (λ words. KeepsPromise (map string_bytes words.items)
+        (reading S.left S.given S.faults source.old source.new)
+        (writing K.written K.faults sink.old sink.new) end)
+        (λ error. HasRefusedWords error
+        (reading S.left S.given S.faults source.old source.new)
+        (writing K.written K.faults sink.old sink.new) end) }
+{
+    let ended = match words {
+        Ok(words) => top(rt, alloc, words.as_slice(), source, sink, gate),
+        Err(error) => refused(unreadable(&error)),
+    };
+    tell(ended.fault, errors);
+    ended.status
+}
+
+/// Why words can't be read.
+fn unreadable(error: &io::Error) -> Fault
+    ensures memory { error_kind error.now ≡ OutOfMemory → IsMemory (Some result) }
+    ensures usage { (result ≡ Usage) ⊎ (error_kind error.now ≡ OutOfMemory) }
+    ensures refusal { RanToEnd (Some result) → ⊥ }
+{
+    if error.kind() == ErrorKind::OutOfMemory {
+        Fault::Memory(NoMemory)
+    } else {
+        Fault::Usage
+    }
+}
+
+/// Writes the line of a fault. Where even this can't be written, the status still tells of the fault.
+fn tell<E: Sink>(fault: Option<Fault>, errors: &mut E)
+    ensures { IsTold fault (writing E.written E.faults errors.old errors.new) }
+{
+    if let Some(fault) = fault {
+        let _ = write_fault(&fault, errors);
+    }
+}
