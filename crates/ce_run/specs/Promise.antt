@@ -79,7 +79,7 @@ pub record HasReadScript {S : Type 0} (source : Reading S) (result : Result Buil
   pub not_built : IsErrOf result NotBuilt → IsAtEnd (source.left source.new) × ¬ IsBuilt bytes
 
 -- the three clauses of a run together
-pub record KeepsPromise {S K : Type 0} (words : List (List ℕ)) (source : Reading S) (sink : Writing K) (end : Ended) : Type 0 where
+pub record IsPromised {S K : Type 0} (words : List (List ℕ)) (source : Reading S) (sink : Writing K) (end : Ended) : Type 0 where
   pub ended : HasEnded words source sink end
   pub headline : IfSome end.kept (HasRun source sink end.fault)
   pub complete : IsComplete words source sink end.fault

@@ -5,7 +5,7 @@ ghost use Rattle.std.specs.IoError.{error_kind};
 ghost use Rattle.std.specs.declared.io.ErrorKind.TheVariants.{OutOfMemory};
 ghost use Rattle.ce_io.specs.Whole.{reading, writing};
 ghost use Rattle.ce_run.specs.Causes.{IsMemory, RanToEnd};
-ghost use Rattle.ce_run.specs.Promise.{HasRefusedWords, IsTold, KeepsPromise};
+ghost use Rattle.ce_run.specs.Promise.{HasRefusedWords, IsTold, IsPromised};
 ghost use Rattle.ce_run.specs.declared.ended.Ended.{Ended};
 ghost use Rattle.ce_run.specs.declared.ended.Fault.TheVariants.{Usage};
 
@@ -35,7 +35,7 @@ pub fn run_command<R: Threads + Sync, S: Source, K: Sink, E: Sink, G: Gate>(
     ensures { (end : Ended) × (result ≡ end.status)
         × IsTold end.fault (writing E.written E.faults errors.old errors.new)
         × MatchResult words
-        (λ words. KeepsPromise (map string_bytes words.items)
+        (λ words. IsPromised (map string_bytes words.items)
         (reading S.left S.given S.faults source.old source.new)
         (writing K.written K.faults sink.old sink.new) end)
         (λ error. HasRefusedWords error
