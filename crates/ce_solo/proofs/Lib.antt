@@ -32,3 +32,4 @@ pub mod Ordered
 pub mod Room
 pub mod Refused
 pub mod Renaming
+pub mod Projection

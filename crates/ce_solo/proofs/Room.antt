@@ -197,7 +197,7 @@ kills-small cube sent r kept (kill pid ∷ items) sound own = (
 )
 
 -- blocks that are held are the cube's
-held_blocks : (cube : Cube) (s : CubeState) (ids : List BlockId) → IsSound cube s → ((id : BlockId) → count id ids ≤ total id cube.dim s)
+pub held_blocks : (cube : Cube) (s : CubeState) (ids : List BlockId) → IsSound cube s → ((id : BlockId) → count id ids ≤ total id cube.dim s)
     → AllByRecursion (IsBlockOf cube.dim) ids
 held_blocks cube s ids sound within =
     all-from_names (IsBlockOf cube.dim) ids

@@ -1,6 +1,6 @@
-//! What is proved of each cube within the machine's limits and of each trace that it gives alone. The functions do nothing:
-//! a contract is the law, which proofs cite.
-ghost use Rattle.ce_solo.specs.Laws.{FreshIsSound, StaysSound, OneOwner, Waiting, Prefix, GoesOn, Renaming};
+//! What is proved of each cube within the machine's limits and of each trace that it gives alone, and of the machine's
+//! lawful histories. The functions do nothing: a contract is the law, which proofs cite.
+ghost use Rattle.ce_solo.specs.Laws.{FreshIsSound, StaysSound, OneOwner, Waiting, Prefix, GoesOn, Renaming, Projection};
 
 /// A cube that has just been granted is sound.
 pub fn fresh_is_sound_law()
@@ -37,4 +37,9 @@ pub fn goes_on_law()
 /// A node with the machine's names for its blocks says and hears what the node with the cube's names does, renamed.
 pub fn renaming_law()
     ensures law { Renaming }
+{}
+
+/// Of every lawful history of a machine within its limits, the view of each grant is a trace that its cube gives alone.
+pub fn projection_law()
+    ensures law { Projection }
 {}

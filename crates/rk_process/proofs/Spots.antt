@@ -1,7 +1,6 @@
 -- The rules of an access, by the two places where it can be made.
-use Rattle.std.proofs.Common.{◌≡◌, ℕ, ◌-◌, ◌%◌, true, false, nat_lt, ◌==◌, List, Option, Some, None, Result, Ok, Err, OnOk, IfErr, IsTrue, arith, refl, ap, ◌∙◌, sym, inl, inr}
+use Rattle.std.proofs.Common.{◌≡◌, ℕ, ◌-◌, ◌%◌, true, false, nat_lt, ◌==◌, if◌then◌else◌, List, Option, Some, None, Result, Ok, Err, OnOk, IfErr, refl, ap, ◌∙◌, sym, inl, inr}
 use Rattle.std.proofs.lemmas.Bool.{cases_Bool}
-use Rattle.std.proofs.lemmas.Bool.Decides.{nat_tests}
 use Rattle.rv_model.specs.declared.stop.Stop.{Stop}
 use Rattle.rv_model.specs.declared.stop.Stop.TheVariants.{Misaligned, Unmapped}
 use Rattle.rv_model.specs.declared.limits.TheConstants.{PRIVATE_START}
@@ -72,13 +71,13 @@ module _ (space : Space) (a size : ℕ) where
       let is = made-private (λ offset. number_at space.private offset size) n e in
       ap Ok is.2 ∙ ap (result_map (number_in space size)) (sym (spot-private is.0 is.1))
 
-  pub loaded-window : (cause : Stop) → (a % size == 0) ≡ true → checked_access a size (λ offset. number_at space.private offset size) ≡ Err cause
+  loaded-window : (cause : Stop) → (a % size == 0) ≡ true → checked_access a size (λ offset. number_at space.private offset size) ≡ Err cause
       → number_found (window_found space.windows a) a size ≡ loaded_at space a size
   loaded-window cause t e =
       number-spot (window_found space.windows a)
       ∙ ap (result_map (number_in space size)) (sym (spot-window t (refused-elsewhere (λ offset. number_at space.private offset size) cause t e)))
 
-  pub loaded-misaligned : (cause : Stop) → (a % size == 0) ≡ false → checked_access a size (λ offset. number_at space.private offset size) ≡ Err cause
+  loaded-misaligned : (cause : Stop) → (a % size == 0) ≡ false → checked_access a size (λ offset. number_at space.private offset size) ≡ Err cause
       → Err cause ≡ loaded_at space a size
   loaded-misaligned cause f e =
       ap Err (refused-misaligned (λ offset. number_at space.private offset size) cause f e) ∙ ap (result_map (number_in space size)) (sym (spot-misaligned f))
@@ -90,26 +89,32 @@ module _ (space : Space) (a size : ℕ) where
       let is = made-private (λ offset. with_number_at space.private offset size n) private e in
       ap (result_map (with_number_in space size n)) (spot-private is.0 is.1) ∙ ap (λ bytes. Ok (record space { private = bytes })) (sym is.2)
 
-  pub stored-window : (n : ℕ) (cause : Stop) → (a % size == 0) ≡ true → checked_access a size (λ offset. with_number_at space.private offset size n) ≡ Err cause
+  stored-window : (n : ℕ) (cause : Stop) → (a % size == 0) ≡ true → checked_access a size (λ offset. with_number_at space.private offset size n) ≡ Err cause
       → stored_at space a size n ≡ result_map (λ windows. record space { windows = windows }) (windows_left space.windows a size n)
   stored-window n cause t e =
       ap (result_map (with_number_in space size n)) (spot-window t (refused-elsewhere (λ offset. with_number_at space.private offset size n) cause t e))
       ∙ sym (left-spot n (window_found space.windows a) refl)
 
-  pub stored-misaligned : (n : ℕ) (cause : Stop) → (a % size == 0) ≡ false → checked_access a size (λ offset. with_number_at space.private offset size n) ≡ Err cause
+  stored-misaligned : (n : ℕ) (cause : Stop) → (a % size == 0) ≡ false → checked_access a size (λ offset. with_number_at space.private offset size n) ≡ Err cause
       → stored_at space a size n ≡ Err cause
   stored-misaligned n cause f e =
       ap (result_map (with_number_in space size n)) (spot-misaligned f) ∙ ap Err (sym (refused-misaligned (λ offset. with_number_at space.private offset size n) cause f e))
 
--- whether an address is a multiple of the size, as a test
-pub aligned-test : (n : ℕ) → (IsTrue true → n ≡ 0) → (n == 0) ≡ true
-aligned-test n h = let e = h refl in grind (arith, nat_tests)
+-- a load or a store that private memory refused is made where its window says, if it is at a multiple of its size
+module _ (space : Space) (a size : ℕ) (cause : Stop) where
+  pub loaded-elsewhere : checked_access a size (λ offset. number_at space.private offset size) ≡ Err cause
+      → (if a % size == 0 then number_found (window_found space.windows a) a size else Err cause) ≡ loaded_at space a size
+  loaded-elsewhere e = elim (cases_Bool (a % size == 0)) [
+    | inl t ↦ rw t (loaded-window space a size cause t e)
+    | inr f ↦ rw f (loaded-misaligned space a size cause f e)
+  ]
 
-pub misaligned-test : (n : ℕ) → (n ≡ 0 → IsTrue false) → (n == 0) ≡ false
-misaligned-test n h = elim (cases_Bool (n == 0)) [
-  | inl t ↦ (let e : n ≡ 0 = grind (arith, nat_tests) in absurd (let bad = h e in cc))
-  | inr f ↦ f
-]
+  pub stored-elsewhere : (n : ℕ) → checked_access a size (λ offset. with_number_at space.private offset size n) ≡ Err cause
+      → stored_at space a size n ≡ result_map (λ windows. record space { windows = windows }) (if a % size == 0 then windows_left space.windows a size n else Err cause)
+  stored-elsewhere n e = elim (cases_Bool (a % size == 0)) [
+    | inl t ↦ rw t (stored-window space a size n cause t e)
+    | inr f ↦ rw f (stored-misaligned space a size n cause f e)
+  ]
 
 -- what a store above private memory comes to, from what it leaves in the windows
 module _ (space : Space) (stored : Result Space Stop) (left : Result (List (Option Block)) Stop)

@@ -1,4 +1,4 @@
-ghost use Rattle.std.specs.Prelude.{◌≡◌, ◌<◌, ◌+◌, ◌^◌, ◌&&◌, length, nat_lt, nat_le, if◌then◌else◌, IfOk, OnOk, IfErr, OnErr, Some, None, Ok, Err, List, ℕ, option_map};
+ghost use Rattle.std.specs.Prelude.{◌≡◌, ◌<◌, ◌+◌, ◌^◌, ◌%◌, ◌==◌, ◌&&◌, length, nat_lt, nat_le, if◌then◌else◌, IfOk, OnOk, IfErr, OnErr, Some, None, Ok, Err, List, ℕ, option_map};
 ghost use Rattle.rv_model.specs.Exec.{IsAccessSize};
 ghost use Rattle.ce_model.specs.Limits.{window_base};
 ghost use Rattle.ce_model.specs.Space.{window_of, offset_of, loaded_at, stored_at, process_access};
@@ -113,22 +113,71 @@ fn store_in_window(
     }
 }
 
+/// The number that a load finds which private memory refused for this cause, or why it stops the process.
+#[inline(never)]
+fn load_elsewhere(
+    held: &Held,
+    windows: &Windows,
+    addr: u32,
+    size: u32,
+    cause: Stop,
+) -> Result<u32, Stop>
+    requires { IsAccessSize size }
+    ensures value { result ≡ (if addr % size == 0
+        then number_found (window_found (windows_of held.now.mappings windows.now.pid windows.now.used) addr) addr size
+        else Err cause) }
+    ensures fits { IfOk result (λ n. n < 256 ^ size) }
+{
+    if addr.is_multiple_of(size) {
+        load_in_window(held, *windows, addr, size)
+    } else {
+        Err(cause)
+    }
+}
+
+/// Makes a store that private memory refused for this cause, or says why it stops the process.
+#[inline(never)]
+fn store_elsewhere(
+    held: &mut Held,
+    windows: &Windows,
+    addr: u32,
+    size: u32,
+    value: u32,
+    cause: Stop,
+) -> Result<(), Stop>
+    requires { IsAccessSize size }
+    ensures stored { OnOk result ((if addr % size == 0
+        then windows_left (windows_of held.old.mappings windows.now.pid windows.now.used) addr size value else Err cause)
+        ≡ Ok (windows_of held.new.mappings windows.now.pid windows.now.used)) }
+    ensures refused { IfErr result (λ because. (if addr % size == 0
+        then windows_left (windows_of held.old.mappings windows.now.pid windows.now.used) addr size value else Err cause)
+        ≡ Err because) }
+    ensures unchanged { OnErr result (held.new ≡ held.old) }
+    ensures rest { rest_of windows.now.pid windows.now.used held.new ≡ rest_of windows.now.pid windows.now.used held.old }
+{
+    if addr.is_multiple_of(size) {
+        store_in_window(held, *windows, addr, size, value)
+    } else {
+        Err(cause)
+    }
+}
+
 /// The number in the `size` bytes at an address, or why the load stops the process.
+#[inline]
 pub(crate) fn load_at(
     private: &PrivateMemory,
     held: &Held,
-    windows: Windows,
+    windows: &Windows,
     addr: u32,
     size: u32,
 ) -> Result<u32, Stop>
     requires { IsAccessSize size }
-    ensures value { result ≡ loaded_at (space_of private.now held.now.mappings windows.pid windows.used) addr size }
+    ensures value { result ≡ loaded_at (space_of private.now held.now.mappings windows.now.pid windows.now.used) addr size }
     ensures fits { IfOk result (λ n. n < 256 ^ size) }
 {
     match private.load(addr, size) {
         Ok(number) => Ok(number),
-        Err(_) if addr.is_multiple_of(size) => load_in_window(held, windows, addr, size),
-        Err(cause) => Err(cause),
+        Err(cause) => load_elsewhere(held, windows, addr, size, cause),
     }
 }
 
@@ -154,21 +203,23 @@ impl Memory for ProcessMemory {
 
     ghost rest = { λ memory. rest_of memory.windows.pid memory.windows.used memory.held };
 
+    #[inline]
     fn fetch(&self, pc: u32) -> Result<u32, Stop> {
         self.private.fetch(pc)
     }
 
+    #[inline]
     fn load(&self, addr: u32, size: u32) -> Result<u32, Stop> {
-        load_at(&self.private, &self.held, self.windows, addr, size)
+        load_at(&self.private, &self.held, &self.windows, addr, size)
     }
 
+    #[inline]
     fn store(&mut self, addr: u32, size: u32, value: u32) -> Result<(), Stop> {
         match self.private.store(addr, size, value) {
             Ok(()) => Ok(()),
-            Err(_) if addr.is_multiple_of(size) => {
-                store_in_window(&mut self.held, self.windows, addr, size, value)
+            Err(cause) => {
+                store_elsewhere(&mut self.held, &self.windows, addr, size, value, cause)
             }
-            Err(cause) => Err(cause),
         }
     }
 }

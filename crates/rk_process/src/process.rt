@@ -145,7 +145,7 @@ impl Process {
             pid,
             used: self.memory.windows.used,
         };
-        load_at(&self.memory.private, held, windows, addr, 4)
+        load_at(&self.memory.private, held, &windows, addr, 4)
     }
 
     /// Runs instructions of the process, taking one from `left` for each, up to an ECALL or to its stop. The stop is

@@ -1,12 +1,11 @@
-ghost use Rattle.std.specs.Prelude.{◌≡◌, ◌≤◌, ◌<◌, ◌+◌, ◌-◌, ◌*◌, ◌/◌, ◌%◌, ◌^◌, ◌++◌, ◌==◌, ◌&&◌, take, drop, ℕ, IfOk, IfSome, length, replicate, Some, None, if◌then◌else◌};
+ghost use Rattle.std.specs.Prelude.{◌≡◌, ◌≤◌, ◌+◌, ◌-◌, ◌*◌, ◌/◌, ◌%◌, ◌++◌, ◌==◌, ◌&&◌, ℕ, IfOk, IfSome, length, replicate, Some, None, if◌then◌else◌};
 ghost use Rattle.rv_model.specs.Exec.{IsAccessSize};
 ghost use Rattle.rv_model.specs.Image.{image_room};
 ghost use Rattle.rv_model.specs.declared.limits.TheConstants.{PRIVATE_START, PRIVATE_SIZE};
 ghost use Rattle.rv_model.specs.Private.{private_size, is_private, checked_access, with_loaded};
-ghost use Rattle.rv_model.specs.LittleEndian.{number_at, with_number_at};
 
 use crate::Memory;
-use rv_model::{NoMemory, PRIVATE_SIZE, PRIVATE_START, Stop};
+use rv_model::{NoMemory, PRIVATE_SIZE, PRIVATE_START, Stop, number_in, put_number, word_in};
 use std::alloc::Global;
 use std::marker::Model;
 
@@ -95,19 +94,19 @@ impl Memory for PrivateMemory {
 
     fn fetch(&self, pc: u32) -> Result<u32, Stop> {
         match offset_of(pc, 4) {
-            Some(offset) => Ok(word_at(self.bytes.as_slice(), offset)),
+            Some(offset) => Ok(word_in(self.bytes.as_slice(), offset)),
             None => Err(Stop::Fetch(pc)),
         }
     }
 
     fn load(&self, addr: u32, size: u32) -> Result<u32, Stop> {
         let from = place(addr, size)?;
-        Ok(read(self.bytes.as_slice(), from, size))
+        Ok(number_in(self.bytes.as_slice(), from, size))
     }
 
     fn store(&mut self, addr: u32, size: u32, value: u32) -> Result<(), Stop> {
         let offset = place(addr, size)?;
-        write(self.bytes.as_mut_slice(), offset, size, value);
+        put_number(self.bytes.as_mut_slice(), offset, size, value);
         Ok(())
     }
 }
@@ -151,56 +150,4 @@ fn place(addr: u32, size: u32) -> Result<usize, Stop>
         None if addr & (size - 1) != 0 => Err(Stop::Misaligned(addr)),
         None => Err(Stop::Unmapped(addr)),
     }
-}
-
-/// The number in the `size` bytes from `offset` on.
-#[tactic(auto, using(crate::proofs::Bytes::number_lemmas))]
-fn read(bytes: &[u8], offset: usize, size: u32) -> u32
-    requires size { IsAccessSize size }
-    requires within { offset + size ≤ length bytes.now }
-    ensures value { result ≡ number_at bytes.now offset size }
-    ensures fits { result < 256 ^ size }
-{
-    match size {
-        1 => u32::from(bytes[offset]),
-        2 => u32::from(bytes[offset]) + u32::from(bytes[offset + 1]) * 0x100,
-        _ => word_at(bytes, offset),
-    }
-}
-
-/// The number in the four bytes from `offset` on.
-#[tactic(auto, using(crate::proofs::Bytes::number_lemmas))]
-fn word_at(bytes: &[u8], offset: usize) -> u32
-    requires { offset + 4 ≤ length bytes.now }
-    ensures { result ≡ number_at bytes.now offset 4 }
-{
-    u32::from_le_bytes([
-        bytes[offset],
-        bytes[offset + 1],
-        bytes[offset + 2],
-        bytes[offset + 3],
-    ])
-}
-
-/// Writes the lowest `size` bytes of `value` from `offset` on.
-#[tactic(auto, unfolding(rv_model::specs::LittleEndian::with_number_at))]
-fn write(bytes: &mut [u8], offset: usize, size: u32, value: u32)
-    requires size { IsAccessSize size }
-    requires within { offset + size ≤ length bytes.old }
-    ensures { bytes.new ≡ with_number_at bytes.old offset size value }
-{
-    let [b0, b1, b2, b3] = value.to_le_bytes();
-    match size {
-        1 => put(bytes, offset, &[b0]),
-        2 => put(bytes, offset, &[b0, b1]),
-        _ => put(bytes, offset, &[b0, b1, b2, b3]),
-    }
-}
-
-/// Writes `part` from `offset` on.
-fn put(bytes: &mut [u8], offset: usize, part: &[u8])
-    requires { offset + length part.now ≤ length bytes.old }
-    ensures { bytes.new ≡ take offset bytes.old ++ (part.now ++ drop (offset + length part.now) bytes.old) }
-{
-    bytes[offset..offset + part.len()].copy_from_slice(part);
 }

@@ -31,11 +31,6 @@ abbrev pub EachSome : {X : Type 0} → (X → Type 0) → Option X → Type 0
 EachSome P None = Unit {0}
 EachSome P (Some x) = P x
 
--- the property holds of one member more
-infixr 5 ◌and◌
-pub ◌and◌ : {A B : Type 0} → A → B → A × B
-here and rest = (here, rest)
-
 pub all-append : {X : Type 0} (P : X → Type 0) (xs ys : List X) → AllByRecursion P xs → AllByRecursion P ys → AllByRecursion P (xs ++ ys)
 all-append P [] ys here there = there
 all-append P (x ∷ xs) ys here there = (here.0, all-append P xs ys here.1 there)

@@ -9,11 +9,11 @@ use Rattle.ce_model.specs.declared.topology.Place.{Place}
 use Rattle.ce_model.specs.declared.topology.BlockId.{BlockId}
 use Rattle.ce_model.specs.Limits.{block_room, window_count, greatest_targets, turn_calls}
 use Rattle.ce_model.specs.Blocks.{Block, put}
-use Rattle.ce_model.specs.Space.{block_named, window_start, has_unused_window, mapped, result_map, places_at}
+use Rattle.ce_model.specs.Space.{window_start, has_unused_window, mapped, result_map, places_at}
 use Rattle.ce_model.specs.Process.{Process, argument, call_number}
 use Rattle.ce_model.specs.Node.{Turn, Node, is_place, sends, spawns, kills, notes}
-use Rattle.ce_model.specs.Kernel.{Did, returns, says_call, reading, with_space, gives_up, maps_least, xmalloc, frees, xfree, xlength, is_target, place_named, sends_block, xsend, sends_copies, xmsend_block, xmsend, spawn, ckill, KernelCall, kernel_calls, kernel_call, counted_does, kernel_does, kernel}
-use Rattle.ce_solo.proofs.Renaming.Lists.{◌and◌, if_each, EachSome, all-get, zip-map}
+use Rattle.ce_model.specs.Kernel.{with_space, gives_up, maps_least, xmalloc, frees, xfree, xlength, is_target, place_named, sends_block, xsend, sends_copies, xmsend_block, xmsend, spawn, ckill, KernelCall, kernel_calls, kernel_call, counted_does, kernel_does, kernel}
+use Rattle.ce_solo.proofs.Renaming.Lists.{if_each, EachSome, all-get, zip-map}
 use Rattle.ce_solo.proofs.Renaming.Memory.{EachOk, found_with, named-renamed, places-renamed, mapped-renamed, unmapped-renamed, named-named, mapped-named, unmapped-named}
 use Rattle.ce_solo.proofs.Renaming.Store.{AreNamed, put-named, put-renamed}
 use Rattle.ce_solo.proofs.Renaming.Calls.{Names, node_by, process_by, AreDid, AreNamedBoth, IsCallAlike, if-alike, returns-alike, answers-alike, stops-alike, says-alike, waits-alike, reading-alike}
@@ -32,18 +32,6 @@ module _ (names : Names) where
         around = record { store = named.1; processes = both.around.processes };
         own = mapped-named names.P block p.space named.0 both.own;
       })
-
-  -- a call that goes on with the block that its first argument names
-  of_block-alike : (onward : Node → Turn → Process → ℕ × Block → Did)
-      → ((node : Node) (turn : Turn) (p : Process) (found : ℕ × Block) → AreNamedBoth names node p → names.P found.1.id
-      → AreDid names (onward (node_by names node) turn (process_by names p) (found_with names.rename found)) (onward node turn p found))
-      → IsCallAlike names (λ node turn p. reading node turn p (block_named p.space (argument p 0)) (onward node turn p))
-  of_block-alike onward each = record {
-    did = λ node turn p both.
-        reading-alike names node turn p (found_with names.rename) (λ found. names.P found.1.id) _ _ _ _ both
-        (named-renamed names.rename p.space (argument p 0)) (named-named names.P p.space (argument p 0) both.own)
-        (λ found new. each node turn p found both new);
-  }
 
   xmalloc-alike : IsCallAlike names xmalloc
   xmalloc-alike = record {
@@ -68,12 +56,20 @@ module _ (names : Names) where
       })
 
   xfree-alike : IsCallAlike names xfree
-  xfree-alike = of_block-alike frees frees-alike
+  xfree-alike = record {
+    did = λ node turn p both.
+        reading-alike names node turn p (found_with names.rename) (λ found. names.P found.1.id) _ _ _ _ both
+        (named-renamed names.rename p.space (argument p 0)) (named-named names.P p.space (argument p 0) both.own)
+        (λ found new. frees-alike node turn p found both new);
+  }
 
   xlength-alike : IsCallAlike names xlength
-  xlength-alike =
-      of_block-alike (λ node turn p found. returns node turn p (length found.1.bytes))
-      (λ node turn p found both new. answers-alike names node turn p (length found.1.bytes) both)
+  xlength-alike = record {
+    did = λ node turn p both.
+        reading-alike names node turn p (found_with names.rename) (λ found. names.P found.1.id) _ _ _ _ both
+        (named-renamed names.rename p.space (argument p 0)) (named-named names.P p.space (argument p 0) both.own)
+        (λ found new. answers-alike names node turn p (length found.1.bytes) both);
+  }
 
   -- ---- messages
 
@@ -85,7 +81,12 @@ module _ (names : Names) where
       (answers-alike names node turn p 1 both)
 
   xsend-alike : IsCallAlike names xsend
-  xsend-alike = of_block-alike sends_block (λ node turn p found both new. sends_block-alike node turn p found both)
+  xsend-alike = record {
+    did = λ node turn p both.
+        reading-alike names node turn p (found_with names.rename) (λ found. names.P found.1.id) _ _ _ _ both
+        (named-renamed names.rename p.space (argument p 0)) (named-named names.P p.space (argument p 0) both.own)
+        (λ found new. sends_block-alike node turn p found both);
+  }
 
   sends_copies-alike : (node : Node) (turn : Turn) (p : Process) (found : ℕ × Block) (places : List Place) → AreNamedBoth names node p → names.P found.1.id
       → AreDid names (sends_copies (node_by names node) turn (process_by names p) (found_with names.rename found) places) (sends_copies node turn p found places)
@@ -121,7 +122,12 @@ module _ (names : Names) where
       (λ places is. sends_copies-alike node turn p found places both new))
 
   xmsend-alike : IsCallAlike names xmsend
-  xmsend-alike = of_block-alike xmsend_block xmsend_block-alike
+  xmsend-alike = record {
+    did = λ node turn p both.
+        reading-alike names node turn p (found_with names.rename) (λ found. names.P found.1.id) _ _ _ _ both
+        (named-renamed names.rename p.space (argument p 0)) (named-named names.P p.space (argument p 0) both.own)
+        (λ found new. xmsend_block-alike node turn p found both new);
+  }
 
   -- ---- processes
 
@@ -143,26 +149,55 @@ module _ (names : Names) where
         (answers-alike names node turn p 1 both);
   }
 
-  notes-alike : IsCallAlike names (λ node turn p. says_call node turn p (notes turn.pid (argument p 0)))
-  notes-alike = record {
-    did = λ node turn p both.
-        says-alike names (node_by names node) node turn (process_by names p) p _ (notes turn.pid (argument p 0)) refl refl refl;
-  }
-
   -- ---- all calls
 
   calls-alike : AllByRecursion (λ call. IsCallAlike names call.does) kernel_calls
   unfolding kernel_calls
-  calls-alike =
-      xmalloc-alike and xfree-alike and xlength-alike and xsend-alike and xmsend-alike
-      and record { did = λ node turn p both. waits-alike names node turn p Polling (node.polling ++ turn.pid ∷ []) }
-      and record { did = λ node turn p both. waits-alike names node turn p Asking node.polling }
-      and spawn-alike and ckill-alike
-      and record { did = λ node turn p both. answers-alike names node turn p node.number both }
-      and record { did = λ node turn p both. answers-alike names node turn p turn.pid both }
-      and record { did = λ node turn p both. answers-alike names node turn p (2 ^ node.dim) both }
-      and record { did = λ node turn p both. stops-alike names node turn p (Exited (argument p 0)) both }
-      and notes-alike and tt
+  calls-alike = (
+    xmalloc-alike,
+    (
+      xfree-alike,
+      (
+        xlength-alike,
+        (
+          xsend-alike,
+          (
+            xmsend-alike,
+            (
+              record { did = λ node turn p both. waits-alike names node turn p Polling (node.polling ++ turn.pid ∷ []) },
+              (
+                record { did = λ node turn p both. waits-alike names node turn p Asking node.polling },
+                (
+                  spawn-alike,
+                  (
+                    ckill-alike,
+                    (
+                      record { did = λ node turn p both. answers-alike names node turn p node.number both },
+                      (
+                        record { did = λ node turn p both. answers-alike names node turn p turn.pid both },
+                        (
+                          record { did = λ node turn p both. answers-alike names node turn p (2 ^ node.dim) both },
+                          (
+                            record { did = λ node turn p both. stops-alike names node turn p (Exited (argument p 0)) both },
+                            (
+                              record {
+                                did = λ node turn p both. says-alike names (node_by names node) node turn (process_by names p) p _ (notes turn.pid (argument p 0)) refl refl refl;
+                              },
+                              tt,
+                            ),
+                          ),
+                        ),
+                      ),
+                    ),
+                  ),
+                ),
+              ),
+            ),
+          ),
+        ),
+      ),
+    ),
+  )
 
   counted-alike : (call : KernelCall) (node : Node) (turn : Turn) (p : Process) → IsCallAlike names call.does → AreNamedBoth names node p
       → AreDid names (counted_does call (node_by names node) turn (process_by names p)) (counted_does call node turn p)

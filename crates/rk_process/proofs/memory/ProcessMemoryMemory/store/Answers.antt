@@ -1,8 +1,8 @@
-use Rattle.std.proofs.Common.{◌≡◌}
+use Rattle.std.proofs.Common.{◌≡◌, ◌%◌, ◌==◌, if◌then◌else◌, Err}
 use Rattle.ce_model.specs.Space.{Space, result_map, stored_at}
 use Rattle.rk_process.specs.Seen.{space_of, windows_of}
 use Rattle.rk_process.specs.Windows.{windows_left}
-use Rattle.rk_process.proofs.Spots.{stored-private, stored-window, stored-misaligned, stored-then, refused-then, aligned-test, misaligned-test}
+use Rattle.rk_process.proofs.Spots.{stored-private, stored-elsewhere, stored-then, refused-then}
 use Rattle.rk_process.proofs.memory.ProcessMemoryMemory.store.Goals as goal
 
 pub returns-in-Ok-clause-stored : goal.returns-in-Ok-clause-stored
@@ -11,27 +11,19 @@ returns-in-Ok-clause-stored c =
     let space : Space = space_of memory.private memory.held.mappings memory.windows.pid memory.windows.used in
     stored-private space c.args.addr c.args.size c.args.value c.store.new.self c.in-Ok.ensures.stored
 
-module _ (c : goal.After-store_in_window) where
+module _ (c : goal.After-store_elsewhere) where
   abbrev space : Space
   space = space_of c.args.self.now.private c.args.self.now.held.mappings c.args.self.now.windows.pid c.args.self.now.windows.used
 
   made : stored_at space c.args.addr c.args.size c.args.value
-      ≡ result_map (λ windows. record space { windows = windows }) (windows_left space.windows c.args.addr c.args.size c.args.value)
-  made =
-      let aligned = c.if-is_multiple_of.ensures in
-      stored-window space c.args.addr c.args.size c.args.value c.in-Err.field-0 (aligned-test _ aligned.0) c.in-Err.ensures.refused
+      ≡ result_map (λ windows. record space { windows = windows })
+      (if c.args.addr % c.args.size == 0 then windows_left space.windows c.args.addr c.args.size c.args.value else Err c.in-Err.cause)
+  made = stored-elsewhere space c.args.addr c.args.size c.in-Err.cause c.args.value c.in-Err.ensures.refused
 
 pub returns-in-Err-clause-stored : goal.returns-in-Err-clause-stored
 returns-in-Err-clause-stored c =
-    stored-then (space c) _ _ (made c) c.store.new.self (windows_of c.store_in_window.new.held.mappings c.args.self.now.windows.pid c.args.self.now.windows.used)
-    c.in-Err.ensures.unchanged c.store_in_window.result c.store_in_window.ensures.stored
+    stored-then (space c) _ _ (made c) c.store.new.self (windows_of c.store_elsewhere.new.held.mappings c.args.self.now.windows.pid c.args.self.now.windows.used)
+    c.in-Err.ensures.unchanged c.store_elsewhere.result c.store_elsewhere.ensures.stored
 
 pub returns-in-Err-clause-refused : goal.returns-in-Err-clause-refused
-returns-in-Err-clause-refused c = refused-then (space c) _ _ (made c) c.store_in_window.result c.store_in_window.ensures.refused
-
-pub returns-in-Err-2-clause-refused : goal.returns-in-Err-2-clause-refused
-returns-in-Err-2-clause-refused c =
-    let memory = c.args.self.now in
-    let space : Space = space_of memory.private memory.held.mappings memory.windows.pid memory.windows.used in
-    let misaligned = c.if-is_multiple_of.ensures in
-    stored-misaligned space c.args.addr c.args.size c.args.value c.in-Err.field-0 (misaligned-test _ misaligned.1) c.in-Err.ensures.refused
+returns-in-Err-clause-refused c = refused-then (space c) _ _ (made c) c.store_elsewhere.result c.store_elsewhere.ensures.refused

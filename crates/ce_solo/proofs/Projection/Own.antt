@@ -1,0 +1,239 @@
+-- An entry of a cube that is held: it is the next of the cube's trace, and the machine keeps on what the cube becomes.
+use Rattle.std.proofs.Common.{◌≡◌, ◌⊎◌, ℕ, ◌+◌, ◌^◌, ◌<◌, ◌≤◌, Bool, true, false, ◌==◌, if◌then◌else◌, List, [], ◌∷◌, ◌++◌, count_by, Option, Some, None, IsTrue, option_map, option_and_then, refl, ap, ap₂, sym, ◌∙◌, subst, inl, inr, arith}
+use Rattle.std.specs.List.{AllByRecursion}
+use Rattle.std.proofs.lemmas.Bool.{cases_Bool, eq-eqb, eqb-true}
+use Rattle.ce_model.specs.declared.topology.TheConstants.{HOST}
+use Rattle.ce_model.specs.declared.entry.Entry.{Entry}
+use Rattle.ce_model.specs.declared.entry.Given.{Given}
+use Rattle.ce_model.specs.declared.entry.Given.TheVariants.{Start, Mail, Kill, Poll, Idle, Spent}
+use Rattle.ce_model.specs.Limits.{greatest_dim}
+use Rattle.ce_model.specs.Parcels.{Item, start, mail, kill, is_named_by}
+use Rattle.ce_model.specs.Node.{Call}
+use Rattle.ce_model.specs.Trace.{NodeRecord, Standing, items_to}
+use Rattle.ce_model.specs.Answers.{answer, call_of}
+use Rattle.ce_model.specs.Cube.{Cube, CubeState, IsCube, opening, left_by, asked_by, asked_in, call_by, entry_by, next_entry, node_numbers, HostCall, IsNext}
+use Rattle.ce_model.specs.Sound.{IsSound, IsHostItem, is_start_of, is_kill_of}
+use Rattle.ce_model.specs.Subcubes.{relative, extract, node_of, is_inside}
+use Rattle.ce_model.specs.Renaming.{Grant, block_outward, number_outward, record_with, call_with, entry_inward}
+use Rattle.ce_model.specs.Views.{trace_behind, view}
+use Rattle.ce_model.specs.Machine.{MachineParts, IsMachine, HeldCube, MachineState, held_by, host_record, standing_of, nodes_of, record_by, held_by_entry, with_cube, with_places_outward, cube_of}
+use Rattle.ce_model.proofs.Subcubes.{ones_of-bound, node_of-extract}
+use Rattle.ce_model.proofs.AloneByEntries.{call_of-answer}
+use Rattle.ce_model.proofs.OneMore.{taken_for}
+use Rattle.ce_solo.proofs.Lists.{count_by-agree, count_by-none, all-weaker}
+use Rattle.ce_solo.proofs.Items.{named-start, named-kill, named-mail}
+use Rattle.ce_solo.proofs.Steps.{entry_in, standing_after}
+use Rattle.ce_solo.proofs.Made.{made, taking-sends_none}
+use Rattle.ce_solo.proofs.Stands.{Stands, entry_of-next, left-made, stands-each}
+use Rattle.ce_solo.proofs.Fresh.{fresh_sound}
+use Rattle.ce_solo.proofs.Projection.Numbers.{IsPlaced, IsNumber, IsWhatOf, what_outward, entry_outward, entry_in_out, out_node, out_no_host, inside_below, relative_inside, relative_host}
+use Rattle.ce_solo.proofs.Projection.Answers.{IsStandingOf, answer-outward}
+use Rattle.ce_solo.proofs.Projection.Calls.{call-in, made-within, made-number, what-within}
+use Rattle.ce_solo.proofs.Projection.Entries.{TakesOne, record-behind, waiting-behind, armed-outward, dispatched-outward, sent-outward}
+use Rattle.ce_solo.proofs.Projection.Views.{trace-grows, view-is}
+use Rattle.ce_solo.proofs.Projection.Invariant.{IsKept, IsHeld, IsByEntries}
+
+pub own_cube : (parts : MachineParts) (grant : Grant) → IsMachine parts → IsPlaced parts.dim grant → IsCube (cube_of parts.images grant)
+own_cube parts grant machine placed = record {
+  user = placed.user;
+  dim = rw (← placed.sub.dimension) (ones_of-bound greatest_dim grant.sub.mask);
+  images = machine.images;
+}
+
+-- ---- what an entry takes is one item
+
+-- at most one item that waits has this name
+named_once : (cube : Cube) (s : CubeState) (n : ℕ) (given : Given) → IsSound cube s → IsNumber cube.dim n
+    → count_by (is_named_by given) (s.standing.node_record n).waiting ≤ 1
+named_once cube s n (Start pid image) sound (inl below) =
+    let items = (s.standing.node_record n).waiting in
+    omega (arith, count_by-agree (is_named_by (Start pid image)) (is_start_of pid) items (named-start pid image), (sound.records n below).one_start pid)
+named_once cube s n (Kill pid) sound (inl below) =
+    let items = (s.standing.node_record n).waiting in
+    omega (arith, count_by-agree (is_named_by (Kill pid)) (is_kill_of pid) items (named-kill pid), (sound.records n below).one_kill pid)
+named_once cube s n (Mail pid number) sound (inl below) =
+    named-mail pid number (s.standing.node_record n).waiting (sound.records n below).numbered.rising
+named_once cube s n (Start pid image) sound (inr host) =
+    let items = (s.standing.node_record n).waiting in
+    omega (arith, count_by-none (is_named_by (Start pid image)) items (all-weaker IsHostItem (λ item. is_named_by (Start pid image) item ≡ false) items (λ item. no_start item) (subst (λ m. AllByRecursion IsHostItem (s.standing.node_record m).waiting) (sym host) sound.host.own)))
+  where
+    no_start : (item : Item) → IsHostItem item → is_named_by (Start pid image) item ≡ false
+    no_start (start p i) h = absurd h
+    no_start (mail parcel) h = refl
+    no_start (kill p) h = absurd h
+named_once cube s n (Kill pid) sound (inr host) =
+    let items = (s.standing.node_record n).waiting in
+    omega (arith, count_by-none (is_named_by (Kill pid)) items (all-weaker IsHostItem (λ item. is_named_by (Kill pid) item ≡ false) items (λ item. no_kill item) (subst (λ m. AllByRecursion IsHostItem (s.standing.node_record m).waiting) (sym host) sound.host.own)))
+  where
+    no_kill : (item : Item) → IsHostItem item → is_named_by (Kill pid) item ≡ false
+    no_kill (start p i) h = absurd h
+    no_kill (mail parcel) h = refl
+    no_kill (kill p) h = absurd h
+named_once cube s n (Mail pid number) sound (inr host) =
+    subst (λ m. count_by (is_named_by (Mail pid number)) (s.standing.node_record m).waiting ≤ 1) (sym host)
+    (named-mail pid number (s.standing.node_record HOST).waiting sound.host.numbered.rising)
+named_once cube s n (Poll pid) sound of = omega (arith, count_by-none (is_named_by (Poll pid)) (s.standing.node_record n).waiting (unnamed (s.standing.node_record n).waiting))
+  where
+    unnamed : (items : List Item) → AllByRecursion (λ item. is_named_by (Poll pid) item ≡ false) items
+    unnamed [] = tt
+    unnamed (item ∷ items) = (refl, unnamed items)
+named_once cube s n Idle sound of = omega (arith, count_by-none (is_named_by Idle) (s.standing.node_record n).waiting (unnamed (s.standing.node_record n).waiting))
+  where
+    unnamed : (items : List Item) → AllByRecursion (λ item. is_named_by Idle item ≡ false) items
+    unnamed [] = tt
+    unnamed (item ∷ items) = (refl, unnamed items)
+named_once cube s n Spent sound of = omega (arith, count_by-none (is_named_by Spent) (s.standing.node_record n).waiting (unnamed (s.standing.node_record n).waiting))
+  where
+    unnamed : (items : List Item) → AllByRecursion (λ item. is_named_by Spent item ≡ false) items
+    unnamed [] = tt
+    unnamed (item ∷ items) = (refl, unnamed items)
+
+-- ---- what the machine keeps
+
+pub standing-kept : (dim : ℕ) (state : MachineState) (cube : HeldCube) (here : Standing) → IsPlaced dim cube.grant → IsKept state.node_record cube here
+    → IsStandingOf cube.grant (standing_of state cube) here
+standing-kept dim state cube here placed kept = record {
+  nodes = λ r below.
+      ap (λ (b : Bool). if b then host_record cube else state.node_record (node_of cube.grant.sub r)) (out_no_host dim cube.grant placed r) ∙ kept.nodes r below;
+  host = kept.mail;
+  armed = kept.armed;
+  dispatched = kept.dispatched;
+  parcel_count = kept.parcel_count;
+}
+
+kept-own : (dim : ℕ) (node_record node_record' : ℕ → NodeRecord) (cube : HeldCube) (here : Standing) (entry : Entry) (placed : IsPlaced dim cube.grant)
+    (number : IsNumber cube.grant.dim entry.actor) (what : IsWhatOf cube.grant.dim entry.what)
+    → ((n : ℕ) → IsNumber cube.grant.dim n → TakesOne dim cube.grant placed entry number what n (here.node_record n).waiting)
+    → ((r : ℕ) → r < 2 ^ cube.grant.dim → node_record' (node_of cube.grant.sub r)
+    ≡ record_by cube.grant.sub (entry_outward cube.grant entry) (node_of cube.grant.sub r) (node_record (node_of cube.grant.sub r)))
+    → IsKept node_record cube here → IsKept node_record' (held_by_entry (entry_outward cube.grant entry) cube) (standing_after here entry)
+kept-own dim node_record node_record' cube here entry placed number what one changed kept =
+    let grant = cube.grant in
+    let out = entry_outward grant entry in
+    record {
+      nodes = λ r below.
+          changed r below ∙ ap (record_by grant.sub out (node_of grant.sub r)) (kept.nodes r below)
+          ∙ ap (λ n. record_by grant.sub out n (record_with (block_outward grant) (here.node_record r))) (sym (out_node dim grant placed r below))
+          ∙ record-behind dim grant placed entry number what r (here.node_record r) (inl below) (one r (inl below));
+      mail = ap (Rattle.ce_model.specs.Machine.waiting_by grant.sub out HOST) kept.mail
+          ∙ waiting-behind dim grant placed entry number what HOST (here.node_record HOST).waiting (inr refl) (one HOST (inr refl));
+      armed = armed-outward grant cube.armed entry.what ∙ ap (λ n. Rattle.ce_model.specs.Trace.armed_by n entry.what) kept.armed;
+      dispatched = dispatched-outward grant cube.dispatched entry.what ∙ ap (λ n. Rattle.ce_model.specs.Trace.dispatched_by n entry.what) kept.dispatched;
+      parcel_count = ap₂ (λ a b. a + b) kept.parcel_count (sent-outward grant entry.actor (number_outward grant.sub entry.actor) entry.what);
+    }
+
+-- ---- the entry of the cube
+
+-- the entry is, with the machine's numbers, the next one of the cube behind this trace
+pub record IsOwnEntry (parts : MachineParts) (grant : Grant) (t : List Entry) (entry : Entry) : Type 0 where
+  pub inner : Entry
+  pub next : IsNext (cube_of parts.images grant) (opening (cube_of parts.images grant)) t inner
+  pub same : entry ≡ entry_outward grant inner
+  pub number : IsNumber grant.dim inner.actor
+  pub what : IsWhatOf grant.dim inner.what
+  pub call : Call
+  pub called : call_of entry.what ≡ Some call
+
+asked_in_host : (cube : Cube) (o : CubeState) (t : List Entry) (actor : ℕ) (call : Call) → (actor == HOST) ≡ true
+    → asked_in (entry_by cube o t actor call) ≡ asked_by call
+asked_in_host cube o t actor call is =
+    ap (λ (b : Bool). if b then option_and_then asked_by (call_of (entry_by cube o t actor call).what) else None) is
+    ∙ ap (option_and_then asked_by) (call_of-answer (node_numbers cube.dim) (Rattle.ce_model.specs.Trace.standing o.standing t) actor call)
+
+next_by_call : (cube : Cube) (o : CubeState) (t : List Entry) (actor : ℕ) (call : Call) → call_by cube o t actor (asked_by call) ≡ Some call
+    → IsNext cube o t (entry_by cube o t actor call)
+unfolding next_entry
+next_by_call cube o t actor call e =
+    elim (cases_Bool (actor == HOST)) [
+      | inl is ↦
+          ap (λ asked. option_map (entry_by cube o t actor) (call_by cube o t actor asked)) (asked_in_host cube o t actor call is)
+          ∙ ap (option_map (entry_by cube o t actor)) e
+      | inr node ↦ next_of_node (asked_in (entry_by cube o t actor call)) (asked_by call) node ∙ ap (option_map (entry_by cube o t actor)) e
+    ]
+  where
+    next_of_node : (x y : Option HostCall) → (actor == HOST) ≡ false
+        → option_map (entry_by cube o t actor) (call_by cube o t actor x) ≡ option_map (entry_by cube o t actor) (call_by cube o t actor y)
+    next_of_node x y node = rw node refl
+
+-- an actor has the number that it is known by, outwards
+pub actor_back : (dim : ℕ) (grant : Grant) (placed : IsPlaced dim grant) (actor : ℕ) → IsTrue (actor == HOST) ⊎ IsTrue (is_inside grant.sub actor)
+    → actor ≡ number_outward grant.sub (relative grant.sub actor)
+actor_back dim grant placed actor (inl host) =
+    let is = eqb-true actor HOST host in
+    is ∙ sym (ap (λ n. number_outward grant.sub (relative grant.sub n)) is ∙ ap (number_outward grant.sub) (relative_host dim grant placed))
+actor_back dim grant placed actor (inr inside) =
+    sym (ap (number_outward grant.sub) (relative_inside dim grant placed actor inside)
+    ∙ out_node dim grant placed (extract actor grant.sub.mask) (inside_below dim grant placed actor inside) ∙ node_of-extract grant.sub actor inside)
+
+module _ (parts : MachineParts) (machine : IsMachine parts) (state : MachineState) (h : List Entry) (cube : HeldCube) (was : IsHeld parts state h cube) (goes : cube.drained ≡ false)
+    (alone : IsByEntries parts cube.grant (trace_behind cube.grant was.behind)) where
+  abbrev own : Cube
+  own = cube_of parts.images cube.grant
+
+  abbrev t : List Entry
+  t = trace_behind cube.grant was.behind
+
+  abbrev s : CubeState
+  s = left_by own (opening own) t
+
+  pub stands : Stands own (opening own) t
+  stands = stands-each own (opening own) t (own_cube parts cube.grant machine was.placed) (fresh_sound own (own_cube parts cube.grant machine was.placed)) alone
+
+  pub own-entry : (entry : Entry) (call : Call) → entry.user ≡ cube.grant.user → IsTrue (entry.actor == HOST) ⊎ IsTrue (is_inside cube.grant.sub entry.actor)
+      → call_by own (opening own) (view h cube.number) (relative cube.grant.sub entry.actor) (asked_by call) ≡ Some call
+      → answer (nodes_of cube.grant) (standing_of state cube) entry.actor (with_places_outward cube.grant (call_with (block_outward cube.grant) call)) ≡ entry.what
+      → IsOwnEntry parts cube.grant t entry
+  own-entry entry call user inside called answered =
+      let grant = cube.grant in
+      let of = own_cube parts grant machine was.placed in
+      let actor = relative grant.sub entry.actor in
+      let says = subst (λ t. call_by own (opening own) t actor (asked_by call) ≡ Some call) (view-is h cube.number grant was.behind was.found) called in
+      let by = made own s actor (asked_by call) call says in
+      let number = made-number own s of stands.sound actor (asked_by call) call by in
+      let within = made-within own s of stands.sound actor (asked_by call) call by in
+      let back = actor_back parts.dim grant was.placed entry.actor inside in
+      let inner = entry_in own s actor call in
+      let what : entry.what ≡ what_outward grant inner.what =
+      sym answered ∙ ap (λ n. answer (nodes_of grant) (standing_of state cube) n (with_places_outward grant (call_with (block_outward grant) call))) back
+      ∙ answer-outward parts.dim grant was.placed (standing_of state cube) s.standing (standing-kept parts.dim state cube s.standing was.placed (was.kept goes)) actor call number
+      (call-in grant.dim call within) in
+      record {
+        inner = inner;
+        next = next_by_call own (opening own) t actor call says;
+        same = λ i. record { user = user i; actor = back i; what = what i };
+        number = number;
+        what = what-within own s of stands.sound actor call within;
+        call = with_places_outward grant (call_with (block_outward grant) call);
+        called = ap call_of (sym answered)
+            ∙ call_of-answer (nodes_of grant) (standing_of state cube) entry.actor (with_places_outward grant (call_with (block_outward grant) call));
+      }
+
+  takes-one : (inner : Entry) (number : IsNumber cube.grant.dim inner.actor) (what : IsWhatOf cube.grant.dim inner.what) → IsNext own (opening own) t inner
+      → (n : ℕ) → IsNumber cube.grant.dim n → TakesOne parts.dim cube.grant was.placed inner number what n (s.standing.node_record n).waiting
+  takes-one inner number what next n of_n given taken =
+      let e = entry_of-next own (opening own) t inner next in (
+        named_once own s n given stands.sound of_n,
+        ap (items_to n) e.is ∙ taking-sends_none own s e.actor n e.call given (ap (taken_for n) (sym e.is) ∙ taken),
+      )
+
+  -- the machine keeps on what the cube becomes
+  pub kept-behind : (entry : Entry) (node_record' : ℕ → NodeRecord) → (is : IsOwnEntry parts cube.grant t entry)
+      → ((r : ℕ) → r < 2 ^ cube.grant.dim → node_record' (node_of cube.grant.sub r)
+      ≡ record_by cube.grant.sub entry (node_of cube.grant.sub r) (state.node_record (node_of cube.grant.sub r)))
+      → IsKept node_record' (held_by_entry entry cube) (left_by own (opening own) (t ++ is.inner ∷ [])).standing
+  kept-behind entry node_record' is changed =
+      let grant = cube.grant in
+      let e = entry_of-next own (opening own) t is.inner is.next in
+      let now = kept-own parts.dim state.node_record node_record' cube s.standing is.inner was.placed is.number is.what (takes-one is.inner is.number is.what is.next)
+      (λ r below. changed r below ∙ ap (λ e. record_by grant.sub e (node_of grant.sub r) (state.node_record (node_of grant.sub r))) is.same) (was.kept goes) in
+      subst (λ (now : CubeState). IsKept node_record' (held_by_entry entry cube) now.standing) (sym (left-made own (opening own) t is.inner stands e))
+      (subst (λ e. IsKept node_record' (held_by_entry e cube) (standing_after s.standing is.inner)) (sym is.same) now)
+
+  -- the trace of the cube goes on with the entry, as the cube knows it
+  pub trace-behind : (entry : Entry) → (is : IsOwnEntry parts cube.grant t entry) → trace_behind cube.grant (was.behind ++ entry ∷ []) ≡ t ++ is.inner ∷ []
+  trace-behind entry is =
+      trace-grows cube.grant was.behind entry is.call (was.over ∙ goes) (eq-eqb _ _ (ap (λ (e : Entry). e.user) is.same ∙ inner_user)) is.called
+      ∙ ap (λ e. t ++ e ∷ []) (ap (entry_inward cube.grant.sub) is.same ∙ entry_in_out parts.dim cube.grant was.placed is.inner is.number is.what)
+    where
+      inner_user : is.inner.user ≡ cube.grant.user
+      inner_user = ap (λ (e : Entry). e.user) (entry_of-next own (opening own) t is.inner is.next).is
