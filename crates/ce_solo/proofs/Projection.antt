@@ -9,3 +9,5 @@ pub mod Invariant
 pub mod Own
 pub mod Kinds
 pub mod Law
+pub mod Legal
+pub mod StillFits

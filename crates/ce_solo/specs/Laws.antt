@@ -1,5 +1,5 @@
 -- The laws of a cube, each in one line. A cube within the machine's limits goes on from any sound state; a fresh cube's is one.
-use Rattle.std.specs.Prelude.{◌≡◌, ◌⊎◌, ℕ, ◌^◌, ◌<◌, ◌≤◌, List, [], ◌∷◌, ◌++◌, Contains, IfSome, IsTrue, Option, count_by}
+use Rattle.std.specs.Prelude.{◌≡◌, ◌⊎◌, ℕ, ◌^◌, ◌<◌, ◌≤◌, false, ◌==◌, List, [], ◌∷◌, ◌++◌, Contains, IfSome, IsTrue, Option, count_by}
 use Rattle.std.specs.List.{AllByRecursion}
 use Rattle.rv_model.specs.Image.{ImageParts}
 use Rattle.ce_model.specs.declared.entry.Entry.{Entry}
@@ -13,14 +13,14 @@ use Rattle.ce_model.specs.Node.{Node, process_at, blocks_of}
 use Rattle.ce_model.specs.Saying.{says}
 use Rattle.ce_model.specs.Hearing.{Heard, mail_of, hears}
 use Rattle.ce_model.specs.Trace.{sent_to}
-use Rattle.ce_model.specs.Cube.{Cube, IsCube, CubeState, opening, left_by, rest, IsAloneFrom, IsAlone}
+use Rattle.ce_model.specs.Cube.{Cube, IsCube, CubeState, opening, left_by, rest, host_calls, actors, IsAloneFrom, IsAlone}
 use Rattle.ce_model.specs.Owners.{IsOwned, IsBlockOf}
 use Rattle.ce_model.specs.Order.{IsInOrder}
 use Rattle.ce_model.specs.Sound.{is_start_of, is_kill_of, IsSound}
 use Rattle.ce_model.specs.Subcubes.{subcubes}
 use Rattle.ce_model.specs.Renaming.{Grant, node_outward, saying_outward, heard_with, block_outward}
 use Rattle.ce_model.specs.Views.{from_grant, view}
-use Rattle.ce_model.specs.Machine.{MachineParts, IsMachine, IsLawful, cube_of}
+use Rattle.ce_model.specs.Machine.{MachineParts, IsMachine, Request, is_alone, Fits, IsLawfulEntry, IsLawful, cube_of}
 
 -- ---- a cube alone
 
@@ -69,6 +69,36 @@ GoesOn = OfEachTrace (λ cube o t. (s : List Entry) → IsAloneFrom cube (left_b
 abbrev pub Projection : Type 0
 Projection = (parts : MachineParts) (history : List Entry) (number : ℕ) → IsMachine parts → IsLawful parts history
     → IfSome (from_grant history number) (λ found. IsAlone (cube_of parts.images found.0) (view history number))
+
+-- the trace is one that the cube gives alone, in it each block has one owner, and what any one got from another is a front of what was sent
+abbrev pub IsLegal : Cube → List Entry → Type 0
+IsLegal cube t = IsAlone cube t × IsOwned cube (opening cube) t × IsInOrder (opening cube).standing t
+
+-- so is the view of each grant of a lawful history
+abbrev pub LawfulIsLegal : Type 0
+LawfulIsLegal = (parts : MachineParts) (history : List Entry) (number : ℕ) → IsMachine parts → IsLawful parts history
+    → IfSome (from_grant history number) (λ found. IsLegal (cube_of parts.images found.0) (view history number))
+
+-- two views of one cube are the same where their hosts were asked the same and their actors acted in the same order, whatever the
+-- machines, where on them the cube lies, and what others did
+abbrev pub AreSame : Cube → Cube → List Entry → List Entry → Type 0
+AreSame cube cube' t t' = cube ≡ cube' → host_calls t ≡ host_calls t' → actors t ≡ actors t' → t ≡ t'
+
+abbrev pub SameTrace : Type 0
+SameTrace = (parts parts' : MachineParts) (history history' : List Entry) (number number' : ℕ) → IsMachine parts → IsMachine parts' → IsLawful parts history
+    → IsLawful parts' history' → IfSome (from_grant history number) (λ found. IfSome (from_grant history' number') (λ found'.
+    AreSame (cube_of parts.images found.0) (cube_of parts'.images found'.0) (view history number) (view history' number')))
+
+-- an entry is of another user, or of another actor and not one that is made alone
+abbrev pub IsForeign : ℕ → ℕ → Entry → Request → Type 0
+IsForeign user actor entry request = ((entry.user == user) ≡ false) ⊎ (((entry.actor == actor) ≡ false) × (is_alone request ≡ false))
+
+-- what fits a lawful history fits still behind one more lawful entry of another user, and behind one of another actor that is not
+-- made alone
+abbrev pub StillFits : Type 0
+StillFits = (parts : MachineParts) (history : List Entry) (user actor : ℕ) (request : Request) (entry : Entry) → IsMachine parts → IsLawful parts history
+    → Fits parts history user actor request → (lawful : IsLawfulEntry parts history entry) → IsForeign user actor entry lawful.request
+    → Fits parts (history ++ entry ∷ []) user actor request
 
 -- ---- names of blocks
 

@@ -1,6 +1,6 @@
 //! What is proved of each cube within the machine's limits and of each trace that it gives alone, and of the machine's
 //! lawful histories. The functions do nothing: a contract is the law, which proofs cite.
-ghost use Rattle.ce_solo.specs.Laws.{FreshIsSound, StaysSound, OneOwner, Waiting, Prefix, GoesOn, Renaming, Projection};
+ghost use Rattle.ce_solo.specs.Laws.{FreshIsSound, StaysSound, OneOwner, Waiting, Prefix, GoesOn, Renaming, Projection, LawfulIsLegal, SameTrace, StillFits};
 
 /// A cube that has just been granted is sound.
 pub fn fresh_is_sound_law()
@@ -42,4 +42,22 @@ pub fn renaming_law()
 /// Of every lawful history of a machine within its limits, the view of each grant is a trace that its cube gives alone.
 pub fn projection_law()
     ensures law { Projection }
+{}
+
+/// Of every lawful history of a machine within its limits, the view of each grant is a trace that its cube gives alone, each
+/// block has one owner in it, and what any one got from another is a front of what that one sent it.
+pub fn lawful_is_legal_law()
+    ensures law { LawfulIsLegal }
+{}
+
+/// Two views of one cube, of one lawful history or of two, are the same where its host was asked the same and its actors acted
+/// in the same order, whatever others did and wherever on its machine the cube lies.
+pub fn same_trace_law()
+    ensures law { SameTrace }
+{}
+
+/// What fits a lawful history fits still behind one more lawful entry of another user, and behind one of another actor of the
+/// same user that is not made alone.
+pub fn still_fits_law()
+    ensures law { StillFits }
 {}

@@ -1,11 +1,15 @@
 // The instruction words were worked out by hand from the RISC-V unprivileged specification.
+ghost use Rattle.std.specs.Prelude.{◌≡◌, ◌≤◌, ◌<◌, ◌+◌, ℕ, [], None, IfOk};
+ghost use Rattle.ce_model.specs.Limits.{block_room, window_count};
+ghost use Rattle.xm_owner.specs.Holdings.{held_at};
+
 use super::*;
 use ce_model::{BlockId, Status};
 use rv_image::Image;
 use rv_model::Stop;
 use std::alloc::Global;
 use std::test::Fail;
-use xm_block::Block;
+use xm_block::{Block, Store};
 use xm_owner::Held;
 
 const ENTRY: u32 = 0x0001_0000;
@@ -18,7 +22,9 @@ fn image(alloc: Global, words: &[u32]) -> Result<Image, Fail> {
     Ok(Image::of_parts(ENTRY, bytes, 0)?)
 }
 
-fn block(alloc: Global, index: u32) -> Result<Block, Fail> {
+fn block(alloc: Global, index: u32) -> Result<Block, Fail>
+    ensures { IfOk result (λ block. block.id ≡ record { home = 0; index = index }) }
+{
     Ok(Block::new(alloc, BlockId { home: 0, index })?)
 }
 
@@ -165,5 +171,65 @@ fn turn_spent(rt: HostRuntime) -> Result<(), Fail> {
     assert_eq!(rt; left, 0);
     let again = process.run_to_call(0, &mut held, &mut left);
     assert_eq!(rt; again, Paused::Stopped(Stop::TurnSpent));
+    Ok(())
+}
+
+// Gives the 32 blocks of home 0 to an empty store.
+fn fill(alloc: Global, store: &mut Store) -> Result<(), Fail>
+    requires empty { store.old.blocks ≡ [] }
+    requires room { 33 ≤ store.old.spare }
+    ensures { 1 ≤ store.new.spare }
+{
+    for index in 0..32 {
+        store.give(block(alloc, index)?);
+    }
+    Ok(())
+}
+
+// What the kernel does for a process that asks for a block of this length: the least block of the store at its next window.
+#[tactic(auto, unfolding(ce_model::specs::Limits::window_count))]
+fn allocate(process: &mut Process, held: &mut Held, store: &mut Store, length: u32) -> u32
+    requires length { length ≤ block_room }
+    requires unused { process.old.used < window_count }
+    requires room { 1 ≤ held.old.spare }
+    requires vacant { (k : ℕ) → process.old.used ≤ k → held_at held.old.mappings 0 k ≡ None }
+    ensures used { process.new.used ≤ process.old.used + 1 }
+    ensures room { held.old.spare ≤ held.new.spare + 1 }
+    ensures vacant { (k : ℕ) → process.new.used ≤ k → held_at held.new.mappings 0 k ≡ None }
+    ensures spare { store.old.spare ≤ store.new.spare }
+{
+    match store.take_least() {
+        None => 0,
+        Some(mut taken) => {
+            taken.reset(length);
+            let window = process.give_window();
+            held.map(0, window, taken);
+            0x8000_0000 + window * 0x1_0000
+        }
+    }
+}
+
+#[test]
+#[tactic(auto, unfolding(ce_model::specs::Limits::window_count, ce_model::specs::Limits::block_room))]
+fn store(rt: HostRuntime) -> Result<(), Fail> {
+    let mut held = Held::new(rt.alloc(), 40)?;
+    let mut process = Process::new(rt.alloc())?;
+    let mut store = Store::new(rt.alloc(), 40)?;
+    fill(rt.alloc(), &mut store)?;
+    for k in 0..32u32 {
+        let address = allocate(&mut process, &mut held, &mut store, 16);
+        assert_eq!(rt; address, 2_147_483_648 + 65_536 * k);
+    }
+    assert_eq!(rt; allocate(&mut process, &mut held, &mut store, 16), 0);
+    assert_eq!(rt; store.count(), 0);
+    match held.unmap(0, 0) {
+        Some(freed) => store.give(freed),
+        None => panic!(rt; "window 0 is empty"),
+    }
+    assert_eq!(rt;
+        allocate(&mut process, &mut held, &mut store, 16),
+        2_149_580_800
+    );
+    assert_eq!(rt; process.windows(), 33);
     Ok(())
 }

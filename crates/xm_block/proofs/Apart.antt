@@ -19,11 +19,12 @@ head id ids pairs k d high = pairs 0 (suc k) d (omega arith) (omega arith)
 tail : (id : BlockId) (ids : List BlockId) → AllPairs Differ (id ∷ ids) → AllPairs Differ ids
 tail id ids pairs i j d low high = pairs (suc i) (suc j) d (omega arith) (omega arith)
 
-all-put : (P : BlockId → Type 0) (id : BlockId) (ids : List BlockId) → P id → All P ids → All P (put id ids)
+pub all-put : (P : BlockId → Type 0) (id : BlockId) (ids : List BlockId) → P id → All P ids → All P (put id ids)
 all-put P id [] own all = All-cons P id [] own all
 all-put P id (other ∷ ids) own all = elim (cases_Bool (precedes id other)) [
-    inl t ↦ rw t (All-cons P id (other ∷ ids) own all)
-  | inr f ↦ rw f (All-cons P other (put id ids) (All-head P other ids all) (all-put P id ids own (All-tail P other ids all))) ]
+  | inl t ↦ rw t (All-cons P id (other ∷ ids) own all)
+  | inr f ↦ rw f (All-cons P other (put id ids) (All-head P other ids all) (all-put P id ids own (All-tail P other ids all)))
+]
 
 all-append-put : (P : BlockId → Type 0) (id : BlockId) (ms ids : List BlockId) → P id → All P (ms ++ ids) → All P (ms ++ put id ids)
 all-append-put P id [] ids own all = all-put P id ids own all
@@ -32,12 +33,13 @@ all-append-put P id (m ∷ ms) ids own all = All-cons P m (ms ++ put id ids) (Al
 pairs-put : (id : BlockId) (ids : List BlockId) → AllPairs Differ (id ∷ ids) → AllPairs Differ (put id ids)
 pairs-put id [] pairs = pairs
 pairs-put id (other ∷ ids) pairs = elim (cases_Bool (precedes id other)) [
-    inl t ↦ rw t pairs
+  | inl t ↦ rw t pairs
   | inr f ↦ (let apart = head id (other ∷ ids) pairs in
       let rest = tail id (other ∷ ids) pairs in
       let differs : Differ other id = λ same. All-head (Differ id) other ids apart (sym same) in
       rw f (AllPairs-cons Differ other (put id ids) (all-put (Differ other) id ids differs (head other ids rest))
-        (pairs-put id ids (AllPairs-cons Differ id ids (All-tail (Differ id) other ids apart) (tail other ids rest))))) ]
+      (pairs-put id ids (AllPairs-cons Differ id ids (All-tail (Differ id) other ids apart) (tail other ids rest)))))
+]
 
 apart-put : (id : BlockId) (ms ids : List BlockId) → AllPairs Differ (id ∷ (ms ++ ids)) → AllPairs Differ (ms ++ put id ids)
 apart-put id [] ids pairs = pairs-put id ids pairs
@@ -46,13 +48,13 @@ apart-put id (m ∷ ms) ids pairs =
     let rest = tail id (m ∷ (ms ++ ids)) pairs in
     let differs : Differ m id = λ same. All-head (Differ id) m (ms ++ ids) apart (sym same) in
     AllPairs-cons Differ m (ms ++ put id ids) (all-append-put (Differ m) id ms ids differs (head m (ms ++ ids) rest))
-      (apart-put id ms ids (AllPairs-cons Differ id (ms ++ ids) (All-tail (Differ id) m (ms ++ ids) apart) (tail m (ms ++ ids) rest)))
+    (apart-put id ms ids (AllPairs-cons Differ id (ms ++ ids) (All-tail (Differ id) m (ms ++ ids) apart) (tail m (ms ++ ids) rest)))
 
 -- the first of such blocks isn't in the store
 pub apart-first : (block : Block) (blocks stored : List Block) → AreApart (block ∷ blocks) stored → Contains (ids_of stored) block.id → ⊥
 apart-first block blocks stored pairs there =
     All-contains (Differ block.id) (ids_of blocks ++ ids_of stored) block.id (head block.id (ids_of blocks ++ ids_of stored) pairs)
-      (Contains-append_right (ids_of blocks) (ids_of stored) block.id there) refl
+    (Contains-append_right (ids_of blocks) (ids_of stored) block.id there) refl
 
 -- once it is, the others aren't
 pub apart-rest : (block : Block) (blocks stored : List Block) → AreApart (block ∷ blocks) stored → AreApart blocks (with_block block stored)

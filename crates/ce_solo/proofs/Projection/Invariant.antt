@@ -47,7 +47,9 @@ IsLast state number grant behind =
 abbrev pub IsByEntries : MachineParts → Grant → List Entry → Type 0
 IsByEntries parts grant t = EachAfter (IsNext (cube_of parts.images grant) (opening (cube_of parts.images grant))) [] t
 
+-- a grant is one of the machine, and its cube gives the trace alone
 pub record IsViewed (parts : MachineParts) (state : MachineState) (number : ℕ) (grant : Grant) (behind : List Entry) : Type 0 where
+  pub placed : IsPlaced parts.dim grant
   pub alone : IsByEntries parts grant (trace_behind grant behind)
   pub last : IsLast state number grant behind
 
@@ -78,7 +80,7 @@ pub record IsStep (parts : MachineParts) (state : MachineState) (h : List Entry)
       → (state'.node_record node ≡ blank_record) ⊎ ((now : HeldCube) × (held_by state' entry.user ≡ Some now) × (is_inside now.grant.sub node ≡ true))
   pub view : (number : ℕ) (grant : Grant) (behind : List Entry) → from_grant h number ≡ Some (grant, behind) → is_over grant behind ≡ false
       → (entry.user == grant.user) ≡ true → IsViewed parts state' number grant (behind ++ entry ∷ [])
-  pub fresh : (grant : Grant) → grant_by entry ≡ Some grant → IsLast state' (granted h) grant []
+  pub fresh : (grant : Grant) → grant_by entry ≡ Some grant → IsViewed parts state' (granted h) grant []
 
 pub other_way : (a b : ℕ) → (a == b) ≡ false → (b == a) ≡ false
 other_way a b differ = ne_eqb b a (λ e. both_ways _ differ (eq-eqb a b (sym e)))
@@ -179,6 +181,7 @@ module _ (parts : MachineParts) (state state' : MachineState) (h : List Entry) (
       elim (cases_Bool (is_over grant behind)) [
         | inl over ↦
             record {
+              placed = was.placed;
               alone = subst (IsByEntries parts grant) (sym (trace-over grant behind entry over)) was.alone;
               last = inl (over-more grant behind entry ∙ or_left _ _ over);
             }
@@ -187,6 +190,7 @@ module _ (parts : MachineParts) (state state' : MachineState) (h : List Entry) (
               | inl is ↦ step.view number grant behind found goes is
               | inr other ↦
                   record {
+                    placed = was.placed;
                     alone = subst (IsByEntries parts grant) (sym (trace-stays grant behind entry (ap (λ b. b && is_some (call_of entry.what)) other))) was.alone;
                     last = elim was.last [
                       | inl over ↦ absurd (both_ways _ goes over)
@@ -203,7 +207,7 @@ module _ (parts : MachineParts) (state state' : MachineState) (h : List Entry) (
         | old less was same ↦ subst (IsViewed parts state' number grant) (sym same) (viewed-old number grant less was)
         | new num some none ↦
             subst (IsViewed parts state' number grant) (sym none)
-            (record { alone = tt; last = subst (λ n. IsLast state' n grant []) (sym num) (step.fresh grant some) })
+            (subst (λ n. IsViewed parts state' n grant []) (sym num) (step.fresh grant some))
       ]
 
   pub projected-step : IsProjected parts state' (h ++ entry ∷ [])

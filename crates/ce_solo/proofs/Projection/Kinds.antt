@@ -18,7 +18,7 @@ use Rattle.ce_solo.proofs.Stands.{left_by-nil}
 use Rattle.ce_solo.proofs.Projection.Numbers.{IsPlaced}
 use Rattle.ce_solo.proofs.Projection.Views.{granted, granted-same, granted-one, found-more, found-new, is_over, over-more, trace-stays}
 use Rattle.ce_solo.proofs.Projection.Held.{held-user, held-own, held-other, record-own, record-other, granted-own, granted-other, free-outside, left-own, left-other}
-use Rattle.ce_solo.proofs.Projection.Invariant.{IsKept, IsHeld, IsLast, IsByEntries, AreApart, IsProjected, IsStep, held-stays}
+use Rattle.ce_solo.proofs.Projection.Invariant.{IsKept, IsHeld, IsByEntries, IsViewed, AreApart, IsProjected, IsStep, held-stays}
 
 pub and_false : (b c : Bool) → c ≡ false → (b && c) ≡ false
 and_false true c e = e
@@ -69,6 +69,7 @@ module _ (parts : MachineParts) (state : MachineState) (h : List Entry) (before 
     view = λ number grant behind found lasts is.
         let was = before.views number grant behind found in
         record {
+          placed = was.placed;
           alone = subst (IsByEntries parts grant) (sym (trace-stays grant behind entry (and_false _ _ (ap is_some no_call)))) was.alone;
           last = elim was.last [ inl over ↦ absurd (both_ways _ lasts over) | inr held ↦ inr held ];
         };
@@ -135,7 +136,8 @@ module _ (parts : MachineParts) (state : MachineState) (h : List Entry) (before 
           absurd (none_held g.cube (ap (held_by state) (eqb-true _ _ is) ∙ g.holds));
       fresh = λ grant some.
           let same : grant_now ≡ grant = cc in
-          subst (λ g. IsLast (with_grant grant_now state) (granted h) g []) same (inr (cube_now, granted-own grant_now state none, before.count));
+          subst (λ g. IsViewed parts (with_grant grant_now state) (granted h) g []) same
+          (record { placed = placed-now; alone = tt; last = inr (cube_now, granted-own grant_now state none, before.count) });
     }
 
   -- ---- a cube is drained
@@ -182,6 +184,7 @@ module _ (parts : MachineParts) (state : MachineState) (h : List Entry) (before 
           let same : cube ≡ cube' = some_same cube cube' (sym holds ∙ held) in
           inr (drained_cube cube, drained_held, subst (λ (c : HeldCube). is_inside c.grant.sub node ≡ true) (sym same) inside);
       view = λ number grant behind found goes is. record {
+        placed = (before.views number grant behind found).placed;
         alone = subst (IsByEntries parts grant) (sym (trace-stays grant behind drain (and_false _ _ refl))) (before.views number grant behind found).alone;
         last = inl (over-now grant behind is);
       };

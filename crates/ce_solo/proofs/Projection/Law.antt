@@ -14,6 +14,7 @@ use Rattle.ce_model.specs.Subcubes.{node_of, is_inside, first_free}
 use Rattle.ce_model.specs.Renaming.{Grant}
 use Rattle.ce_model.specs.Views.{grant_in, trace_behind, from_grant, view}
 use Rattle.ce_model.specs.Machine.{MachineParts, IsMachine, HeldCube, MachineState, machine_opening, held_by, is_free, nodes_of, standing_of, cube_of, record_by, held_by_entry, with_cube, with_grant, with_drained, without_cube, changed_by, changed_by_call, after, Request, getcube, peek, drain, freecube, in_cube, with_places_outward, answered, IsCallOf, Fits, IsLawfulEntry, IsLawful}
+use Rattle.ce_model.proofs.Subcubes.{is_inside-node_of}
 use Rattle.ce_model.proofs.Walked.{kept_by_each, each-more}
 use Rattle.ce_model.proofs.AloneByEntries.{alone_by_entries}
 use Rattle.ce_solo.specs.Laws.{Projection}
@@ -73,11 +74,12 @@ module _ (parts : MachineParts) (machine : IsMachine parts) (state : MachineStat
           subst (λ t. IsKept now.node_record (change cube) (left_by (cube_of parts.images cube.grant) (opening (cube_of parts.images cube.grant)) t).standing) (sym trace-now)
           (kept-behind parts machine state h cube was goes alone entry now.node_record is
           (λ r below. record-own change_record (node_of cube.grant.sub r) (state.node_record (node_of cube.grant.sub r)) (held_by state entry.user) cube holds
-          (Rattle.ce_model.proofs.Subcubes.is_inside-node_of cube.grant.sub r was.placed.sub.apart (rw was.placed.sub.dimension below))));
+          (is_inside-node_of cube.grant.sub r was.placed.sub.apart (rw was.placed.sub.dimension below))));
     }
 
     viewed-now : IsViewed parts now cube.number cube.grant (was.behind ++ entry ∷ [])
     viewed-now = record {
+      placed = was.placed;
       alone = subst (IsByEntries parts cube.grant) (sym trace-now)
           (each-more (IsNext (cube_of parts.images cube.grant) (opening (cube_of parts.images cube.grant))) (trace_behind cube.grant was.behind) is.inner alone is.next);
       last = inr (change cube, ap (held_by now) (eqb-true _ _ (held-user state entry.user cube holds)) ∙ held_now, refl);
@@ -106,24 +108,28 @@ module _ (parts : MachineParts) (machine : IsMachine parts) (state : MachineStat
 
 -- ---- a lawful entry
 
-after-more : (h : List Entry) (entry : Entry) → after (h ++ entry ∷ []) ≡ changed_by (after h) entry
+pub after-more : (h : List Entry) (entry : Entry) → after (h ++ entry ∷ []) ≡ changed_by (after h) entry
 unfolding after
 after-more h entry = fold-append changed_by machine_opening h (entry ∷ [])
 
-abbrev Holds : MachineParts → List Entry → Type 0
+-- what holds of a history and of the state that it leaves
+abbrev pub Holds : MachineParts → List Entry → Type 0
 Holds parts h = IsProjected parts (after h) h
 
-module _ (parts : MachineParts) (machine : IsMachine parts) (h : List Entry) (before : Holds parts h) where
-  by_step : (entry : Entry) (state : MachineState) → changed_by (after h) entry ≡ state → IsStep parts (after h) h entry state → Holds parts (h ++ entry ∷ [])
-  by_step entry state e step =
-      subst (λ state. IsProjected parts state (h ++ entry ∷ [])) (sym (after-more h entry ∙ e)) (projected-step parts (after h) state h entry before step)
+-- an entry behind a history does what it has to
+abbrev pub Steps : MachineParts → List Entry → Entry → Type 0
+Steps parts h entry = IsStep parts (after h) h entry (after (h ++ entry ∷ []))
 
-  by_what : (entry : Entry) (what : What) → Some what ≡ Some entry.what → Holds parts (h ++ entry_of entry.user entry.actor what ∷ []) → Holds parts (h ++ entry ∷ [])
-  by_what entry what e holds =
-      let same : what ≡ entry.what = cc in subst (λ what. Holds parts (h ++ entry_of entry.user entry.actor what ∷ [])) same holds
+module _ (parts : MachineParts) (machine : IsMachine parts) (h : List Entry) (before : Holds parts h) where
+  by_step : (entry : Entry) (state : MachineState) → changed_by (after h) entry ≡ state → IsStep parts (after h) h entry state → Steps parts h entry
+  by_step entry state e step = subst (IsStep parts (after h) h entry) (sym (after-more h entry ∙ e)) step
+
+  by_what : (entry : Entry) (what : What) → Some what ≡ Some entry.what → Steps parts h (entry_of entry.user entry.actor what) → Steps parts h entry
+  by_what entry what e steps =
+      let same : what ≡ entry.what = cc in subst (λ what. Steps parts h (entry_of entry.user entry.actor what)) same steps
 
   by_grant : (entry : Entry) (d : ℕ) (found : Option Subcube) → first_free (is_free (after h)) parts.dim d ≡ found → entry.user < parts.users
-      → held_by (after h) entry.user ≡ None → Some (Getcube d found) ≡ Some entry.what → Holds parts (h ++ entry ∷ [])
+      → held_by (after h) entry.user ≡ None → Some (Getcube d found) ≡ Some entry.what → Steps parts h entry
   by_grant entry d None is within none e =
       by_what entry (Getcube d None) e
       (by_step (entry_of entry.user entry.actor (Getcube d None)) (after h) refl
@@ -134,39 +140,45 @@ module _ (parts : MachineParts) (machine : IsMachine parts) (h : List Entry) (be
       (grant-step parts (after h) h before machine entry.user entry.actor d sub within none is))
 
   by_drain : (entry : Entry) (held : Option HeldCube) → held_by (after h) entry.user ≡ held → IsSomeAnd held (λ cube. cube.drained ≡ false)
-      → Some Drain ≡ Some entry.what → Holds parts (h ++ entry ∷ [])
+      → Some Drain ≡ Some entry.what → Steps parts h entry
   by_drain entry None is some e = absurd some
   by_drain entry (Some cube) is some e =
       by_what entry Drain e
       (by_step (entry_of entry.user entry.actor Drain) (with_drained entry.user (after h)) refl (drain-step parts (after h) h before entry.user entry.actor cube is))
 
   by_free : (entry : Entry) (held : Option HeldCube) → held_by (after h) entry.user ≡ held → IsSomeAnd held (λ cube. cube.drained ≡ true)
-      → Some Freecube ≡ Some entry.what → Holds parts (h ++ entry ∷ [])
+      → Some Freecube ≡ Some entry.what → Steps parts h entry
   by_free entry None is some e = absurd some
   by_free entry (Some cube) is some e =
       by_what entry Freecube e
       (by_step (entry_of entry.user entry.actor Freecube) (without_cube entry.user (after h)) refl (free-step parts (after h) h before entry.user entry.actor cube is some))
 
-  by_call : (entry : Entry) (call : Call) (held : Option HeldCube) → held_by (after h) entry.user ≡ held → IsSomeAnd held (IsCallOf parts h entry.actor call)
-      → option_map (λ cube. answer (nodes_of cube.grant) (standing_of (after h) cube) entry.actor (with_places_outward cube.grant call)) held ≡ Some entry.what
-      → Holds parts (h ++ entry ∷ [])
-  by_call entry call None is some e = absurd some
-  by_call entry call (Some cube) is fits e =
+  -- a call of a cube that is held makes its next entry
+  pub own-called : (entry : Entry) (call : Call) (cube : HeldCube) (is : held_by (after h) entry.user ≡ Some cube) → IsCallOf parts h entry.actor call cube
+      → Some (answer (nodes_of cube.grant) (standing_of (after h) cube) entry.actor (with_places_outward cube.grant call)) ≡ Some entry.what
+      → IsOwnEntry parts cube.grant (trace_behind cube.grant (before.held entry.user cube is).behind) entry
+  own-called entry call cube is fits e =
       let was = before.held entry.user cube is in
-      let goes = fits.not_drained in
       let views = before.views cube.number cube.grant was.behind was.found in
       let what : answer (nodes_of cube.grant) (standing_of (after h) cube) entry.actor (with_places_outward cube.grant call) ≡ entry.what = some_what _ _ e in
-      let own = own-entry parts machine (after h) h cube was goes views.alone entry fits.made (sym (eqb-true _ _ (held-user (after h) entry.user cube is))) fits.inside fits.next
-      (ap (λ call. answer (nodes_of cube.grant) (standing_of (after h) cube) entry.actor (with_places_outward cube.grant call)) fits.renamed ∙ what) in
-      by_step entry (with_cube entry.user (held_by_entry entry) (λ cube. record_by cube.grant.sub entry) (after h))
-      (ap (λ call. changed_by_call call entry (after h)) own.called)
-      (call-step parts machine (after h) h before entry cube is goes own)
+      own-entry parts machine (after h) h cube was fits.not_drained views.alone entry fits.made (sym (eqb-true _ _ (held-user (after h) entry.user cube is))) fits.inside fits.next
+      (ap (λ call. answer (nodes_of cube.grant) (standing_of (after h) cube) entry.actor (with_places_outward cube.grant call)) fits.renamed ∙ what)
     where
       some_what : (x y : What) → Some x ≡ Some y → x ≡ y
       some_what x y e = ap (λ o. elim o [ None ↦ x | Some z ↦ z ]) e
 
+  by_call : (entry : Entry) (call : Call) (held : Option HeldCube) → held_by (after h) entry.user ≡ held → IsSomeAnd held (IsCallOf parts h entry.actor call)
+      → option_map (λ cube. answer (nodes_of cube.grant) (standing_of (after h) cube) entry.actor (with_places_outward cube.grant call)) held ≡ Some entry.what
+      → Steps parts h entry
+  by_call entry call None is some e = absurd some
+  by_call entry call (Some cube) is fits e =
+      let own = own-called entry call cube is fits e in
+      by_step entry (with_cube entry.user (held_by_entry entry) (λ cube. record_by cube.grant.sub entry) (after h))
+      (ap (λ call. changed_by_call call entry (after h)) own.called)
+      (call-step parts machine (after h) h before entry cube is fits.not_drained own)
+
   by_request : (entry : Entry) (request : Request) → Fits parts h entry.user entry.actor request → answered parts (after h) entry.user entry.actor request ≡ Some entry.what
-      → Holds parts (h ++ entry ∷ [])
+      → Steps parts h entry
   by_request entry (getcube d) fits e = by_grant entry d (first_free (is_free (after h)) parts.dim d) refl fits.0 fits.1.2 e
   by_request entry peek fits e =
       by_what entry Peek e
@@ -176,7 +188,7 @@ module _ (parts : MachineParts) (machine : IsMachine parts) (h : List Entry) (be
   by_request entry freecube fits e = by_free entry (held_by (after h) entry.user) refl fits.1.1 e
   by_request entry (in_cube call) fits e = by_call entry call (held_by (after h) entry.user) refl fits.1 e
 
-  lawful-step : (entry : Entry) → IsLawfulEntry parts h entry → Holds parts (h ++ entry ∷ [])
+  pub lawful-step : (entry : Entry) → IsLawfulEntry parts h entry → Steps parts h entry
   lawful-step entry lawful = by_request entry lawful.request lawful.fits lawful.answer
 
 -- ---- a whole history
@@ -191,11 +203,13 @@ projected-nil parts = record {
   views = λ number grant behind found. absurd (cc);
 }
 
-pub projected : (parts : MachineParts) (history : List Entry) → IsMachine parts → IsLawful parts history → IsProjected parts (after history) history
+pub projected : (parts : MachineParts) (history : List Entry) → IsMachine parts → IsLawful parts history → Holds parts history
 projected parts history machine lawful =
-    kept_by_each (IsLawfulEntry parts) (λ h. IsProjected parts (after h) h) (λ h entry before is. lawful-step parts machine h before entry is) [] history (projected-nil parts) lawful
+    kept_by_each (IsLawfulEntry parts) (Holds parts)
+    (λ h entry before is. projected-step parts (after h) (after (h ++ entry ∷ [])) h entry before (lawful-step parts machine h before entry is)) [] history
+    (projected-nil parts) lawful
 
-found_alone : (parts : MachineParts) (history : List Entry) (number : ℕ) → IsProjected parts (after history) history → (found : Option (Grant × List Entry))
+pub found_alone : (parts : MachineParts) (history : List Entry) (number : ℕ) → IsProjected parts (after history) history → (found : Option (Grant × List Entry))
     → from_grant history number ≡ found → IfSome found (λ found. IsAlone (cube_of parts.images found.0) (view history number))
 found_alone parts history number all None is = tt
 found_alone parts history number all (Some found) is =

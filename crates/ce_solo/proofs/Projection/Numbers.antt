@@ -1,5 +1,5 @@
 -- The numbers of a granted cube's nodes and the names of its blocks, outwards and back.
-use Rattle.std.proofs.Common.{◌≡◌, ◌⊎◌, ℕ, ◌+◌, ◌^◌, ◌<◌, ◌≤◌, true, false, ◌==◌, nat_lt, List, [], ◌∷◌, refl, ap, sym, ◌∙◌, inl, inr, arith, pow_mono}
+use Rattle.std.proofs.Common.{◌≡◌, ◌⊎◌, ℕ, ◌+◌, ◌^◌, ◌<◌, ◌≤◌, true, false, ◌==◌, nat_lt, List, [], ◌∷◌, refl, ap, sym, ◌∙◌, inl, inr, arith}
 use Rattle.std.specs.List.{AllByRecursion}
 use Rattle.std.proofs.lemmas.Bool.{cases_eq, lt-ltb, le-ltb, eq-eqb, ne_eqb}
 use Rattle.ce_model.specs.declared.topology.TheConstants.{HOST}
@@ -8,10 +8,11 @@ use Rattle.ce_model.specs.declared.topology.BlockId.{BlockId}
 use Rattle.ce_model.specs.declared.entry.Entry.{Entry}
 use Rattle.ce_model.specs.declared.entry.What.{What}
 use Rattle.ce_model.specs.declared.entry.What.TheVariants.{Send, Spawn, Kill}
-use Rattle.ce_model.specs.Limits.{greatest_dim, greatest_users, host_home, greatest_nodes_lem, host_home_lem}
+use Rattle.ce_model.specs.Limits.{greatest_dim, greatest_users, host_home, host_home_lem}
 use Rattle.ce_model.specs.Subcubes.{relative, extract, node_of, is_inside, IsSubcube}
 use Rattle.ce_model.specs.Owners.{IsBlockOf}
 use Rattle.ce_model.specs.Renaming.{Grant, place_inward, place_outward, block_inward, block_outward, number_outward, targets_renamed, what_renamed, entry_inward}
+use Rattle.ce_solo.proofs.Renaming.Grants.{few_nodes}
 use Rattle.ce_model.proofs.Subcubes.{extract-node_of, extract-below, node_of-within, node_of-extract, ones_of-bound}
 
 -- a grant of a machine of this dimension
@@ -44,9 +45,6 @@ place_at pid node = record { node = node; pid = pid }
 
 abbrev block_at : ℕ → ℕ → BlockId
 block_at index home = record { home = home; index = index }
-
-few_nodes : (dim : ℕ) → dim ≤ greatest_dim → 2 ^ dim ≤ 64
-few_nodes dim within = rw (← greatest_nodes_lem) (pow_mono within)
 
 pub out_host : (grant : Grant) → number_outward grant.sub HOST ≡ HOST
 out_host grant = refl

@@ -7,20 +7,20 @@ use Rattle.ce_model.specs.declared.entry.Entry.{Entry}
 use Rattle.ce_model.specs.declared.entry.Given.{Given}
 use Rattle.ce_model.specs.declared.entry.Given.TheVariants.{Start, Mail, Kill, Poll, Idle, Spent}
 use Rattle.ce_model.specs.Limits.{greatest_dim}
-use Rattle.ce_model.specs.Parcels.{Item, start, mail, kill, is_named_by}
+use Rattle.ce_model.specs.Parcels.{Parcel, Item, start, mail, kill, is_named_by}
 use Rattle.ce_model.specs.Node.{Call}
-use Rattle.ce_model.specs.Trace.{NodeRecord, Standing, items_to}
+use Rattle.ce_model.specs.Trace.{standing, armed_by, dispatched_by, NodeRecord, Standing, items_to}
 use Rattle.ce_model.specs.Answers.{answer, call_of}
 use Rattle.ce_model.specs.Cube.{Cube, CubeState, IsCube, opening, left_by, asked_by, asked_in, call_by, entry_by, next_entry, node_numbers, HostCall, IsNext}
 use Rattle.ce_model.specs.Sound.{IsSound, IsHostItem, is_start_of, is_kill_of}
 use Rattle.ce_model.specs.Subcubes.{relative, extract, node_of, is_inside}
 use Rattle.ce_model.specs.Renaming.{Grant, block_outward, number_outward, record_with, call_with, entry_inward}
 use Rattle.ce_model.specs.Views.{trace_behind, view}
-use Rattle.ce_model.specs.Machine.{MachineParts, IsMachine, HeldCube, MachineState, held_by, host_record, standing_of, nodes_of, record_by, held_by_entry, with_cube, with_places_outward, cube_of}
+use Rattle.ce_model.specs.Machine.{waiting_by, MachineParts, IsMachine, HeldCube, MachineState, host_record, standing_of, nodes_of, record_by, held_by_entry, with_places_outward, cube_of}
 use Rattle.ce_model.proofs.Subcubes.{ones_of-bound, node_of-extract}
 use Rattle.ce_model.proofs.AloneByEntries.{call_of-answer}
 use Rattle.ce_model.proofs.OneMore.{taken_for}
-use Rattle.ce_solo.proofs.Lists.{count_by-agree, count_by-none, all-weaker}
+use Rattle.ce_solo.proofs.Lists.{count_by-agree, count_by-none}
 use Rattle.ce_solo.proofs.Items.{named-start, named-kill, named-mail}
 use Rattle.ce_solo.proofs.Steps.{entry_in, standing_after}
 use Rattle.ce_solo.proofs.Made.{made, taking-sends_none}
@@ -42,51 +42,50 @@ own_cube parts grant machine placed = record {
 
 -- ---- what an entry takes is one item
 
+-- where none of the items has a name, at most one has
+named_none : (given : Given) (items : List Item) → AllByRecursion (λ item. is_named_by given item ≡ false) items → count_by (is_named_by given) items ≤ 1
+named_none given items none = omega (arith, count_by-none (is_named_by given) items none)
+
+all_unnamed : (given : Given) (items : List Item) → ((item : Item) → is_named_by given item ≡ false) → AllByRecursion (λ item. is_named_by given item ≡ false) items
+all_unnamed given [] each = tt
+all_unnamed given (item ∷ items) each = (each item, all_unnamed given items each)
+
+-- what waits for the host is mail
+host_unnamed : (given : Given) (items : List Item) → ((parcel : Parcel) → is_named_by given (mail parcel) ≡ false) → AllByRecursion IsHostItem items
+    → AllByRecursion (λ item. is_named_by given item ≡ false) items
+host_unnamed given [] each own = tt
+host_unnamed given (start pid image ∷ items) each own = absurd own.0
+host_unnamed given (mail parcel ∷ items) each own = (each parcel, host_unnamed given items each own.1)
+host_unnamed given (kill pid ∷ items) each own = absurd own.0
+
 -- at most one item that waits has this name
+node_once : (cube : Cube) (s : CubeState) (r : ℕ) (given : Given) → IsSound cube s → r < 2 ^ cube.dim
+    → count_by (is_named_by given) (s.standing.node_record r).waiting ≤ 1
+node_once cube s r (Start pid image) sound below =
+    let items = (s.standing.node_record r).waiting in
+    omega (arith, count_by-agree (is_named_by (Start pid image)) (is_start_of pid) items (named-start pid image), (sound.records r below).one_start pid)
+node_once cube s r (Kill pid) sound below =
+    let items = (s.standing.node_record r).waiting in
+    omega (arith, count_by-agree (is_named_by (Kill pid)) (is_kill_of pid) items (named-kill pid), (sound.records r below).one_kill pid)
+node_once cube s r (Mail pid number) sound below = named-mail pid number (s.standing.node_record r).waiting (sound.records r below).numbered.rising
+node_once cube s r (Poll pid) sound below = named_none (Poll pid) _ (all_unnamed (Poll pid) (s.standing.node_record r).waiting (λ item. refl))
+node_once cube s r Idle sound below = named_none Idle _ (all_unnamed Idle (s.standing.node_record r).waiting (λ item. refl))
+node_once cube s r Spent sound below = named_none Spent _ (all_unnamed Spent (s.standing.node_record r).waiting (λ item. refl))
+
+host_once : (cube : Cube) (s : CubeState) (given : Given) → IsSound cube s → count_by (is_named_by given) (s.standing.node_record HOST).waiting ≤ 1
+host_once cube s (Start pid image) sound =
+    named_none (Start pid image) _ (host_unnamed (Start pid image) (s.standing.node_record HOST).waiting (λ parcel. refl) sound.host.own)
+host_once cube s (Kill pid) sound = named_none (Kill pid) _ (host_unnamed (Kill pid) (s.standing.node_record HOST).waiting (λ parcel. refl) sound.host.own)
+host_once cube s (Mail pid number) sound = named-mail pid number (s.standing.node_record HOST).waiting sound.host.numbered.rising
+host_once cube s (Poll pid) sound = named_none (Poll pid) _ (all_unnamed (Poll pid) (s.standing.node_record HOST).waiting (λ item. refl))
+host_once cube s Idle sound = named_none Idle _ (all_unnamed Idle (s.standing.node_record HOST).waiting (λ item. refl))
+host_once cube s Spent sound = named_none Spent _ (all_unnamed Spent (s.standing.node_record HOST).waiting (λ item. refl))
+
 named_once : (cube : Cube) (s : CubeState) (n : ℕ) (given : Given) → IsSound cube s → IsNumber cube.dim n
     → count_by (is_named_by given) (s.standing.node_record n).waiting ≤ 1
-named_once cube s n (Start pid image) sound (inl below) =
-    let items = (s.standing.node_record n).waiting in
-    omega (arith, count_by-agree (is_named_by (Start pid image)) (is_start_of pid) items (named-start pid image), (sound.records n below).one_start pid)
-named_once cube s n (Kill pid) sound (inl below) =
-    let items = (s.standing.node_record n).waiting in
-    omega (arith, count_by-agree (is_named_by (Kill pid)) (is_kill_of pid) items (named-kill pid), (sound.records n below).one_kill pid)
-named_once cube s n (Mail pid number) sound (inl below) =
-    named-mail pid number (s.standing.node_record n).waiting (sound.records n below).numbered.rising
-named_once cube s n (Start pid image) sound (inr host) =
-    let items = (s.standing.node_record n).waiting in
-    omega (arith, count_by-none (is_named_by (Start pid image)) items (all-weaker IsHostItem (λ item. is_named_by (Start pid image) item ≡ false) items (λ item. no_start item) (subst (λ m. AllByRecursion IsHostItem (s.standing.node_record m).waiting) (sym host) sound.host.own)))
-  where
-    no_start : (item : Item) → IsHostItem item → is_named_by (Start pid image) item ≡ false
-    no_start (start p i) h = absurd h
-    no_start (mail parcel) h = refl
-    no_start (kill p) h = absurd h
-named_once cube s n (Kill pid) sound (inr host) =
-    let items = (s.standing.node_record n).waiting in
-    omega (arith, count_by-none (is_named_by (Kill pid)) items (all-weaker IsHostItem (λ item. is_named_by (Kill pid) item ≡ false) items (λ item. no_kill item) (subst (λ m. AllByRecursion IsHostItem (s.standing.node_record m).waiting) (sym host) sound.host.own)))
-  where
-    no_kill : (item : Item) → IsHostItem item → is_named_by (Kill pid) item ≡ false
-    no_kill (start p i) h = absurd h
-    no_kill (mail parcel) h = refl
-    no_kill (kill p) h = absurd h
-named_once cube s n (Mail pid number) sound (inr host) =
-    subst (λ m. count_by (is_named_by (Mail pid number)) (s.standing.node_record m).waiting ≤ 1) (sym host)
-    (named-mail pid number (s.standing.node_record HOST).waiting sound.host.numbered.rising)
-named_once cube s n (Poll pid) sound of = omega (arith, count_by-none (is_named_by (Poll pid)) (s.standing.node_record n).waiting (unnamed (s.standing.node_record n).waiting))
-  where
-    unnamed : (items : List Item) → AllByRecursion (λ item. is_named_by (Poll pid) item ≡ false) items
-    unnamed [] = tt
-    unnamed (item ∷ items) = (refl, unnamed items)
-named_once cube s n Idle sound of = omega (arith, count_by-none (is_named_by Idle) (s.standing.node_record n).waiting (unnamed (s.standing.node_record n).waiting))
-  where
-    unnamed : (items : List Item) → AllByRecursion (λ item. is_named_by Idle item ≡ false) items
-    unnamed [] = tt
-    unnamed (item ∷ items) = (refl, unnamed items)
-named_once cube s n Spent sound of = omega (arith, count_by-none (is_named_by Spent) (s.standing.node_record n).waiting (unnamed (s.standing.node_record n).waiting))
-  where
-    unnamed : (items : List Item) → AllByRecursion (λ item. is_named_by Spent item ≡ false) items
-    unnamed [] = tt
-    unnamed (item ∷ items) = (refl, unnamed items)
+named_once cube s n given sound (inl below) = node_once cube s n given sound below
+named_once cube s n given sound (inr host) =
+    subst (λ m. count_by (is_named_by given) (s.standing.node_record m).waiting ≤ 1) (sym host) (host_once cube s given sound)
 
 -- ---- what the machine keeps
 
@@ -115,10 +114,10 @@ kept-own dim node_record node_record' cube here entry placed number what one cha
           changed r below ∙ ap (record_by grant.sub out (node_of grant.sub r)) (kept.nodes r below)
           ∙ ap (λ n. record_by grant.sub out n (record_with (block_outward grant) (here.node_record r))) (sym (out_node dim grant placed r below))
           ∙ record-behind dim grant placed entry number what r (here.node_record r) (inl below) (one r (inl below));
-      mail = ap (Rattle.ce_model.specs.Machine.waiting_by grant.sub out HOST) kept.mail
+      mail = ap (waiting_by grant.sub out HOST) kept.mail
           ∙ waiting-behind dim grant placed entry number what HOST (here.node_record HOST).waiting (inr refl) (one HOST (inr refl));
-      armed = armed-outward grant cube.armed entry.what ∙ ap (λ n. Rattle.ce_model.specs.Trace.armed_by n entry.what) kept.armed;
-      dispatched = dispatched-outward grant cube.dispatched entry.what ∙ ap (λ n. Rattle.ce_model.specs.Trace.dispatched_by n entry.what) kept.dispatched;
+      armed = armed-outward grant cube.armed entry.what ∙ ap (λ n. armed_by n entry.what) kept.armed;
+      dispatched = dispatched-outward grant cube.dispatched entry.what ∙ ap (λ n. dispatched_by n entry.what) kept.dispatched;
       parcel_count = ap₂ (λ a b. a + b) kept.parcel_count (sent-outward grant entry.actor (number_outward grant.sub entry.actor) entry.what);
     }
 
@@ -138,7 +137,7 @@ asked_in_host : (cube : Cube) (o : CubeState) (t : List Entry) (actor : ℕ) (ca
     → asked_in (entry_by cube o t actor call) ≡ asked_by call
 asked_in_host cube o t actor call is =
     ap (λ (b : Bool). if b then option_and_then asked_by (call_of (entry_by cube o t actor call).what) else None) is
-    ∙ ap (option_and_then asked_by) (call_of-answer (node_numbers cube.dim) (Rattle.ce_model.specs.Trace.standing o.standing t) actor call)
+    ∙ ap (option_and_then asked_by) (call_of-answer (node_numbers cube.dim) (standing o.standing t) actor call)
 
 next_by_call : (cube : Cube) (o : CubeState) (t : List Entry) (actor : ℕ) (call : Call) → call_by cube o t actor (asked_by call) ≡ Some call
     → IsNext cube o t (entry_by cube o t actor call)

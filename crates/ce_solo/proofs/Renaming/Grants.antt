@@ -26,7 +26,7 @@ grant_subcube : (dim : ℕ) (grant : Grant) → IsGrant dim grant → IsSubcube 
 grant_subcube dim grant of =
     subst (λ sub. IsSubcube dim grant.dim sub) of.sub.2 (all_subcubes dim grant.dim of.sub.0 grant.sub of.sub.1)
 
-few_nodes : (dim : ℕ) → dim ≤ greatest_dim → 2 ^ dim ≤ 64
+pub few_nodes : (dim : ℕ) → dim ≤ greatest_dim → 2 ^ dim ≤ 64
 few_nodes dim within = rw (← greatest_nodes_lem) (pow_mono within)
 
 module _ (dim : ℕ) (grant : Grant) (of : IsGrant dim grant) where
