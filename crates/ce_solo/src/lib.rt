@@ -5,6 +5,6 @@
 mod laws;
 
 pub use laws::{
-    fresh_is_sound_law, goes_on_law, one_owner_law, prefix_law, renaming_law, stays_sound_law,
-    waiting_law,
+    fresh_is_sound_law, goes_on_law, lawful_is_legal_law, one_owner_law, prefix_law,
+    projection_law, renaming_law, same_trace_law, stays_sound_law, still_fits_law, waiting_law,
 };
