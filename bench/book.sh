@@ -6,7 +6,7 @@ copy=$(mktemp -d) || exit 1
 trap 'rm -rf "$copy"' EXIT
 mkdir -p "$copy/crates/book_bench/src" || exit 1
 cp "$here/HANDLES" "$copy" || exit 1
-for crate in ce_model ce_lock; do
+for crate in rv_model ce_model ce_lock; do
     mkdir "$copy/crates/$crate"
     cp -r "$here/crates/$crate/src" "$here/crates/$crate/specs" "$here/crates/$crate/proofs" "$copy/crates/$crate" || exit 1
     grep "^$crate[ :]" "$here/crates.txt" >> "$copy/crates.txt"

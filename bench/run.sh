@@ -3,4 +3,4 @@
 here=$(cd "$(dirname "$0")/.." && pwd) || exit 1
 "$here/ce" --serial < "$here/bench/loop.ce" > /dev/null || exit 1
 time -p sh -c 'i=0; while [ $i -lt 40 ]; do "$0" --serial < "$1" > /dev/null; i=$((i + 1)); done' \
-    "$here/crates/ce/out/ce" "$here/bench/loop.ce"
+    "$here/out/ce" "$here/bench/loop.ce"
