@@ -93,6 +93,7 @@ fn rules_of_windows(rt: HostRuntime) -> Result<(), Fail> {
         Err(Stop::Gone(0x8000_0000))
     );
     assert!(rt; held.unmap(4, 0).is_some());
+    stays_gone();
     assert_eq!(rt;
         process.load_word(4, &held, 0x8000_0001),
         Err(Stop::Misaligned(0x8000_0001))
