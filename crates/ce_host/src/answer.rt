@@ -8,7 +8,7 @@ pub enum Answer {
     NoCube,
     /// The user holds a cube already.
     Held,
-    /// No cube of this dimension is free.
+    /// No cube of this dimension is free; or no message is there, and no node has work.
     None,
     /// The user holds this cube from now on.
     Granted(Subcube),

@@ -22,7 +22,7 @@ use Rattle.ce_host.specs.declared.answer.Answer.{Answer}
 use Rattle.ce_host.specs.declared.answer.Answer.TheVariants.{Granted, Ok as Done, Quiet, Message, State, Entries}
 use Rattle.ce_script.specs.Rounds.{serial, IsSerialRound, AreTurnsOver}
 use Rattle.ce_script.specs.Moments.{moments, holding}
-use Rattle.ce_script.specs.Commands.{IsRun, IsRecv, message_at_once}
+use Rattle.ce_script.specs.Commands.{IsRun, IsRecv, message_next}
 use Rattle.ce_script.specs.Doings.{Doing, AreDoings}
 use Rattle.ce_script.specs.Legal.{machine_of}
 use Rattle.ce_script.proofs.Rows.{two_rounds, doing_in, one_cube, turn_is_round, turns_over, by, place, block, subcube}
@@ -87,7 +87,7 @@ ran image = two_rounds serial 0 image 10 start_round idle_round (start_is_round,
 
 received : (image : ImageParts) → IsRecv serial (the_cube image) (sent_to (opening (the_cube image)).standing HOST recv_trace) 0 (Message (place 0 0) message) recv_segment
 unfolding sent_to
-received image = record { rounds = []; end = message_at_once 0; with_work = tt; without_work = tt; entries = refl; reply = refl }
+received image = record { rounds = []; end = message_next 0; with_work = tt; without_work = tt; entries = refl; reply = refl }
 
 run_over : (image : ImageParts) → SaysRow image → AreTurnsOver (the_cube image) (opening (the_cube image)) run_trace
 unfolding state hears

@@ -39,7 +39,7 @@ work_share = record {
   last = idle;
   each = ((refl, (refl, tt), (refl, (refl, tt))), tt);
   with_work = (refl, tt);
-  idle = (refl, tt, (refl, tt));
+  last_take = (refl, tt, (refl, tt));
   without_work = refl;
   all = refl;
 }
@@ -47,7 +47,7 @@ work_share = record {
 -- a share without work
 share_of_one : (r : ℕ) (last : Entry) → IsTurn r (last ∷ []) → IsFalse (is_dispatch last) → IsShare r (last ∷ [])
 share_of_one r last idle without_work =
-    record { turns = []; last = last; each = tt; with_work = tt; idle = idle; without_work = without_work; all = refl }
+    record { turns = []; last = last; each = tt; with_work = tt; last_take = idle; without_work = without_work; all = refl }
 
 work_shares : (r : ℕ) → r < 2 ^ 0 → IsShare r (of_node r work_entries)
 work_shares zero below = work_share
@@ -93,5 +93,5 @@ pub serial_is_not_threaded : IsThreadedRound 0 (started ∷ noted ∷ []) → �
 serial_is_not_threaded round =
     let share = round.shares 0 (lit< tt) in
     let same : Some noted ≡ Some share.last = ap (last_or None) share.all ∙ last_behind None (joined share.turns) share.last in
-    let take : option_map is_take (Some noted) ≡ Some true = ap (option_map is_take) same ∙ ap (λ test. Some test) share.idle.0 in
+    let take : option_map is_take (Some noted) ≡ Some true = ap (option_map is_take) same ∙ ap (λ test. Some test) share.last_take.0 in
     absurd (cc)

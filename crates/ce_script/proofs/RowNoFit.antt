@@ -8,7 +8,7 @@ use Rattle.ce_model.specs.Subcubes.{extract, relative}
 use Rattle.ce_model.specs.Views.{view}
 use Rattle.ce_daemon.specs.declared.grant.Grant.{Grant}
 use Rattle.ce_host.specs.declared.command.Command.TheVariants.{Getcube, Peek, Freecube}
-use Rattle.ce_host.specs.declared.answer.Answer.TheVariants.{None as NoneFree, Granted, Peeked, Freed}
+use Rattle.ce_host.specs.declared.answer.Answer.TheVariants.{None as Nothing, Granted, Peeked, Freed}
 use Rattle.ce_script.specs.declared.record.UserRecord.{UserRecord}
 use Rattle.ce_script.specs.declared.record.Record.{Record}
 use Rattle.ce_script.specs.declared.script.Script.{Script}
@@ -32,7 +32,7 @@ users =
     record { name = codes "a"; done = (Getcube 0, Granted (subcube 0 0)) ∷ (Freecube, Freed) ∷ [] }
     ∷ record { name = codes "b"; done = (Getcube 0, Granted (subcube 0 1)) ∷ [] }
     ∷ record { name = codes "c"; done = (Getcube 0, Granted (subcube 0 2)) ∷ [] }
-    ∷ record { name = codes "d"; done = (Getcube 1, NoneFree) ∷ (Peek, Peeked (record { free = 2; grants = grant 1 ∷ grant 2 ∷ [] })) ∷ [] }
+    ∷ record { name = codes "d"; done = (Getcube 1, Nothing) ∷ (Peek, Peeked (record { free = 2; grants = grant 1 ∷ grant 2 ∷ [] })) ∷ [] }
     ∷ []
 
 abbrev pub the_record : Record

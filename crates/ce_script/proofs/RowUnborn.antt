@@ -14,7 +14,7 @@ use Rattle.ce_model.specs.Views.{view}
 use Rattle.ce_host.specs.declared.command.Command.{Command}
 use Rattle.ce_host.specs.declared.answer.Answer.{Answer}
 use Rattle.ce_host.specs.declared.command.Command.TheVariants.{Getcube, Send, Spawn, Recv}
-use Rattle.ce_host.specs.declared.answer.Answer.TheVariants.{None as NoneFree, Granted, Ok as Done, Message}
+use Rattle.ce_host.specs.declared.answer.Answer.TheVariants.{None as Nothing, Granted, Ok as Done, Message}
 use Rattle.ce_script.specs.declared.record.Record.{Record}
 use Rattle.ce_script.specs.declared.script.Script.{Script}
 use Rattle.ce_script.specs.Texts.{report}
@@ -45,7 +45,7 @@ sent_back index bytes first = SendMade 0 first ((place HOST 0, block 256 index) 
 abbrev pub alice_done : List (Command × Answer)
 alice_done =
     (Getcube 0, Granted (subcube 0 0)) ∷ (Send (place 0 0) first_bytes, Done) ∷ (Send (place 0 0) second_bytes, Done) ∷ (Spawn 0 (place 0 0), Done)
-    ∷ (Recv 100, Message (place 0 0) first_bytes) ∷ (Recv 100, Message (place 0 0) second_bytes) ∷ (Recv 100, NoneFree) ∷ []
+    ∷ (Recv 100, Message (place 0 0) first_bytes) ∷ (Recv 100, Message (place 0 0) second_bytes) ∷ (Recv 100, Nothing) ∷ []
 
 abbrev pub the_record : Record
 the_record = record {

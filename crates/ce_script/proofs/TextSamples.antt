@@ -12,7 +12,7 @@ use Rattle.ce_model.specs.declared.entry.KillFound.TheVariants.{Killed as FoundK
 use Rattle.ce_model.specs.declared.entry.Given.TheVariants.{Start, Mail, Kill as GivenKill, Poll, Idle, Spent as GivenSpent}
 use Rattle.ce_model.specs.Limits.{host_home}
 use Rattle.ce_host.specs.declared.command.Command.TheVariants.{Getcube, Peek, Freecube, Spawn, Kill, Send, Run, Recv, Dump, Trace}
-use Rattle.ce_host.specs.declared.answer.Answer.TheVariants.{NoCube, Held, None as NoneFree, Granted, Peeked, Freed, Ok as Done, NoPlace, Used, Unused, Already, NoStore, Quiet, Spent, Message, State, Entries}
+use Rattle.ce_host.specs.declared.answer.Answer.TheVariants.{NoCube, Held, None as Nothing, Granted, Peeked, Freed, Ok as Done, NoPlace, Used, Unused, Already, NoStore, Quiet, Spent, Message, State, Entries}
 use Rattle.ce_script.specs.declared.record.Record.{Record}
 use Rattle.ce_script.specs.declared.script.Script.{Script}
 use Rattle.ce_script.specs.TextParts.{line}
@@ -47,7 +47,7 @@ commands_text image = refl
 
 -- the replies that name no process
 replies_text :
-    line (reply_text a_record NoCube ∷ []) ++ line (reply_text a_record Held ∷ []) ++ line (reply_text a_record NoneFree ∷ [])
+    line (reply_text a_record NoCube ∷ []) ++ line (reply_text a_record Held ∷ []) ++ line (reply_text a_record Nothing ∷ [])
     ++ line (reply_text a_record (Granted (subcube 5 2)) ∷ []) ++ line (reply_text a_record Freed ∷ []) ++ line (reply_text a_record Done ∷ [])
     ++ line (reply_text a_record NoPlace ∷ []) ++ line (reply_text a_record Used ∷ []) ++ line (reply_text a_record Unused ∷ [])
     ++ line (reply_text a_record Already ∷ []) ++ line (reply_text a_record NoStore ∷ []) ++ line (reply_text a_record Quiet ∷ [])

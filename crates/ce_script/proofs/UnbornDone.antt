@@ -18,10 +18,10 @@ use Rattle.ce_model.specs.Cube.{Cube, opening, state, hoststore}
 use Rattle.ce_host.specs.declared.command.Command.{Command}
 use Rattle.ce_host.specs.declared.command.Command.TheVariants.{Getcube, Send, Spawn, Recv}
 use Rattle.ce_host.specs.declared.answer.Answer.{Answer}
-use Rattle.ce_host.specs.declared.answer.Answer.TheVariants.{None as NoneFree, Granted, Ok as Done, Message}
+use Rattle.ce_host.specs.declared.answer.Answer.TheVariants.{None as Nothing, Granted, Ok as Done, Message}
 use Rattle.ce_script.specs.Rounds.{serial, IsSerialRound, AreTurnsOver}
 use Rattle.ce_script.specs.Moments.{moments, holding}
-use Rattle.ce_script.specs.Commands.{IsRecv, message_at_once, no_message}
+use Rattle.ce_script.specs.Commands.{IsRecv, message_next, no_message}
 use Rattle.ce_script.specs.Doings.{Doing, AreDoings}
 use Rattle.ce_script.specs.Legal.{machine_of}
 use Rattle.ce_script.proofs.Rows.{doing_in, one_cube, turn_is_round, turns_over, by, place, block, subcube}
@@ -34,7 +34,7 @@ abbrev pub alice_doings : List Doing
 alice_doings =
     doing (Getcube 0) (Granted (subcube 0 0)) 0 1 ∷ doing (Send (place 0 0) first_bytes) Done 1 1 ∷ doing (Send (place 0 0) second_bytes) Done 2 1
     ∷ doing (Spawn 0 (place 0 0)) Done 3 1 ∷ doing (Recv 100) (Message (place 0 0) first_bytes) 4 7
-    ∷ doing (Recv 100) (Message (place 0 0) second_bytes) 11 5 ∷ doing (Recv 100) NoneFree 16 5 ∷ []
+    ∷ doing (Recv 100) (Message (place 0 0) second_bytes) 11 5 ∷ doing (Recv 100) Nothing 16 5 ∷ []
 
 abbrev the_cube : ImageParts → Cube
 the_cube image = one_cube 0 image
@@ -118,7 +118,7 @@ first_received : (image : ImageParts) → IsRecv serial (the_cube image) (sent_t
 unfolding sent_to
 first_received image = record {
   rounds = start_round ∷ aa_round ∷ [];
-  end = message_at_once 2;
+  end = message_next 2;
   with_work = ((start_is_round, refl), ((aa_is_round, refl), tt));
   without_work = tt;
   entries = refl;
@@ -129,14 +129,14 @@ second_received : (image : ImageParts) → IsRecv serial (the_cube image) (sent_
 unfolding sent_to
 second_received image = record {
   rounds = bb_round ∷ [];
-  end = message_at_once 3;
+  end = message_next 3;
   with_work = ((bb_is_round, refl), tt);
   without_work = tt;
   entries = refl;
   reply = refl;
 }
 
-third_received : (image : ImageParts) → IsRecv serial (the_cube image) (sent_to (opening (the_cube image)).standing HOST third_trace) 100 NoneFree third_segment
+third_received : (image : ImageParts) → IsRecv serial (the_cube image) (sent_to (opening (the_cube image)).standing HOST third_trace) 100 Nothing third_segment
 third_received image = record {
   rounds = [];
   end = no_message idle_round FoundQuiet;

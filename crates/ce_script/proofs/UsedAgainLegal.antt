@@ -19,7 +19,7 @@ use Rattle.ce_script.specs.Rounds.{serial}
 use Rattle.ce_script.specs.Moments.{moments, holding}
 use Rattle.ce_host.specs.declared.command.Command.TheVariants.{Getcube}
 use Rattle.ce_host.specs.declared.answer.Answer.{Answer}
-use Rattle.ce_host.specs.declared.answer.Answer.TheVariants.{Held, None as NoneFree}
+use Rattle.ce_host.specs.declared.answer.Answer.TheVariants.{Held, None as Nothing}
 use Rattle.ce_script.specs.Doings.{IsRefusedExactly, Doing, AreRefusedExactly}
 use Rattle.ce_script.specs.Legal.{EachCube, IsLegal, images_of, machine_of}
 use Rattle.ce_script.specs.Serial.{IsSerial}
@@ -153,7 +153,7 @@ abbrev answered_with : Answer → Doing
 answered_with answer = doing_in the_record.history (Getcube 0) answer 0 1
 
 -- it can't be answered that no subcube is free, nor that alice holds a cube
-pub none_is_not_allowed : (image : ImageParts) → IsRefusedExactly (machine_of (the_script image)) None 0 (answered_with NoneFree) → ⊥
+pub none_is_not_allowed : (image : ImageParts) → IsRefusedExactly (machine_of (the_script image)) None 0 (answered_with Nothing) → ⊥
 unfolding moments after first_free subcubes extract deposit greatest_dim
 none_is_not_allowed image h = let found = (h.none.0 refl).1 in absurd (cc)
 

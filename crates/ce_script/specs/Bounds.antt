@@ -29,7 +29,7 @@ pub record AreNames (names : List (List ℕ)) : Type 0 where
 abbrev pub IsSilent : Script → Type 0
 IsSilent script = (script.images ≡ []) × (script.users ≡ []) × (script.commands ≡ [])
 
--- The script's machine can be made; its users are as many as a machine can have, and so are its images, each with a name of its own;
+-- The script's dimension is a machine's; its users are as many as a machine can have, and so are its images, each with a name of its own;
 -- its commands keep the limits; and without a machine it says nothing.
 pub record IsWithinLimits (script : Script) : Type 0 where
   pub dim : IfSome script.dim (λ dim. dim ≤ greatest_dim)

@@ -10,7 +10,7 @@ use Rattle.ce_daemon.specs.declared.grant.Peeked.{Peeked}
 use Rattle.ce_host.specs.declared.command.Command.{Command}
 use Rattle.ce_host.specs.declared.command.Command.TheVariants.{Getcube, Peek, Freecube, Spawn, Kill, Send, Run, Recv, Dump, Trace}
 use Rattle.ce_host.specs.declared.answer.Answer.{Answer}
-use Rattle.ce_host.specs.declared.answer.Answer.TheVariants.{NoCube, Held, None as NoneFree, Granted, Peeked as PeekFound, Freed, Ok as Done, NoPlace, Used, Unused, Already, NoStore, Quiet, Spent, Message, State, Entries}
+use Rattle.ce_host.specs.declared.answer.Answer.TheVariants.{NoCube, Held, None as Nothing, Granted, Peeked as PeekFound, Freed, Ok as Done, NoPlace, Used, Unused, Already, NoStore, Quiet, Spent, Message, State, Entries}
 use Rattle.ce_script.specs.declared.record.Record.{Record}
 use Rattle.ce_script.specs.declared.script.Script.{Script}
 use Rattle.ce_script.specs.TextParts.{words, image_name, user_name, word_text, bytes_text, place_text, subcube_words}
@@ -71,7 +71,7 @@ peeked_text kept found = words (codes "free" ∷ decimal found.free ∷ []) ++ f
 abbrev pub reply_text : Record → Answer → List ℕ
 reply_text kept NoCube = codes "no cube"
 reply_text kept Held = codes "held"
-reply_text kept NoneFree = codes "none"
+reply_text kept Nothing = codes "none"
 reply_text kept (Granted sub) = words (codes "granted" ∷ subcube_words sub)
 reply_text kept (PeekFound found) = peeked_text kept found
 reply_text kept Freed = codes "freed"

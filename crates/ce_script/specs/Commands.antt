@@ -23,7 +23,7 @@ use Rattle.ce_daemon.specs.declared.grant.Peeked.{Peeked}
 use Rattle.ce_host.specs.declared.command.Command.{Command}
 use Rattle.ce_host.specs.declared.command.Command.TheVariants.{Getcube, Peek, Freecube, Spawn, Kill, Send, Run, Recv, Dump, Trace}
 use Rattle.ce_host.specs.declared.answer.Answer.{Answer}
-use Rattle.ce_host.specs.declared.answer.Answer.TheVariants.{NoCube, Held, None as NoneFree, Granted, Peeked as PeekFound, Freed, Ok as Done, NoPlace, Used, Unused, Already, NoStore, Quiet, Spent, Message, State, Entries}
+use Rattle.ce_host.specs.declared.answer.Answer.TheVariants.{NoCube, Held, None as Nothing, Granted, Peeked as PeekFound, Freed, Ok as Done, NoPlace, Used, Unused, Already, NoStore, Quiet, Spent, Message, State, Entries}
 use Rattle.ce_script.specs.Rounds.{RoundKind, joined, IsRoundWithWork, IsRoundWithoutWork, AreTurnsOver}
 use Rattle.ce_script.specs.Moments.{Moment, entries_of, Holding}
 
@@ -39,7 +39,7 @@ IsAtOnce reply answer segment = (answer ≡ reply) × (segment ≡ [])
 
 -- what a getcube is answered, by the subcube that its entry grants
 abbrev pub getcube_reply : Option Subcube → Answer
-getcube_reply None = NoneFree
+getcube_reply None = Nothing
 getcube_reply (Some sub) = Granted sub
 
 -- `getcube`: the cube that its entry grants, or none; where one is held already it makes no entry
@@ -108,10 +108,10 @@ pub record IsRun (kind : RoundKind) (cube : Cube) (count : ℕ) (answer : Answer
 
 -- how `recv` ends
 pub data RecvEnd : Type 0 where
-  -- the message of this number is there
-  message_at_once : ℕ → RecvEnd
+  -- the message of this number is there, at the first look or behind a round with work
+  message_next : ℕ → RecvEnd
   -- none is there, and behind a round without work the one of this number
-  message_at_last : List Entry → ℕ → RecvEnd
+  message_behind_rest : List Entry → ℕ → RecvEnd
   -- none is there, nor behind a round without work, and a look finds how the cube stands
   no_message : List Entry → Found → RecvEnd
 
@@ -121,14 +121,14 @@ host_take user number = by_host user (HostTake number)
 
 -- the entries of an end
 abbrev pub end_entries : ℕ → RecvEnd → List Entry
-end_entries user (message_at_once number) = host_take user (Some number) ∷ []
-end_entries user (message_at_last round number) = host_take user None ∷ (round ++ host_take user (Some number) ∷ [])
+end_entries user (message_next number) = host_take user (Some number) ∷ []
+end_entries user (message_behind_rest round number) = host_take user None ∷ (round ++ host_take user (Some number) ∷ [])
 end_entries user (no_message round found) = host_take user None ∷ (round ++ host_take user None ∷ by_host user (Look found) ∷ [])
 
--- the rounds without work at an end: one, or none where a message is there at once
+-- the rounds without work at an end: one, or none where a message comes before one
 abbrev pub end_rounds : RecvEnd → List (List Entry)
-end_rounds (message_at_once number) = []
-end_rounds (message_at_last round number) = round ∷ []
+end_rounds (message_next number) = []
+end_rounds (message_behind_rest round number) = round ∷ []
 end_rounds (no_message round found) = round ∷ []
 
 -- what `recv` is answered with a message, and without one by what its look found
@@ -136,14 +136,14 @@ abbrev pub message_reply : Option Parcel → Option Answer
 message_reply parcel = option_map (λ found. Message found.from found.block.bytes) parcel
 
 abbrev pub no_message_reply : Found → Option Answer
-no_message_reply FoundQuiet = Some NoneFree
+no_message_reply FoundQuiet = Some Nothing
 no_message_reply FoundSpent = Some Spent
 no_message_reply Busy = None
 
 -- what `recv` is answered that ends so, by all that was sent to the host
 abbrev pub recv_reply : List Item → RecvEnd → Option Answer
-recv_reply items (message_at_once number) = message_reply (parcel_numbered number items)
-recv_reply items (message_at_last round number) = message_reply (parcel_numbered number items)
+recv_reply items (message_next number) = message_reply (parcel_numbered number items)
+recv_reply items (message_behind_rest round number) = message_reply (parcel_numbered number items)
 recv_reply items (no_message round found) = no_message_reply found
 
 -- `recv`: dispatches are allowed, then the host looks for a message, with a round between each two looks
@@ -157,7 +157,7 @@ pub record IsRecv (kind : RoundKind) (cube : Cube) (items : List Item) (count : 
 
 -- ---- all commands
 
--- a command in a cube, by the trace before it, but for those that ask for a cube, look round or give it back; the entries have the
+-- a command in a cube, by the trace before it, but for those that ask for a cube, peek or give it back; the entries have the
 -- cube's numbers for its nodes
 abbrev pub IsCubeCommand : RoundKind → Cube → CubeState → List Entry → Command → Answer → List Entry → Type 0
 IsCubeCommand kind cube o t (Spawn image to) answer segment =

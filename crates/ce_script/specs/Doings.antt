@@ -7,7 +7,7 @@ use Rattle.ce_model.specs.Machine.{MachineParts, after, is_free}
 use Rattle.ce_host.specs.declared.command.Command.{Command}
 use Rattle.ce_host.specs.declared.command.Command.TheVariants.{Getcube}
 use Rattle.ce_host.specs.declared.answer.Answer.{Answer}
-use Rattle.ce_host.specs.declared.answer.Answer.TheVariants.{Held, None as NoneFree}
+use Rattle.ce_host.specs.declared.answer.Answer.TheVariants.{Held, None as Nothing}
 use Rattle.ce_script.specs.Rounds.{RoundKind}
 use Rattle.ce_script.specs.Moments.{Moment, moments_of, entries_of, Holding, holding}
 use Rattle.ce_script.specs.Commands.{IsCommand}
@@ -38,7 +38,7 @@ pub record AreDoings (kind : RoundKind) (machine : MachineParts) (history : List
 -- subcube of this dimension is free
 pub record IsRefusedExactly (machine : MachineParts) (holds : Option Holding) (dim : ℕ) (doing : Doing) : Type 0 where
   pub held : (doing.answer ≡ Held) ↔ IsTrue (is_some holds)
-  pub none : (doing.answer ≡ NoneFree)
+  pub none : (doing.answer ≡ Nothing)
       ↔ ((holds ≡ None) × IsSomeAnd (slice_get doing.moments 0) (λ moment. first_free (is_free (after moment.before)) machine.dim dim ≡ None))
 
 -- the command is no getcube, or is refused exactly where it must be

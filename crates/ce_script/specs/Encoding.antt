@@ -1,5 +1,5 @@
 -- The word of an instruction: the fields that the RISC-V unprivileged specification gives it ("Base Instruction Formats",
--- "Immediate Encoding Variants", "RV32I Base Integer Instruction Set"), put together.
+-- "Immediate Encoding Variants", "RV32I Base Integer Instruction Set"), put together. It undoes the decoding table, by a lemma (`back` in `proofs/Encoded.antt`).
 use Rattle.std.specs.Prelude.{ℕ, ◌+◌, ◌*◌, ◌%◌, ◌^◌, ℤ, unsigned_abs}
 use Rattle.std.specs.Int.{w32, cast_unsigned}
 use Rattle.rv_model.specs.declared.inst.Inst.{Inst}

@@ -9,7 +9,7 @@ use Rattle.ce_script.specs.declared.script.ScriptKind.TheVariants.{BadByte, Unkn
 abbrev pub no_memory : List ℕ
 no_memory = codes "no memory"
 
--- the text of an assembler's kind; want of memory is told as the script's
+-- the text of an assembler's kind; no script's fault has this one
 abbrev pub assembly_text : AsmKind → List ℕ
 assembly_text assembly.BadByte = codes "bad byte"
 assembly_text assembly.NameTaken = codes "name taken"

@@ -56,7 +56,7 @@ pub record IsShare (r : ℕ) (share : List Entry) : Type 0 where
   pub last : Entry
   pub each : AllByRecursion (IsTurn r) turns
   pub with_work : AllByRecursion (λ turn. IsTrue (has_work turn)) turns
-  pub idle : IsTurn r (last ∷ [])
+  pub last_take : IsTurn r (last ∷ [])
   pub without_work : IsFalse (is_dispatch last)
   pub all : share ≡ joined turns ++ last ∷ []
 
