@@ -17,7 +17,7 @@ use Rattle.ce_model.specs.Trace.{NodeRecord, Standing, blank_record, items_to, t
 use Rattle.ce_model.specs.Answers.{answer, call_of}
 use Rattle.ce_model.specs.Cube.{Cube, opening, asked_by, call_by, node_numbers}
 use Rattle.ce_model.specs.Subcubes.{relative, node_of, is_inside, first_free}
-use Rattle.ce_model.specs.Renaming.{Grant, place_inward, place_outward, block_outward, call_renamed, call_with}
+use Rattle.ce_model.specs.Renaming.{CubeGrant, place_inward, place_outward, block_outward, call_renamed, call_with}
 use Rattle.ce_model.specs.Views.{view}
 
 -- a machine: its dimension, how many users it has, and its images
@@ -37,7 +37,7 @@ pub record IsMachine (parts : MachineParts) : Type 0 where
 -- for its host
 pub record HeldCube : Type 0 where
   pub number : ℕ
-  pub grant : Grant
+  pub grant : CubeGrant
   pub drained : Bool
   pub armed : ℕ
   pub dispatched : ℕ
@@ -69,7 +69,7 @@ abbrev pub is_free : MachineState → ℕ → Bool
 is_free state node = not (list_any (λ cube. is_inside cube.grant.sub node) state.held)
 
 -- the nodes of a cube, in relative order
-abbrev pub nodes_of : Grant → List ℕ
+abbrev pub nodes_of : CubeGrant → List ℕ
 nodes_of grant = map (node_of grant.sub) (node_numbers grant.dim)
 
 -- what is kept for a cube's host: what waits for it
@@ -89,7 +89,7 @@ standing_of state cube = record {
 abbrev pub free_count : MachineParts → MachineState → ℕ
 free_count parts state = count_by (is_free state) (range_with_len 0 (2 ^ parts.dim))
 
-abbrev pub held_grants : MachineState → List (ℕ × Grant)
+abbrev pub held_grants : MachineState → List (ℕ × CubeGrant)
 held_grants state = map (λ cube. (cube.number, cube.grant)) state.held
 
 -- the answer to a drain: all parcels that wait in a cube, at its nodes in relative order and then for its host
@@ -144,7 +144,7 @@ with_cube user change change_record state = record state {
 }
 
 -- a cube is granted
-abbrev pub with_grant : Grant → MachineState → MachineState
+abbrev pub with_grant : CubeGrant → MachineState → MachineState
 with_grant grant state = record state {
   grant_count = state.grant_count + 1;
   held = state.held ++ record { number = state.grant_count; grant = grant; drained = false; armed = 0; dispatched = 0; parcel_count = 0; mail = [] } ∷ [];
@@ -203,7 +203,7 @@ is_alone freecube = true
 is_alone other = false
 
 -- a call of a cube, with the machine's numbers for places
-abbrev pub with_places_outward : Grant → Call → Call
+abbrev pub with_places_outward : CubeGrant → Call → Call
 with_places_outward grant call = call_renamed (place_outward grant.sub) (λ id. id) call
 
 -- the entry that a request makes in this state, with its answer; a call of a cube makes none where no cube is held
@@ -218,7 +218,7 @@ answered parts state user actor (in_cube call) =
 -- ---- what fits
 
 -- the cube of a grant
-abbrev pub cube_of : List ImageParts → Grant → Cube
+abbrev pub cube_of : List ImageParts → CubeGrant → Cube
 cube_of images grant = record { user = grant.user; dim = grant.dim; images = images }
 
 -- the user holds a cube, of which this holds

@@ -20,7 +20,7 @@ use Rattle.ce_model.specs.Trace.{NodeRecord}
 use Rattle.ce_model.specs.Subcubes.{relative, node_of}
 
 -- a cube that was granted: to whom, of which dimension, and which nodes it is
-pub record Grant : Type 0 where
+pub record CubeGrant : Type 0 where
   pub user : ℕ
   pub dim : ℕ
   pub sub : Subcube
@@ -43,7 +43,7 @@ abbrev pub place_outward : Subcube → Place → Place
 place_outward sub place = record { node = number_outward sub place.node; pid = place.pid }
 
 -- a block of the cube's host is homed at the host of the cube's user
-abbrev pub block_outward : Grant → BlockId → BlockId
+abbrev pub block_outward : CubeGrant → BlockId → BlockId
 block_outward grant id =
     record { home = if id.home == host_home then host_home + grant.user else node_of grant.sub id.home; index = id.index }
 
@@ -103,12 +103,12 @@ heard_with rename (mail_of parcel) = mail_of (parcel_with rename parcel)
 heard_with rename other = other
 
 -- the node of a cube, as a box of the machine stands for it: with the machine's names for its blocks and its home
-abbrev pub node_outward : Grant → Node → Node
+abbrev pub node_outward : CubeGrant → Node → Node
 node_outward grant node = record node {
   home = node_of grant.sub node.home;
   processes = map (process_with (block_outward grant)) node.processes;
   store = map (block_outward grant) node.store;
 }
 
-abbrev pub saying_outward : Grant → Saying → Saying
+abbrev pub saying_outward : CubeGrant → Saying → Saying
 saying_outward grant saying = record { node = node_outward grant saying.node; call = call_with (block_outward grant) saying.call }

@@ -1,25 +1,30 @@
-ghost use Rattle.std.specs.Prelude.{◌≡◌};
+ghost use Rattle.std.specs.Prelude.{◌≡◌, length, ◌≤◌};
+ghost use Rattle.ce_model.specs.Limits.{block_room};
 
 use crate::{BlockId, Place};
 use std::marker::Model;
 
-/// The bytes of a message, `BLOCK_ROOM` at most. Contracts see it as their list.
+/// The bytes of a message, `BLOCK_ROOM` (4,096) at most. Contracts see it as their list.
 #[derive(Debug, Drop)]
 pub struct Bytes {
     items: Vec<u8>,
 }
 
 impl Model for Bytes {
-    ghost use Rattle.std.specs.Prelude.{List, ℕ};
+    ghost use Rattle.std.specs.Prelude.{List, ℕ, length, ◌≤◌};
+    ghost use Rattle.ce_model.specs.Limits.{block_room};
 
     ghost Value = { List ℕ };
 
     ghost view = { λ bytes. bytes.items.items };
+
+    ghost invariant = { λ bytes. length bytes.items.items ≤ block_room };
 }
 
 impl Bytes {
-    /// The bytes of this `Vec`.
+    /// The bytes of this `Vec`, which must be those of a message.
     pub fn from_vec(items: Vec<u8>) -> Bytes
+        requires { length items.items ≤ block_room }
         ensures { result ≡ items.items }
     {
         Bytes { items }
@@ -27,14 +32,16 @@ impl Bytes {
 
     /// The `Vec` with these bytes.
     pub fn into_vec(self) -> Vec<u8>
-        ensures { result.items ≡ self }
+        ensures bytes { result.items ≡ self }
+        ensures bound { length result.items ≤ block_room }
     {
         self.items
     }
 
     /// The bytes.
     pub fn as_slice(&self) -> &[u8]
-        ensures { result.now ≡ self.now }
+        ensures bytes { result.now ≡ self.now }
+        ensures bound { length self.now ≤ block_room }
     {
         self.items.as_slice()
     }

@@ -14,7 +14,7 @@ use Rattle.ce_model.specs.declared.entry.KillFound.{KillFound}
 use Rattle.ce_model.specs.declared.entry.KillFound.TheVariants.{Killed, Unused as FoundUnused, Already as FoundAlready}
 use Rattle.ce_model.specs.Parcels.{Parcel, Item}
 use Rattle.ce_model.specs.Node.{is_place, process_at}
-use Rattle.ce_model.specs.Renaming.{Grant as CubeGrant, entry_inward}
+use Rattle.ce_model.specs.Renaming.{CubeGrant, entry_inward}
 use Rattle.ce_model.specs.Trace.{sent_to}
 use Rattle.ce_model.specs.Cube.{Cube, CubeState, opening, hoststore, parcel_numbered, rest}
 use Rattle.ce_model.specs.Machine.{MachineParts, MachineState, after, free_count, held_grants, cube_of}

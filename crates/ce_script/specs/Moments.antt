@@ -2,7 +2,7 @@
 use Rattle.std.specs.Prelude.{ℕ, ◌==◌, List, [], ◌∷◌, ◌++◌, map, filter, fold, Option, Some, None, option_map}
 use Rattle.ce_model.specs.declared.entry.Entry.{Entry}
 use Rattle.ce_model.specs.declared.entry.What.TheVariants.{Getcube, Peek, Drain, Freecube}
-use Rattle.ce_model.specs.Renaming.{Grant, entry_inward}
+use Rattle.ce_model.specs.Renaming.{CubeGrant, entry_inward}
 
 -- an entry of the history, and the entries before it
 pub record Moment : Type 0 where
@@ -28,7 +28,7 @@ entries_of moments = map (λ moment. moment.entry) moments
 
 -- a cube that a user holds, and its trace so far
 pub record Holding : Type 0 where
-  pub grant : Grant
+  pub grant : CubeGrant
   pub trace : List Entry
 
 -- the cube, once it has made an entry more

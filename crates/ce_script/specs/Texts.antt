@@ -1,7 +1,7 @@
 -- What is written about a record: the report of a script's run, and the summary of a load's.
 use Rattle.std.specs.Prelude.{ℕ, List, [], ◌∷◌, ◌++◌, Some, None, Bool, true, false, codes, decimal, find, flat_map, option_map, unwrap_or}
 use Rattle.std.specs.List.{enumerate_from}
-use Rattle.ce_model.specs.Renaming.{Grant}
+use Rattle.ce_model.specs.Renaming.{CubeGrant}
 use Rattle.ce_model.specs.Views.{grants_of, view}
 use Rattle.ce_host.specs.declared.command.Command.{Command}
 use Rattle.ce_host.specs.declared.command.Command.TheVariants.{Recv}
@@ -24,12 +24,12 @@ abbrev pub user_text : Script → Record → UserRecord → List ℕ
 user_text script kept user = line (codes "user" ∷ user.name ∷ []) ++ flat_map (done_text script kept) user.done
 
 -- the head of a cube's section
-abbrev pub cube_line : Record → ℕ → Grant → List ℕ
+abbrev pub cube_line : Record → ℕ → CubeGrant → List ℕ
 cube_line kept number grant =
     line (codes "cube" ∷ decimal number ∷ codes "user" ∷ user_name kept grant.user ∷ codes "dim" ∷ decimal grant.dim ∷ subcube_words grant.sub)
 
 -- the section of a cube: whose it is and which nodes it is, and its trace
-abbrev pub cube_text : Script → Record → ℕ × Grant → List ℕ
+abbrev pub cube_text : Script → Record → ℕ × CubeGrant → List ℕ
 cube_text script kept numbered =
     cube_line kept numbered.0 numbered.1 ++ flat_map (entry_line script) (view kept.history numbered.0)
 

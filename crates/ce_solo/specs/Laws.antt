@@ -18,7 +18,7 @@ use Rattle.ce_model.specs.Owners.{IsOwned, IsBlockOf}
 use Rattle.ce_model.specs.Order.{IsInOrder}
 use Rattle.ce_model.specs.Sound.{is_start_of, is_kill_of, IsSound}
 use Rattle.ce_model.specs.Subcubes.{subcubes}
-use Rattle.ce_model.specs.Renaming.{Grant, node_outward, saying_outward, heard_with, block_outward}
+use Rattle.ce_model.specs.Renaming.{CubeGrant, node_outward, saying_outward, heard_with, block_outward}
 use Rattle.ce_model.specs.Views.{from_grant, view}
 use Rattle.ce_model.specs.Machine.{MachineParts, IsMachine, Request, is_alone, Fits, IsLawfulEntry, IsLawful, cube_of}
 
@@ -103,7 +103,7 @@ StillFits = (parts : MachineParts) (history : List Entry) (user actor : ℕ) (re
 -- ---- names of blocks
 
 -- a grant of a machine of this dimension
-pub record IsGrant (dim : ℕ) (grant : Grant) : Type 0 where
+pub record IsGrant (dim : ℕ) (grant : CubeGrant) : Type 0 where
   pub within : dim ≤ greatest_dim
   pub user : grant.user < greatest_users
   pub sub : Contains (subcubes dim grant.dim) grant.sub
@@ -118,7 +118,7 @@ IsHeardOf dim other = Unit {0}
 
 -- a node with the machine's names for its blocks says and hears what the node with the cube's names does, renamed
 abbrev pub Renaming : Type 0
-Renaming = (dim : ℕ) (grant : Grant) (node : Node) → IsGrant dim grant → IsNodeOf grant.dim node
+Renaming = (dim : ℕ) (grant : CubeGrant) (node : Node) → IsGrant dim grant → IsNodeOf grant.dim node
     → (says (node_outward grant node) ≡ saying_outward grant (says node))
     × ((images : List ImageParts) (heard : Heard) → IsHeardOf grant.dim heard
     → hears images (node_outward grant node) (heard_with (block_outward grant) heard) ≡ node_outward grant (hears images node heard))

@@ -11,7 +11,7 @@ use Rattle.ce_model.specs.Trace.{NodeRecord, Standing}
 use Rattle.ce_model.specs.Answers.{is_used_up, offered, is_among, kill_found, is_quiet_node, is_quiet, found_where, first_number, answer}
 use Rattle.ce_model.specs.Cube.{node_numbers}
 use Rattle.ce_model.specs.Subcubes.{node_of}
-use Rattle.ce_model.specs.Renaming.{Grant, place_outward, block_outward, number_outward, targets_renamed, item_with, record_with, call_with}
+use Rattle.ce_model.specs.Renaming.{CubeGrant, place_outward, block_outward, number_outward, targets_renamed, item_with, record_with, call_with}
 use Rattle.ce_model.specs.Machine.{nodes_of, with_places_outward}
 use Rattle.ce_solo.proofs.Projection.Numbers.{IsPlaced, IsNumber, what_outward, out_node, out_host}
 
@@ -59,7 +59,7 @@ module _ (rename : BlockId → BlockId) where
 -- ---- how the machine keeps a cube
 
 -- the one is how a cube stands, and the other how the machine keeps it, with its numbers for the nodes and its names for blocks
-pub record IsStandingOf (grant : Grant) (there here : Standing) : Type 0 where
+pub record IsStandingOf (grant : CubeGrant) (there here : Standing) : Type 0 where
   pub nodes : (r : ℕ) → r < 2 ^ grant.dim → there.node_record (node_of grant.sub r) ≡ record_with (block_outward grant) (here.node_record r)
   pub host : (there.node_record HOST).waiting ≡ map (item_with (block_outward grant)) (here.node_record HOST).waiting
   pub armed : there.armed ≡ here.armed
@@ -77,7 +77,7 @@ both_renamed : (place : Place → Place) (block : BlockId → BlockId) (to : Lis
 both_renamed place block [] = refl
 both_renamed place block (target ∷ to) = ap (λ rest. (place target.0, block target.1) ∷ rest) (both_renamed place block to)
 
-module _ (dim : ℕ) (grant : Grant) (of : IsPlaced dim grant) (there here : Standing) (is : IsStandingOf grant there here) where
+module _ (dim : ℕ) (grant : CubeGrant) (of : IsPlaced dim grant) (there here : Standing) (is : IsStandingOf grant there here) where
   pub waiting-outward : (n : ℕ) → IsNumber grant.dim n
       → (there.node_record (number_outward grant.sub n)).waiting ≡ map (item_with (block_outward grant)) (here.node_record n).waiting
   waiting-outward n (inl below) =

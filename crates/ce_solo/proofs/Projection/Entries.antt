@@ -15,7 +15,7 @@ use Rattle.ce_model.specs.Lists.{without_first}
 use Rattle.ce_model.specs.Parcels.{Parcel, Item, start, mail, kill, is_named_by, item_id, parcels_from}
 use Rattle.ce_model.specs.Trace.{NodeRecord, Mark, items_to, starts_in, kills_in, mails_in, taken_in, spawned_in, killed_in, parcels_of, armed_by, dispatched_by, marked_by}
 use Rattle.ce_model.specs.Owners.{IsBlockOf}
-use Rattle.ce_model.specs.Renaming.{Grant, place_outward, block_outward, number_outward, targets_renamed, item_with, record_with}
+use Rattle.ce_model.specs.Renaming.{CubeGrant, place_outward, block_outward, number_outward, targets_renamed, item_with, record_with}
 use Rattle.ce_model.specs.Machine.{item_inward, without_taken, waiting_by, record_by}
 use Rattle.ce_model.proofs.OneMore.{taken_for}
 use Rattle.ce_solo.proofs.Lists.{joined, joined-is, filter-all, none-from_count, count_by-cons, one_if-true, one_if-false}
@@ -24,7 +24,7 @@ use Rattle.ce_solo.proofs.Projection.Numbers.{IsPlaced, IsNumber, IsWhatOf, what
 
 -- ---- what an entry takes and counts has no places and blocks
 
-module _ (grant : Grant) where
+module _ (grant : CubeGrant) where
   pub taken-outward : (what : What) → taken_in (what_outward grant what) ≡ taken_in what
   taken-outward (Send pid first to bytes) = refl
   taken-outward (Spawn pid image to fresh) = refl
@@ -62,13 +62,13 @@ module _ (grant : Grant) where
 
 -- ---- what an entry sends
 
-abbrev inward_all : Grant → List Item → List Item
+abbrev inward_all : CubeGrant → List Item → List Item
 inward_all grant items = map (item_inward grant.sub) items
 
-abbrev outward_all : Grant → List Item → List Item
+abbrev outward_all : CubeGrant → List Item → List Item
 outward_all grant items = map (item_with (block_outward grant)) items
 
-module _ (dim : ℕ) (grant : Grant) (of : IsPlaced dim grant) where
+module _ (dim : ℕ) (grant : CubeGrant) (of : IsPlaced dim grant) where
   abbrev out : ℕ → ℕ
   out n = number_outward grant.sub n
 
@@ -176,7 +176,7 @@ first_out rename given (item ∷ items) once =
           (first_out rename given items (omega (arith, once, count_by-cons (is_named_by given) item items, one_if-false (is_named_by given item) other))))
     ]
 
-module _ (dim : ℕ) (grant : Grant) (of : IsPlaced dim grant) (entry : Entry) (actor : IsNumber grant.dim entry.actor) (is : IsWhatOf grant.dim entry.what) where
+module _ (dim : ℕ) (grant : CubeGrant) (of : IsPlaced dim grant) (entry : Entry) (actor : IsNumber grant.dim entry.actor) (is : IsWhatOf grant.dim entry.what) where
   own_test : (n : ℕ) → IsNumber grant.dim n → ((entry_outward grant entry).actor == number_outward grant.sub n) ≡ (entry.actor == n)
   own_test n of_n = out_test dim grant of entry.actor n actor of_n
 

@@ -2,7 +2,7 @@
 use Rattle.std.proofs.Common.{◌≡◌, ℕ, Bool, true, false, not, ◌==◌, if◌then◌else◌, List, [], ◌∷◌, map, filter, find, Option, Some, None, option_map, refl, ap, sym, ◌∙◌, inl, inr}
 use Rattle.std.proofs.lemmas.Bool.{cases_Bool, both_ways, eq-eqb, ne_eqb, eqb-true, not-true}
 use Rattle.ce_model.specs.Trace.{NodeRecord}
-use Rattle.ce_model.specs.Renaming.{Grant}
+use Rattle.ce_model.specs.Renaming.{CubeGrant}
 use Rattle.ce_model.specs.Subcubes.{is_inside}
 use Rattle.ce_model.specs.Machine.{HeldCube, MachineState, is_held_by, held_by, is_free, changed_record, with_cube, with_grant, without_cube}
 use Rattle.ce_model.proofs.Subcubes.{find-append, find-append_found, find-passes}
@@ -22,7 +22,7 @@ same_holder : (user u : ℕ) (change : HeldCube → HeldCube) (cube : HeldCube) 
     → is_held_by u (changed_one user change cube) ≡ is_held_by u cube
 same_holder user u change cube keeps =
     elim (cases_Bool (is_held_by user cube)) [
-      | inl holds ↦ rw holds (ap (λ (grant : Grant). grant.user == u) (keeps cube))
+      | inl holds ↦ rw holds (ap (λ (grant : CubeGrant). grant.user == u) (keeps cube))
       | inr fails ↦ rw fails refl
     ]
 
@@ -63,17 +63,17 @@ record-other change node kept (Some cube) outside = ap (λ (b : Bool). if b then
 
 -- ---- one is granted
 
-pub granted-own : (grant : Grant) (state : MachineState) → held_by state grant.user ≡ None
+pub granted-own : (grant : CubeGrant) (state : MachineState) → held_by state grant.user ≡ None
     → held_by (with_grant grant state) grant.user
     ≡ Some (record { number = state.grant_count; grant = grant; drained = false; armed = 0; dispatched = 0; parcel_count = 0; mail = [] })
 granted-own grant state none = find-append (is_held_by grant.user) state.held _ none ∙ rw (eq-eqb grant.user grant.user refl) refl
 
-granted_other : (grant : Grant) (state : MachineState) (u : ℕ) (found : Option HeldCube) → (grant.user == u) ≡ false → held_by state u ≡ found
+granted_other : (grant : CubeGrant) (state : MachineState) (u : ℕ) (found : Option HeldCube) → (grant.user == u) ≡ false → held_by state u ≡ found
     → held_by (with_grant grant state) u ≡ found
 granted_other grant state u None other is = find-append (is_held_by u) state.held _ is ∙ rw other refl
 granted_other grant state u (Some cube) other is = find-append_found (is_held_by u) state.held _ cube is
 
-pub granted-other : (grant : Grant) (state : MachineState) (u : ℕ) → (grant.user == u) ≡ false → held_by (with_grant grant state) u ≡ held_by state u
+pub granted-other : (grant : CubeGrant) (state : MachineState) (u : ℕ) → (grant.user == u) ≡ false → held_by (with_grant grant state) u ≡ held_by state u
 granted-other grant state u other = granted_other grant state u (held_by state u) other refl
 
 -- a free node is in no cube that is held

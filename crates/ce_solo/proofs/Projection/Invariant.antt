@@ -10,7 +10,7 @@ use Rattle.ce_model.specs.Trace.{NodeRecord, Standing, blank_record}
 use Rattle.ce_model.specs.Answers.{call_of}
 use Rattle.ce_model.specs.Cube.{CubeState, opening, left_by, IsNext}
 use Rattle.ce_model.specs.Subcubes.{node_of, is_inside}
-use Rattle.ce_model.specs.Renaming.{Grant, block_outward, item_with, record_with}
+use Rattle.ce_model.specs.Renaming.{CubeGrant, block_outward, item_with, record_with}
 use Rattle.ce_model.specs.Views.{grant_by, is_drain, trace_behind, from_grant}
 use Rattle.ce_model.specs.Machine.{MachineParts, HeldCube, MachineState, held_by, cube_of}
 use Rattle.ce_solo.proofs.Projection.Numbers.{IsPlaced}
@@ -27,7 +27,7 @@ pub record IsKept (node_record : ℕ → NodeRecord) (cube : HeldCube) (here : S
   pub parcel_count : cube.parcel_count ≡ here.parcel_count
 
 -- what a cube is after its trace in the history behind its grant
-abbrev pub left : MachineParts → Grant → List Entry → CubeState
+abbrev pub left : MachineParts → CubeGrant → List Entry → CubeState
 left parts grant behind = left_by (cube_of parts.images grant) (opening (cube_of parts.images grant)) (trace_behind grant behind)
 
 -- a cube that is held stands in the history where its number says, and up to its drain the machine keeps for it how it stands
@@ -39,16 +39,16 @@ pub record IsHeld (parts : MachineParts) (state : MachineState) (h : List Entry)
   pub kept : cube.drained ≡ false → IsKept state.node_record cube (left parts cube.grant behind).standing
 
 -- a grant's cube was drained, or it is held
-abbrev pub IsLast : MachineState → ℕ → Grant → List Entry → Type 0
+abbrev pub IsLast : MachineState → ℕ → CubeGrant → List Entry → Type 0
 IsLast state number grant behind =
     (is_over grant behind ≡ true) ⊎ ((cube : HeldCube) × (held_by state grant.user ≡ Some cube) × (cube.number ≡ number))
 
 -- a trace that the cube of a grant gives alone, told by entries
-abbrev pub IsByEntries : MachineParts → Grant → List Entry → Type 0
+abbrev pub IsByEntries : MachineParts → CubeGrant → List Entry → Type 0
 IsByEntries parts grant t = EachAfter (IsNext (cube_of parts.images grant) (opening (cube_of parts.images grant))) [] t
 
 -- a grant is one of the machine, and its cube gives the trace alone
-pub record IsViewed (parts : MachineParts) (state : MachineState) (number : ℕ) (grant : Grant) (behind : List Entry) : Type 0 where
+pub record IsViewed (parts : MachineParts) (state : MachineState) (number : ℕ) (grant : CubeGrant) (behind : List Entry) : Type 0 where
   pub placed : IsPlaced parts.dim grant
   pub alone : IsByEntries parts grant (trace_behind grant behind)
   pub last : IsLast state number grant behind
@@ -65,7 +65,7 @@ pub record IsProjected (parts : MachineParts) (state : MachineState) (h : List E
       → AreApart cube.grant.sub cube'.grant.sub
   pub blank : (node : ℕ) → ((user : ℕ) (cube : HeldCube) → held_by state user ≡ Some cube → is_inside cube.grant.sub node ≡ false)
       → state.node_record node ≡ blank_record
-  pub views : (number : ℕ) (grant : Grant) (behind : List Entry) → from_grant h number ≡ Some (grant, behind) → IsViewed parts state number grant behind
+  pub views : (number : ℕ) (grant : CubeGrant) (behind : List Entry) → from_grant h number ≡ Some (grant, behind) → IsViewed parts state number grant behind
 
 -- what an entry does to the state: the cubes of other users stay, and its own user's is held as it should be
 pub record IsStep (parts : MachineParts) (state : MachineState) (h : List Entry) (entry : Entry) (state' : MachineState) : Type 0 where
@@ -78,9 +78,9 @@ pub record IsStep (parts : MachineParts) (state : MachineState) (h : List Entry)
       → held_by state user ≡ Some other → AreApart cube.grant.sub other.grant.sub
   pub blank : (cube : HeldCube) → held_by state entry.user ≡ Some cube → (node : ℕ) → is_inside cube.grant.sub node ≡ true
       → (state'.node_record node ≡ blank_record) ⊎ ((now : HeldCube) × (held_by state' entry.user ≡ Some now) × (is_inside now.grant.sub node ≡ true))
-  pub view : (number : ℕ) (grant : Grant) (behind : List Entry) → from_grant h number ≡ Some (grant, behind) → is_over grant behind ≡ false
+  pub view : (number : ℕ) (grant : CubeGrant) (behind : List Entry) → from_grant h number ≡ Some (grant, behind) → is_over grant behind ≡ false
       → (entry.user == grant.user) ≡ true → IsViewed parts state' number grant (behind ++ entry ∷ [])
-  pub fresh : (grant : Grant) → grant_by entry ≡ Some grant → IsViewed parts state' (granted h) grant []
+  pub fresh : (grant : CubeGrant) → grant_by entry ≡ Some grant → IsViewed parts state' (granted h) grant []
 
 pub other_way : (a b : ℕ) → (a == b) ≡ false → (b == a) ≡ false
 other_way a b differ = ne_eqb b a (λ e. both_ways _ differ (eq-eqb a b (sym e)))
@@ -174,7 +174,7 @@ module _ (parts : MachineParts) (state state' : MachineState) (h : List Entry) (
             (λ cube held. let same : own ≡ cube = cc in subst (λ (c : HeldCube). is_inside c.grant.sub node ≡ false) same past)
       ]
 
-  viewed-old : (number : ℕ) (grant : Grant) (behind : List Entry) → from_grant h number ≡ Some (grant, behind)
+  viewed-old : (number : ℕ) (grant : CubeGrant) (behind : List Entry) → from_grant h number ≡ Some (grant, behind)
       → IsViewed parts state' number grant (behind ++ entry ∷ [])
   viewed-old number grant behind found =
       let was = before.views number grant behind found in
@@ -200,7 +200,7 @@ module _ (parts : MachineParts) (state state' : MachineState) (h : List Entry) (
             ]
       ]
 
-  viewed-now : (number : ℕ) (grant : Grant) (behind : List Entry) → from_grant (h ++ entry ∷ []) number ≡ Some (grant, behind)
+  viewed-now : (number : ℕ) (grant : CubeGrant) (behind : List Entry) → from_grant (h ++ entry ∷ []) number ≡ Some (grant, behind)
       → IsViewed parts state' number grant behind
   viewed-now number grant behind found =
       elim (found-back h entry number grant behind found) [

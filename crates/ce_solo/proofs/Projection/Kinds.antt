@@ -10,7 +10,7 @@ use Rattle.ce_model.specs.Trace.{NodeRecord, blank_record}
 use Rattle.ce_model.specs.Answers.{call_of}
 use Rattle.ce_model.specs.Cube.{CubeState, opening}
 use Rattle.ce_model.specs.Subcubes.{node_of, is_inside, first_free}
-use Rattle.ce_model.specs.Renaming.{Grant}
+use Rattle.ce_model.specs.Renaming.{CubeGrant}
 use Rattle.ce_model.specs.Views.{grant_by, is_drain, from_grant}
 use Rattle.ce_model.specs.Machine.{MachineParts, IsMachine, HeldCube, MachineState, held_by, is_free, cube_of, with_grant, with_drained, without_cube}
 use Rattle.ce_model.proofs.Subcubes.{all_nodes-at, all_nodes-inside, first_free-subcube, first_free-all_free}
@@ -30,14 +30,14 @@ entry_of user actor what = record { user = user; actor = actor; what = what }
 
 module _ (parts : MachineParts) (state : MachineState) (h : List Entry) (before : IsProjected parts state h) where
   -- a grant that was not drained is the cube that its user holds
-  pub record IsHeldGrant (number : ℕ) (grant : Grant) (behind : List Entry) : Type 0 where
+  pub record IsHeldGrant (number : ℕ) (grant : CubeGrant) (behind : List Entry) : Type 0 where
     pub cube : HeldCube
     pub holds : held_by state grant.user ≡ Some cube
     pub number_is : cube.number ≡ number
     pub grant_is : cube.grant ≡ grant
     pub behind_is : (before.held grant.user cube holds).behind ≡ behind
 
-  pub held-grant : (number : ℕ) (grant : Grant) (behind : List Entry) → from_grant h number ≡ Some (grant, behind) → is_over grant behind ≡ false
+  pub held-grant : (number : ℕ) (grant : CubeGrant) (behind : List Entry) → from_grant h number ≡ Some (grant, behind) → is_over grant behind ≡ false
       → IsHeldGrant number grant behind
   held-grant number grant behind found goes =
       elim (before.views number grant behind found).last [
@@ -50,8 +50,8 @@ module _ (parts : MachineParts) (state : MachineState) (h : List Entry) (before 
               cube = held.0;
               holds = held.1;
               number_is = held.2;
-              grant_is = ap (λ (f : Grant × List Entry). f.0) same;
-              behind_is = ap (λ (f : Grant × List Entry). f.1) same;
+              grant_is = ap (λ (f : CubeGrant × List Entry). f.0) same;
+              behind_is = ap (λ (f : CubeGrant × List Entry). f.1) same;
             }
       ]
 
@@ -80,7 +80,7 @@ module _ (parts : MachineParts) (state : MachineState) (h : List Entry) (before 
 
   module _ (machine : IsMachine parts) (user actor d : ℕ) (sub : Subcube) (within : user < parts.users) (none : held_by state user ≡ None)
       (free : first_free (is_free state) parts.dim d ≡ Some sub) where
-    abbrev grant_now : Grant
+    abbrev grant_now : CubeGrant
     grant_now = record { user = user; dim = d; sub = sub }
 
     abbrev entry_now : Entry
@@ -158,7 +158,7 @@ module _ (parts : MachineParts) (state : MachineState) (h : List Entry) (before 
     is_drained : (cube' : HeldCube) → held_by (with_drained user state) user ≡ Some cube' → drained_cube cube ≡ cube'
     is_drained cube' held = let same : Some (drained_cube cube) ≡ Some cube' = sym drained_held ∙ held in cc
 
-    over-now : (grant : Grant) (behind : List Entry) → (user == grant.user) ≡ true → is_over grant (behind ++ drain ∷ []) ≡ true
+    over-now : (grant : CubeGrant) (behind : List Entry) → (user == grant.user) ≡ true → is_over grant (behind ++ drain ∷ []) ≡ true
     over-now grant behind is = over-more grant behind drain ∙ or_right _ _ (ap (λ b. b && true) is)
 
     held-drained : IsHeld parts (with_drained user state) (h ++ drain ∷ []) (drained_cube cube)

@@ -11,7 +11,7 @@ use Rattle.ce_model.specs.Trace.{NodeRecord}
 use Rattle.ce_model.specs.Answers.{answer, call_of}
 use Rattle.ce_model.specs.Cube.{opening, left_by, IsNext, IsAlone}
 use Rattle.ce_model.specs.Subcubes.{node_of, is_inside, first_free}
-use Rattle.ce_model.specs.Renaming.{Grant}
+use Rattle.ce_model.specs.Renaming.{CubeGrant}
 use Rattle.ce_model.specs.Views.{grant_in, trace_behind, from_grant, view}
 use Rattle.ce_model.specs.Machine.{MachineParts, IsMachine, HeldCube, MachineState, machine_opening, held_by, is_free, nodes_of, standing_of, cube_of, record_by, held_by_entry, with_cube, with_grant, with_drained, without_cube, changed_by, changed_by_call, after, Request, getcube, peek, drain, freecube, in_cube, with_places_outward, answered, IsCallOf, Fits, IsLawfulEntry, IsLawful}
 use Rattle.ce_model.proofs.Subcubes.{is_inside-node_of}
@@ -101,7 +101,7 @@ module _ (parts : MachineParts) (machine : IsMachine parts) (state : MachineStat
           let num : cube.number ≡ number = ap (λ (c : HeldCube). c.number) (sym same) ∙ g.number_is in
           let both : Some (cube.grant, was.behind) ≡ Some (grant, behind) = sym was.found ∙ ap (from_grant h) num ∙ found in
           let pair : (cube.grant, was.behind) ≡ (grant, behind) = cc in
-          subst (λ (f : Grant × List Entry). IsViewed parts now number f.0 (f.1 ++ entry ∷ [])) pair
+          subst (λ (f : CubeGrant × List Entry). IsViewed parts now number f.0 (f.1 ++ entry ∷ [])) pair
           (subst (λ n. IsViewed parts now n cube.grant (was.behind ++ entry ∷ [])) num viewed-now);
       fresh = λ grant some. let none = no_grant entry.user entry.what is.call is.called in absurd (cc);
     }
@@ -209,7 +209,7 @@ projected parts history machine lawful =
     (λ h entry before is. projected-step parts (after h) (after (h ++ entry ∷ [])) h entry before (lawful-step parts machine h before entry is)) [] history
     (projected-nil parts) lawful
 
-pub found_alone : (parts : MachineParts) (history : List Entry) (number : ℕ) → IsProjected parts (after history) history → (found : Option (Grant × List Entry))
+pub found_alone : (parts : MachineParts) (history : List Entry) (number : ℕ) → IsProjected parts (after history) history → (found : Option (CubeGrant × List Entry))
     → from_grant history number ≡ found → IfSome found (λ found. IsAlone (cube_of parts.images found.0) (view history number))
 found_alone parts history number all None is = tt
 found_alone parts history number all (Some found) is =

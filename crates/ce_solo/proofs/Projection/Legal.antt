@@ -2,7 +2,7 @@
 use Rattle.std.proofs.Common.{◌≡◌, ℕ, List, Option, Some, None, IfSome, refl, ap, ap₂, sym, ◌∙◌}
 use Rattle.ce_model.specs.declared.entry.Entry.{Entry}
 use Rattle.ce_model.specs.Cube.{Cube, opening, solo, host_calls, actors, IsAlone}
-use Rattle.ce_model.specs.Renaming.{Grant}
+use Rattle.ce_model.specs.Renaming.{CubeGrant}
 use Rattle.ce_model.specs.Views.{from_grant, view}
 use Rattle.ce_model.specs.Machine.{MachineParts, IsMachine, cube_of}
 use Rattle.ce_solo.specs.Laws.{IsLegal, LawfulIsLegal, AreSame, SameTrace}
@@ -13,7 +13,7 @@ use Rattle.ce_solo.proofs.Projection.Numbers.{IsPlaced}
 use Rattle.ce_solo.proofs.Projection.Own.{own_cube}
 use Rattle.ce_solo.proofs.Projection.Law.{Holds, projected, found_alone}
 
-legal : (parts : MachineParts) (grant : Grant) (t : List Entry) → IsMachine parts → IsPlaced parts.dim grant → IsAlone (cube_of parts.images grant) t
+legal : (parts : MachineParts) (grant : CubeGrant) (t : List Entry) → IsMachine parts → IsPlaced parts.dim grant → IsAlone (cube_of parts.images grant) t
     → IsLegal (cube_of parts.images grant) t
 legal parts grant t machine placed alone =
     let cube = cube_of parts.images grant in
@@ -24,7 +24,7 @@ legal parts grant t machine placed alone =
       in_order cube (opening cube) t of sound alone,
     )
 
-found_legal : (parts : MachineParts) (history : List Entry) (number : ℕ) → IsMachine parts → Holds parts history → (found : Option (Grant × List Entry))
+found_legal : (parts : MachineParts) (history : List Entry) (number : ℕ) → IsMachine parts → Holds parts history → (found : Option (CubeGrant × List Entry))
     → from_grant history number ≡ found → IfSome found (λ found. IsLegal (cube_of parts.images found.0) (view history number))
 found_legal parts history number machine all None is = tt
 found_legal parts history number machine all (Some found) is =
@@ -42,7 +42,7 @@ same_alone cube cube' t t' alone alone' cubes calls order =
     cc
 
 found_same : (parts parts' : MachineParts) (history history' : List Entry) (number number' : ℕ) → Holds parts history → Holds parts' history'
-    → (found found' : Option (Grant × List Entry)) → from_grant history number ≡ found → from_grant history' number' ≡ found'
+    → (found found' : Option (CubeGrant × List Entry)) → from_grant history number ≡ found → from_grant history' number' ≡ found'
     → IfSome found (λ found. IfSome found' (λ found'.
     AreSame (cube_of parts.images found.0) (cube_of parts'.images found'.0) (view history number) (view history' number')))
 found_same parts parts' history history' number number' all all' None found' is is' = tt

@@ -11,12 +11,12 @@ use Rattle.ce_model.specs.declared.entry.What.TheVariants.{Send, Spawn, Kill}
 use Rattle.ce_model.specs.Limits.{greatest_dim, greatest_users, host_home, host_home_lem}
 use Rattle.ce_model.specs.Subcubes.{relative, extract, node_of, is_inside, IsSubcube}
 use Rattle.ce_model.specs.Owners.{IsBlockOf}
-use Rattle.ce_model.specs.Renaming.{Grant, place_inward, place_outward, block_inward, block_outward, number_outward, targets_renamed, what_renamed, entry_inward}
+use Rattle.ce_model.specs.Renaming.{CubeGrant, place_inward, place_outward, block_inward, block_outward, number_outward, targets_renamed, what_renamed, entry_inward}
 use Rattle.ce_solo.proofs.Renaming.Grants.{few_nodes}
 use Rattle.ce_model.proofs.Subcubes.{extract-node_of, extract-below, node_of-within, node_of-extract, ones_of-bound}
 
 -- a grant of a machine of this dimension
-pub record IsPlaced (dim : ℕ) (grant : Grant) : Type 0 where
+pub record IsPlaced (dim : ℕ) (grant : CubeGrant) : Type 0 where
   pub within : dim ≤ greatest_dim
   pub user : grant.user < greatest_users
   pub sub : IsSubcube dim grant.dim grant.sub
@@ -33,10 +33,10 @@ IsWhatOf d (Kill pid to found) = to.node < 2 ^ d
 IsWhatOf d other = Unit {0}
 
 -- an entry of a cube, as the machine knows it
-abbrev pub what_outward : Grant → What → What
+abbrev pub what_outward : CubeGrant → What → What
 what_outward grant what = what_renamed (place_outward grant.sub) (block_outward grant) what
 
-abbrev pub entry_outward : Grant → Entry → Entry
+abbrev pub entry_outward : CubeGrant → Entry → Entry
 entry_outward grant entry =
     record { user = entry.user; actor = number_outward grant.sub entry.actor; what = what_outward grant entry.what }
 
@@ -46,10 +46,10 @@ place_at pid node = record { node = node; pid = pid }
 abbrev block_at : ℕ → ℕ → BlockId
 block_at index home = record { home = home; index = index }
 
-pub out_host : (grant : Grant) → number_outward grant.sub HOST ≡ HOST
+pub out_host : (grant : CubeGrant) → number_outward grant.sub HOST ≡ HOST
 out_host grant = refl
 
-module _ (dim : ℕ) (grant : Grant) (of : IsPlaced dim grant) where
+module _ (dim : ℕ) (grant : CubeGrant) (of : IsPlaced dim grant) where
   abbrev count : ℕ
   count = 2 ^ grant.dim
 

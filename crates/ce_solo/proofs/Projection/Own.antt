@@ -14,7 +14,7 @@ use Rattle.ce_model.specs.Answers.{answer, call_of}
 use Rattle.ce_model.specs.Cube.{Cube, CubeState, IsCube, opening, left_by, asked_by, asked_in, call_by, entry_by, next_entry, node_numbers, HostCall, IsNext}
 use Rattle.ce_model.specs.Sound.{IsSound, IsHostItem, is_start_of, is_kill_of}
 use Rattle.ce_model.specs.Subcubes.{relative, extract, node_of, is_inside}
-use Rattle.ce_model.specs.Renaming.{Grant, block_outward, number_outward, record_with, call_with, entry_inward}
+use Rattle.ce_model.specs.Renaming.{CubeGrant, block_outward, number_outward, record_with, call_with, entry_inward}
 use Rattle.ce_model.specs.Views.{trace_behind, view}
 use Rattle.ce_model.specs.Machine.{waiting_by, MachineParts, IsMachine, HeldCube, MachineState, host_record, standing_of, nodes_of, record_by, held_by_entry, with_places_outward, cube_of}
 use Rattle.ce_model.proofs.Subcubes.{ones_of-bound, node_of-extract}
@@ -33,7 +33,7 @@ use Rattle.ce_solo.proofs.Projection.Entries.{TakesOne, record-behind, waiting-b
 use Rattle.ce_solo.proofs.Projection.Views.{trace-grows, view-is}
 use Rattle.ce_solo.proofs.Projection.Invariant.{IsKept, IsHeld, IsByEntries}
 
-pub own_cube : (parts : MachineParts) (grant : Grant) → IsMachine parts → IsPlaced parts.dim grant → IsCube (cube_of parts.images grant)
+pub own_cube : (parts : MachineParts) (grant : CubeGrant) → IsMachine parts → IsPlaced parts.dim grant → IsCube (cube_of parts.images grant)
 own_cube parts grant machine placed = record {
   user = placed.user;
   dim = rw (← placed.sub.dimension) (ones_of-bound greatest_dim grant.sub.mask);
@@ -124,7 +124,7 @@ kept-own dim node_record node_record' cube here entry placed number what one cha
 -- ---- the entry of the cube
 
 -- the entry is, with the machine's numbers, the next one of the cube behind this trace
-pub record IsOwnEntry (parts : MachineParts) (grant : Grant) (t : List Entry) (entry : Entry) : Type 0 where
+pub record IsOwnEntry (parts : MachineParts) (grant : CubeGrant) (t : List Entry) (entry : Entry) : Type 0 where
   pub inner : Entry
   pub next : IsNext (cube_of parts.images grant) (opening (cube_of parts.images grant)) t inner
   pub same : entry ≡ entry_outward grant inner
@@ -155,7 +155,7 @@ next_by_call cube o t actor call e =
     next_of_node x y node = rw node refl
 
 -- an actor has the number that it is known by, outwards
-pub actor_back : (dim : ℕ) (grant : Grant) (placed : IsPlaced dim grant) (actor : ℕ) → IsTrue (actor == HOST) ⊎ IsTrue (is_inside grant.sub actor)
+pub actor_back : (dim : ℕ) (grant : CubeGrant) (placed : IsPlaced dim grant) (actor : ℕ) → IsTrue (actor == HOST) ⊎ IsTrue (is_inside grant.sub actor)
     → actor ≡ number_outward grant.sub (relative grant.sub actor)
 actor_back dim grant placed actor (inl host) =
     let is = eqb-true actor HOST host in

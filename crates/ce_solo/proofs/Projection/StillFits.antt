@@ -11,7 +11,7 @@ use Rattle.ce_model.specs.Answers.{answer, call_of}
 use Rattle.ce_model.specs.Saying.{says}
 use Rattle.ce_model.specs.Cube.{Cube, CubeState, opening, asked_by, call_by, HostCall, is_node, state, hoststore}
 use Rattle.ce_model.specs.Subcubes.{is_inside, relative}
-use Rattle.ce_model.specs.Renaming.{call_with, block_outward, Grant, number_outward}
+use Rattle.ce_model.specs.Renaming.{call_with, block_outward, CubeGrant, number_outward}
 use Rattle.ce_model.specs.Views.{trace_behind, view}
 use Rattle.ce_model.specs.Machine.{MachineParts, IsMachine, HeldCube, held_by, nodes_of, standing_of, with_places_outward, record_by, held_by_entry, with_cube, changed_by, changed_by_call, cube_of, after, Request, getcube, peek, drain, freecube, in_cube, is_alone, answered, IsCallOf, FitsHistory, Fits, IsLawfulEntry}
 use Rattle.ce_model.proofs.OneMore.{state-more, hoststore-more}
@@ -67,7 +67,7 @@ call_of-kept : (parts : MachineParts) (h h' : List Entry) (actor : ℕ) (call : 
     → IsCallOf parts h actor call cube → IsCallOf parts h' actor call cube'
 call_of-kept parts h h' actor call cube cube' grant drained same of = record {
   made = of.made;
-  inside = subst (λ (g : Grant). IsTrue (actor == HOST) ⊎ IsTrue (is_inside g.sub actor)) (sym grant) of.inside;
+  inside = subst (λ (g : CubeGrant). IsTrue (actor == HOST) ⊎ IsTrue (is_inside g.sub actor)) (sym grant) of.inside;
   next = same (asked_by of.made) ∙ of.next;
   renamed = ap (λ g. call_with (block_outward g) of.made) grant ∙ of.renamed;
   within = of.within;

@@ -11,13 +11,13 @@ use Rattle.ce_model.specs.declared.entry.What.{What}
 use Rattle.ce_model.specs.declared.entry.What.TheVariants.{Drain}
 use Rattle.ce_model.specs.Node.{Call}
 use Rattle.ce_model.specs.Answers.{call_of}
-use Rattle.ce_model.specs.Renaming.{Grant, entry_inward}
+use Rattle.ce_model.specs.Renaming.{CubeGrant, entry_inward}
 use Rattle.ce_model.specs.Views.{grant_by, is_drain, trace_behind, grant_or_later, from_grant, view}
 
 -- ---- grants
 
 -- a grant counts one
-abbrev one_grant : Option Grant → ℕ
+abbrev one_grant : Option CubeGrant → ℕ
 one_grant None = 0
 one_grant (Some grant) = 1
 
@@ -33,17 +33,17 @@ granted-more (first ∷ h) entry = omega (arith, granted-more h entry)
 pub granted-same : (h : List Entry) (entry : Entry) → grant_by entry ≡ None → granted (h ++ entry ∷ []) ≡ granted h
 granted-same h entry none = omega (arith, granted-more h entry, ap one_grant none)
 
-pub granted-one : (h : List Entry) (entry : Entry) (grant : Grant) → grant_by entry ≡ Some grant → granted (h ++ entry ∷ []) ≡ granted h + 1
+pub granted-one : (h : List Entry) (entry : Entry) (grant : CubeGrant) → grant_by entry ≡ Some grant → granted (h ++ entry ∷ []) ≡ granted h + 1
 granted-one h entry grant some = omega (arith, granted-more h entry, ap one_grant some)
 
 -- a grant that was found, with an entry more behind it
 abbrev Found : Type 0
-Found = Grant × List Entry
+Found = CubeGrant × List Entry
 
 abbrev with_more : Entry → Found → Found
 with_more entry found = (found.0, found.1 ++ entry ∷ [])
 
-later_found : (entry : Entry) (grant : Option Grant) (behind : List Entry) (number : ℕ) (found : Found)
+later_found : (entry : Entry) (grant : Option CubeGrant) (behind : List Entry) (number : ℕ) (found : Found)
     → ((m : ℕ) → from_grant behind m ≡ Some found → from_grant (behind ++ entry ∷ []) m ≡ Some (with_more entry found))
     → grant_or_later grant behind number (from_grant behind) ≡ Some found
     → grant_or_later grant (behind ++ entry ∷ []) number (from_grant (behind ++ entry ∷ [])) ≡ Some (with_more entry found)
@@ -59,13 +59,13 @@ later_found entry (Some grant) behind number found later e =
     ]
 
 -- a grant stays where it is
-pub found-more : (h : List Entry) (entry : Entry) (number : ℕ) (grant : Grant) (behind : List Entry) → from_grant h number ≡ Some (grant, behind)
+pub found-more : (h : List Entry) (entry : Entry) (number : ℕ) (grant : CubeGrant) (behind : List Entry) → from_grant h number ≡ Some (grant, behind)
     → from_grant (h ++ entry ∷ []) number ≡ Some (grant, behind ++ entry ∷ [])
 found-more [] entry number grant behind e = absurd (cc)
 found-more (first ∷ h) entry number grant behind e =
     later_found entry (grant_by first) h number (grant, behind) (λ m e. found-more h entry m grant behind e) e
 
-new_first : (entry : Entry) (first : Option Grant) (h : List Entry) (number : ℕ) (found : Found)
+new_first : (entry : Entry) (first : Option CubeGrant) (h : List Entry) (number : ℕ) (found : Found)
     → from_grant (h ++ entry ∷ []) number ≡ Some found
     → grant_or_later first (h ++ entry ∷ []) (one_grant first + number) (from_grant (h ++ entry ∷ [])) ≡ Some found
 new_first entry None h number found e = let same : 0 + number ≡ number = omega arith in rw same e
@@ -75,18 +75,18 @@ new_first entry (Some grant) h number found e =
     rw (other, same) e
 
 -- a new grant has the next number
-pub found-new : (h : List Entry) (entry : Entry) (grant : Grant) → grant_by entry ≡ Some grant → from_grant (h ++ entry ∷ []) (granted h) ≡ Some (grant, [])
+pub found-new : (h : List Entry) (entry : Entry) (grant : CubeGrant) → grant_by entry ≡ Some grant → from_grant (h ++ entry ∷ []) (granted h) ≡ Some (grant, [])
 found-new [] entry grant e = rw e refl
 found-new (first ∷ h) entry grant e = new_first entry (grant_by first) h (granted h) (grant, []) (found-new h entry grant e)
 
 -- where a grant of the longer history stands
-pub data IsFound (h : List Entry) (entry : Entry) (number : ℕ) (grant : Grant) (behind : List Entry) : Type 0 where
+pub data IsFound (h : List Entry) (entry : Entry) (number : ℕ) (grant : CubeGrant) (behind : List Entry) : Type 0 where
   -- it is of the shorter one
   old : (less : List Entry) → from_grant h number ≡ Some (grant, less) → behind ≡ less ++ entry ∷ [] → IsFound h entry number grant behind
   -- the last entry is the grant
   new : number ≡ granted h → grant_by entry ≡ Some grant → behind ≡ [] → IsFound h entry number grant behind
 
-found_by : (h : List Entry) (entry : Entry) (number : ℕ) (grant : Grant) (behind : List Entry) (first : Option Grant)
+found_by : (h : List Entry) (entry : Entry) (number : ℕ) (grant : CubeGrant) (behind : List Entry) (first : Option CubeGrant)
     → ((m : ℕ) → from_grant (h ++ entry ∷ []) m ≡ Some (grant, behind) → IsFound h entry m grant behind)
     → (first' : Entry) → grant_by first' ≡ first
     → grant_or_later first (h ++ entry ∷ []) number (from_grant (h ++ entry ∷ [])) ≡ Some (grant, behind) → IsFound (first' ∷ h) entry number grant behind
@@ -111,7 +111,7 @@ found_by h entry number grant behind (Some other) later first' is e =
           ]
     ]
 
-found_last : (entry : Entry) (number : ℕ) (grant : Grant) (behind : List Entry) (given : Option Grant) → grant_by entry ≡ given
+found_last : (entry : Entry) (number : ℕ) (grant : CubeGrant) (behind : List Entry) (given : Option CubeGrant) → grant_by entry ≡ given
     → grant_or_later given [] number (from_grant []) ≡ Some (grant, behind) → IsFound [] entry number grant behind
 found_last entry number grant behind None is e = absurd (cc)
 found_last entry number grant behind (Some other) is e =
@@ -127,7 +127,7 @@ found_last entry number grant behind (Some other) is e =
           absurd (cc)
     ]
 
-pub found-back : (h : List Entry) (entry : Entry) (number : ℕ) (grant : Grant) (behind : List Entry)
+pub found-back : (h : List Entry) (entry : Entry) (number : ℕ) (grant : CubeGrant) (behind : List Entry)
     → from_grant (h ++ entry ∷ []) number ≡ Some (grant, behind) → IsFound h entry number grant behind
 found-back [] entry number grant behind e = found_last entry number grant behind (grant_by entry) refl e
 found-back (first ∷ h) entry number grant behind e = found_by h entry number grant behind (grant_by first) (λ m e. found-back h entry m grant behind e) first refl e
@@ -135,15 +135,15 @@ found-back (first ∷ h) entry number grant behind e = found_by h entry number g
 -- ---- the trace behind a grant
 
 -- an entry drains the cube of a user
-abbrev ends : Grant → Entry → Bool
+abbrev ends : CubeGrant → Entry → Bool
 ends grant entry = entry.user == grant.user && is_drain entry.what
 
 -- the cube of a grant was drained
-abbrev pub is_over : Grant → List Entry → Bool
+abbrev pub is_over : CubeGrant → List Entry → Bool
 is_over grant behind = list_any (ends grant) behind
 
 -- an entry is one of the cube
-abbrev is_own : Grant → Entry → Bool
+abbrev is_own : CubeGrant → Entry → Bool
 is_own grant entry = entry.user == grant.user && is_some (call_of entry.what)
 
 or_nil : (b c : Bool) → (b || (c || false)) ≡ (b || c)
@@ -151,7 +151,7 @@ or_nil true c = refl
 or_nil false true = refl
 or_nil false false = refl
 
-pub over-more : (grant : Grant) (behind : List Entry) (entry : Entry)
+pub over-more : (grant : CubeGrant) (behind : List Entry) (entry : Entry)
     → is_over grant (behind ++ entry ∷ []) ≡ (is_over grant behind || (entry.user == grant.user && is_drain entry.what))
 over-more grant behind entry = list_any-append (ends grant) behind (entry ∷ []) ∙ or_nil (is_over grant behind) (ends grant entry)
 
@@ -181,30 +181,30 @@ module _ {X : Type 0} (q : X → Bool) where
       first_kept x (xs ++ ys) parts.0 ∙ ap (λ zs. x ∷ zs) (take_all xs ys parts.1) ∙ ap (λ zs. zs ++ before_end ys) (sym (first_kept x xs parts.0))
 
 -- the entries of a cube, as it knows them
-abbrev entries_of : Grant → List Entry → List Entry
+abbrev entries_of : CubeGrant → List Entry → List Entry
 entries_of grant taken = map (entry_inward grant.sub) (filter (is_own grant) taken)
 
-entries-append : (grant : Grant) (xs ys : List Entry) → entries_of grant (xs ++ ys) ≡ entries_of grant xs ++ entries_of grant ys
+entries-append : (grant : CubeGrant) (xs ys : List Entry) → entries_of grant (xs ++ ys) ≡ entries_of grant xs ++ entries_of grant ys
 entries-append grant xs ys =
     ap (map (entry_inward grant.sub)) (filter-append (is_own grant) xs ys) ∙ map-append (entry_inward grant.sub) (filter (is_own grant) xs) (filter (is_own grant) ys)
 
 -- behind the drain a trace ends
-pub trace-over : (grant : Grant) (behind : List Entry) (entry : Entry) → is_over grant behind ≡ true
+pub trace-over : (grant : CubeGrant) (behind : List Entry) (entry : Entry) → is_over grant behind ≡ true
     → trace_behind grant (behind ++ entry ∷ []) ≡ trace_behind grant behind
 trace-over grant behind entry over = ap (entries_of grant) (take_ended (ends grant) behind (entry ∷ []) over)
 
-trace-joined : (grant : Grant) (behind : List Entry) (entry : Entry) → is_over grant behind ≡ false
+trace-joined : (grant : CubeGrant) (behind : List Entry) (entry : Entry) → is_over grant behind ≡ false
     → trace_behind grant (behind ++ entry ∷ []) ≡ trace_behind grant behind ++ trace_behind grant (entry ∷ [])
 trace-joined grant behind entry goes =
     ap (entries_of grant) (take_all (ends grant) behind (entry ∷ []) goes)
     ∙ entries-append grant (take_while (λ e. not (ends grant e)) behind) (take_while (λ e. not (ends grant e)) (entry ∷ []))
 
-no_trace : (grant : Grant) (entry : Entry) → (entry.user == grant.user && is_some (call_of entry.what)) ≡ false → trace_behind grant (entry ∷ []) ≡ []
+no_trace : (grant : CubeGrant) (entry : Entry) → (entry.user == grant.user && is_some (call_of entry.what)) ≡ false → trace_behind grant (entry ∷ []) ≡ []
 no_trace grant entry other =
     elim (cases_Bool (ends grant entry)) [ inl holds ↦ rw holds refl | inr fails ↦ rw (fails, other) refl ]
 
 -- an entry that is none of the cube leaves its trace as it is
-pub trace-stays : (grant : Grant) (behind : List Entry) (entry : Entry) → (entry.user == grant.user && is_some (call_of entry.what)) ≡ false
+pub trace-stays : (grant : CubeGrant) (behind : List Entry) (entry : Entry) → (entry.user == grant.user && is_some (call_of entry.what)) ≡ false
     → trace_behind grant (behind ++ entry ∷ []) ≡ trace_behind grant behind
 trace-stays grant behind entry other =
     elim (cases_Bool (is_over grant behind)) [
@@ -217,7 +217,7 @@ pub no_drain : (what : What) (call : Call) → call_of what ≡ Some call → is
 no_drain Drain call e = absurd (cc)
 no_drain other call e = refl
 
-one_trace : (grant : Grant) (entry : Entry) (call : Call) → (entry.user == grant.user) ≡ true → call_of entry.what ≡ Some call
+one_trace : (grant : CubeGrant) (entry : Entry) (call : Call) → (entry.user == grant.user) ≡ true → call_of entry.what ≡ Some call
     → trace_behind grant (entry ∷ []) ≡ entry_inward grant.sub entry ∷ []
 one_trace grant entry call user e =
     let fails : ends grant entry ≡ false = rw (user, no_drain entry.what call e) refl in
@@ -225,11 +225,11 @@ one_trace grant entry call user e =
     rw (fails, own) refl
 
 -- one of the cube is the next of its trace
-pub trace-grows : (grant : Grant) (behind : List Entry) (entry : Entry) (call : Call) → is_over grant behind ≡ false → (entry.user == grant.user) ≡ true
+pub trace-grows : (grant : CubeGrant) (behind : List Entry) (entry : Entry) (call : Call) → is_over grant behind ≡ false → (entry.user == grant.user) ≡ true
     → call_of entry.what ≡ Some call → trace_behind grant (behind ++ entry ∷ []) ≡ trace_behind grant behind ++ entry_inward grant.sub entry ∷ []
 trace-grows grant behind entry call goes user e =
     trace-joined grant behind entry goes ∙ ap (λ more. trace_behind grant behind ++ more) (one_trace grant entry call user e)
 
-pub view-is : (h : List Entry) (number : ℕ) (grant : Grant) (behind : List Entry) → from_grant h number ≡ Some (grant, behind) → view h number ≡ trace_behind grant behind
+pub view-is : (h : List Entry) (number : ℕ) (grant : CubeGrant) (behind : List Entry) → from_grant h number ≡ Some (grant, behind) → view h number ≡ trace_behind grant behind
 unfolding view
 view-is h number grant behind found = rw found refl

@@ -5,7 +5,7 @@ use Rattle.ce_model.specs.Limits.{greatest_dim, host_home, greatest_nodes_lem, h
 use Rattle.ce_model.specs.Subcubes.{node_of, IsSubcube}
 use Rattle.ce_model.specs.Owners.{IsBlockOf}
 use Rattle.ce_model.specs.Hearing.{Heard, start_of, mail_of, kill_of, poll_of, told, nothing}
-use Rattle.ce_model.specs.Renaming.{Grant, block_outward}
+use Rattle.ce_model.specs.Renaming.{CubeGrant, block_outward}
 use Rattle.ce_model.proofs.Subcubes.{all_subcubes, node_of-rises, node_of-within, ones_of-bound}
 use Rattle.ce_solo.specs.Laws.{IsGrant, IsHeardOf, Renaming}
 use Rattle.ce_solo.proofs.Renaming.Store.{IsOrderKept}
@@ -15,21 +15,21 @@ use Rattle.ce_solo.proofs.Renaming.Turns.{says-renamed}
 use Rattle.ce_solo.proofs.Renaming.Answers.{IsNamedHeard, hears-renamed}
 
 -- the home of a block, as the machine numbers it
-abbrev home_outward : Grant → ℕ → ℕ
+abbrev home_outward : CubeGrant → ℕ → ℕ
 home_outward grant home = if home == host_home then host_home + grant.user else node_of grant.sub home
 
 -- the home of a block of a cube of this dimension
 abbrev IsHome : ℕ → ℕ → Type 0
 IsHome dim home = (home < 2 ^ dim) ⊎ (home ≡ host_home)
 
-grant_subcube : (dim : ℕ) (grant : Grant) → IsGrant dim grant → IsSubcube dim grant.dim grant.sub
+grant_subcube : (dim : ℕ) (grant : CubeGrant) → IsGrant dim grant → IsSubcube dim grant.dim grant.sub
 grant_subcube dim grant of =
     subst (λ sub. IsSubcube dim grant.dim sub) of.sub.2 (all_subcubes dim grant.dim of.sub.0 grant.sub of.sub.1)
 
 pub few_nodes : (dim : ℕ) → dim ≤ greatest_dim → 2 ^ dim ≤ 64
 few_nodes dim within = rw (← greatest_nodes_lem) (pow_mono within)
 
-module _ (dim : ℕ) (grant : Grant) (of : IsGrant dim grant) where
+module _ (dim : ℕ) (grant : CubeGrant) (of : IsGrant dim grant) where
   few_relative : 2 ^ grant.dim ≤ 64
   few_relative =
       let sub = grant_subcube dim grant of in
@@ -66,7 +66,7 @@ same_order a b a' b' i j up down same =
           rw (le-ltb a b (omega arith), le-ltb a' b' (omega (arith, down more)), ne_eqb a b (omega arith), ne_eqb a' b' (omega (arith, down more))) refl
     ]
 
-outward_order : (dim : ℕ) (grant : Grant) → IsGrant dim grant → IsOrderKept (block_outward grant) (IsBlockOf grant.dim)
+outward_order : (dim : ℕ) (grant : CubeGrant) → IsGrant dim grant → IsOrderKept (block_outward grant) (IsBlockOf grant.dim)
 outward_order dim grant of = record {
   kept = λ a b of_a of_b.
       same_order a.home b.home (home_outward grant a.home) (home_outward grant b.home) a.index b.index
@@ -74,7 +74,7 @@ outward_order dim grant of = record {
       (ap (home_outward grant));
 }
 
-outward_names : (dim : ℕ) (grant : Grant) → IsGrant dim grant → Names
+outward_names : (dim : ℕ) (grant : CubeGrant) → IsGrant dim grant → Names
 outward_names dim grant of = record {
   rename = block_outward grant;
   home = node_of grant.sub;
@@ -82,7 +82,7 @@ outward_names dim grant of = record {
   order = outward_order dim grant of;
 }
 
-named_heard : (dim : ℕ) (grant : Grant) (of : IsGrant dim grant) (heard : Heard) → IsHeardOf grant.dim heard → IsNamedHeard (outward_names dim grant of) heard
+named_heard : (dim : ℕ) (grant : CubeGrant) (of : IsGrant dim grant) (heard : Heard) → IsHeardOf grant.dim heard → IsNamedHeard (outward_names dim grant of) heard
 unfolding outward_names
 named_heard dim grant of (start_of pid image) is = tt
 named_heard dim grant of (mail_of parcel) is = is
