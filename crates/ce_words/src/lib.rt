@@ -1,0 +1,8 @@
+//! The words of the program's command line, read with `clap`.
+#![tactic(auto)]
+
+mod line;
+#[cfg(test)]
+mod tests;
+
+pub use line::{Line, LineError, read_line};

@@ -1,0 +1,68 @@
+use super::*;
+use std::alloc::Global;
+use std::test::Fail;
+
+fn read(alloc: Global, words: &[&str]) -> Result<Result<Line, LineError>, Fail> {
+    let mut line = Vec::new(alloc);
+    for word in words {
+        line.push(String::from_str(alloc, word)?)?;
+    }
+    Ok(read_line(alloc, line.as_slice()))
+}
+
+#[test]
+fn the_flag_and_the_option_come_in_either_order(rt: HostRuntime) -> Result<(), Fail> {
+    let alloc = rt.alloc();
+    let neither = Line {
+        serial: false,
+        load: None,
+    };
+    assert_eq!(rt; read(alloc, &[])?, Ok(neither));
+    assert_eq!(rt;
+        read(alloc, &["--serial"])?,
+        Ok(Line {
+            serial: true,
+            load: None
+        })
+    );
+    assert_eq!(rt;
+        read(alloc, &["--load", "0"])?,
+        Ok(Line {
+            serial: false,
+            load: Some(0)
+        })
+    );
+    let both = Line {
+        serial: true,
+        load: Some(4_294_967_295),
+    };
+    assert_eq!(rt;
+        read(alloc, &["--load", "4294967295", "--serial"])?,
+        Ok(both)
+    );
+    assert_eq!(rt;
+        read(alloc, &["--serial", "--load", "4294967295"])?,
+        Ok(both)
+    );
+    Ok(())
+}
+
+#[test]
+fn usage(rt: HostRuntime) -> Result<(), Fail> {
+    let alloc = rt.alloc();
+    assert_eq!(rt; read(alloc, &["--fast"])?, Err(LineError::Refused));
+    assert_eq!(rt;
+        read(alloc, &["--load", "4294967296"])?,
+        Err(LineError::Refused)
+    );
+    assert_eq!(rt; read(alloc, &["--load"])?, Err(LineError::Refused));
+    assert_eq!(rt; read(alloc, &["--load", "ten"])?, Err(LineError::Refused));
+    assert_eq!(rt;
+        read(alloc, &["--serial", "--serial"])?,
+        Err(LineError::Refused)
+    );
+    assert_eq!(rt; read(alloc, &["script.ce"])?, Err(LineError::Refused));
+    assert_eq!(rt; read(alloc, &["--help"])?, Err(LineError::Refused));
+    assert_eq!(rt; read(alloc, &["--version"])?, Err(LineError::Refused));
+    Ok(())
+}
