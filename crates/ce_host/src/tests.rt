@@ -1,6 +1,27 @@
+ghost use Rattle.std.specs.Prelude.{◌≡◌, ◌≤◌, length, [], Some, IfSome};
+ghost use Rattle.ce_model.specs.Limits.{block_room};
+
 use super::*;
-use ce_model::{Bytes, Place};
+use ce_model::{BlockId, Bytes, HOST, HOST_HOME, NoMemory, Place};
+use rk_mail::Parcel;
+use std::alloc::Global;
 use std::test::Fail;
+use xm_block::Block;
+
+const TO: Place = Place { node: 2, pid: 1 };
+
+// Sends a message and gets the batch back. It answers the block that the message went out in, or None where there was
+// none.
+fn sent(host: &mut Host, bytes: &[u8]) -> Option<Block>
+    requires short { length bytes.now ≤ block_room }
+    requires here { host.old.spare ≡ Some [] }
+    ensures here { host.new.spare ≡ Some [] }
+{
+    let mut batch = host.batch(TO, bytes)?;
+    let (_, block) = batch.take_first()?;
+    host.regain(batch);
+    Some(block)
+}
 
 fn message_in(answer: Answer) -> Option<(Place, Bytes)> {
     match answer {
@@ -10,6 +31,7 @@ fn message_in(answer: Answer) -> Option<(Place, Bytes)> {
 }
 
 #[test]
+#[tactic(auto, using(ce_model::specs::Limits::block_room_lem))]
 fn a_message_keeps_its_sender_and_bytes(rt: HostRuntime) -> Result<(), Fail> {
     let alloc = rt.alloc();
     let from = Place { node: 3, pid: 1 };
@@ -30,4 +52,56 @@ fn a_command_is_printed_with_its_operands(rt: HostRuntime) -> Result<(), Fail> {
     let printed = format!(in alloc; "{command:?}")?;
     assert_eq!(rt; printed.as_str(), "Spawn(2, Place { node: 1, pid: 0 })");
     Ok(())
+}
+
+#[test]
+#[tactic(auto, using(ce_model::specs::Limits::greatest_users_lem, ce_model::specs::Limits::block_room_lem))]
+fn a_host_sends_its_own_blocks_in_order(rt: HostRuntime) -> Result<(), Fail> {
+    let mut host = Host::new(rt.alloc(), 7)?;
+    let home = HOST_HOME + 7;
+    for index in 0..32 {
+        let block = sent(&mut host, b"hi").ok_or("no block")?;
+        assert_eq!(rt; block.id(), BlockId { home, index });
+        assert_eq!(rt; block.bytes(), b"hi".as_slice());
+    }
+    assert!(rt; sent(&mut host, b"hi").is_none());
+    assert_eq!(rt; host.store.count(), 0);
+    Ok(())
+}
+
+// A block of a node that a message brought is the host's least one then.
+#[test]
+#[tactic(auto, using(ce_model::specs::Limits::greatest_users_lem, ce_model::specs::Limits::block_room_lem, ce_model::specs::Limits::home_blocks_lem, crate::specs::Hosts::host_room_lem))]
+fn a_received_block_is_sent_next(rt: HostRuntime) -> Result<(), Fail> {
+    let alloc = rt.alloc();
+    let mut host = Host::new(alloc, 0)?;
+    let mut block = Block::new(alloc, BlockId { home: 3, index: 9 })?;
+    block.fill(b"abc");
+    let told = host.accept(alloc, parcel(block)).map_err(|(_, want)| want)?;
+    assert_eq!(rt; told.as_slice(), b"abc".as_slice());
+    assert_eq!(rt; host.store.count(), 33);
+    let next = sent(&mut host, &[]).ok_or("no block")?;
+    assert_eq!(rt; next.id(), BlockId { home: 3, index: 9 });
+    assert_eq!(rt; next.bytes().len(), 0);
+    let next = sent(&mut host, b"d").ok_or("no block")?;
+    assert_eq!(rt;
+        next.id(),
+        BlockId {
+            home: HOST_HOME,
+            index: 0
+        }
+    );
+    Ok(())
+}
+
+// A parcel for a host with this block.
+fn parcel(block: Block) -> Parcel
+    ensures { result.block ≡ block }
+{
+    Parcel {
+        from: TO,
+        to: Place { node: HOST, pid: 0 },
+        number: 0,
+        block,
+    }
 }

@@ -8,11 +8,14 @@ pub mod GoneDone
 pub mod HelloScript
 pub mod HelloThreadedDone
 pub mod Judged
+pub mod LoadWithin
 pub mod Loads
+pub mod MadeLoads
 pub mod Members
 pub mod NamesSaid
 pub mod NoFitDone
 pub mod OneScript
+pub mod RingImage
 pub mod RowGone
 pub mod RowHelloThreaded
 pub mod RowNoFit

@@ -3,13 +3,17 @@
 
 mod grammar;
 mod laws;
+mod load;
 mod name;
 mod record;
 mod script;
 #[cfg(test)]
 mod tests;
+mod texts;
 
 pub use laws::{grammar_law, limits_law};
+pub use load::make;
 pub use name::Name;
 pub use record::{Record, UserRecord};
 pub use script::{Named, Script, ScriptFault, ScriptKind};
+pub use texts::KindText;

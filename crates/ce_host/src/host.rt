@@ -1,0 +1,108 @@
+ghost use Rattle.std.specs.Prelude.{◌≡◌, ◌<◌, ◌≤◌, ◌+◌, ◌-◌, length, drop, slice_get, Some, None, IsNone, ◌↔◌, [], ◌∷◌, IfOk, IfSome, IfNone, IfErr, OnOk, OnErr, option_map};
+ghost use Rattle.std.specs.List.{Contains};
+ghost use Rattle.ce_model.specs.Limits.{greatest_users, home_blocks, host_home, block_room};
+ghost use Rattle.ce_model.specs.Blocks.{blocks_of_home, put};
+ghost use Rattle.xm_block.specs.Stores.{ids_of, with_block};
+ghost use Rattle.ce_host.specs.Hosts.{host_room, message_to, targets_of, without_targets};
+
+use ce_model::{BlockId, Bytes, GREATEST_DIMENSION, HOME_BLOCKS, HOST_HOME, NoMemory, Place};
+use rk_mail::{Batch, Parcel};
+use std::alloc::Global;
+use xm_block::{Block, Store};
+
+/// How many blocks a host's store has room for: all of the greatest cube, those of its nodes and its host's own.
+pub const HOST_ROOM: u32 = ((1 << GREATEST_DIMENSION) + 1) * HOME_BLOCKS;
+
+/// The host of a user: the blocks that it can send, and an empty batch to send one with.
+#[derive(Drop)]
+pub struct Host {
+    /// Its blocks. It has room for all of a cube.
+    pub store: Store,
+    /// The batch, which is away while a message is on its way.
+    pub spare: Option<Batch>,
+}
+
+impl Host {
+    /// The host of a user, whose number is below `GREATEST_USERS`, with all its own blocks. `NoMemory` may come at any
+    /// time.
+    #[tactic(auto, using(ce_model::specs::Limits::greatest_users_lem, ce_model::specs::Limits::host_home_lem))]
+    pub fn new(alloc: Global, user: u32) -> Result<Host, NoMemory>
+        requires { user < greatest_users }
+        ensures blocks { IfOk result (λ host. ids_of host.store.blocks
+            ≡ blocks_of_home (host_home + user)) }
+        ensures room { IfOk result (λ host. host.store.spare + home_blocks ≡ host_room) }
+        ensures spare { IfOk result (λ host. host.spare ≡ Some []) }
+    {
+        let store = store_of_home(alloc, HOST_HOME + user)?;
+        let spare = Some(Batch::new(alloc)?);
+        Ok(Host { store, spare })
+    }
+
+    /// A message of these bytes, `BLOCK_ROOM` at most, to the place, in the host's least block; None where it has no
+    /// block. The spare batch is here and empty.
+    pub fn batch(&mut self, to: Place, bytes: &[u8]) -> Option<Batch>
+        requires short { length bytes.now ≤ block_room }
+        requires here { self.old.spare ≡ Some [] }
+        ensures empty { IsNone result ↔ (self.old.store.blocks ≡ []) }
+        ensures message { result ≡ message_to to bytes.now self.old.store.blocks }
+        ensures least { option_map targets_of result
+            ≡ option_map (λ id. (to, id) ∷ []) (slice_get (ids_of self.old.store.blocks) 0) }
+        ensures taken { IfSome result (λ batch. ids_of self.new.store.blocks
+            ≡ without_targets (targets_of batch) (ids_of self.old.store.blocks)) }
+        ensures rest { self.new.store.blocks ≡ drop 1 self.old.store.blocks }
+        ensures room { IfSome result (λ _. self.new.store.spare ≡ self.old.store.spare + 1) }
+        ensures away { IfSome result (λ _. self.new.spare ≡ None) }
+        ensures unchanged { IfNone result (self.new ≡ self.old) }
+    {
+        let mut block = self.store.take_least()?;
+        let Some(mut batch) = self.spare.take() else {
+            unreachable!()
+        };
+        block.fill(bytes);
+        batch.first(to, block);
+        Some(batch)
+    }
+
+    /// Takes the batch back, which is empty again.
+    pub fn regain(&mut self, batch: Batch)
+        requires { batch ≡ [] }
+        ensures { self.new ≡ record self.old { spare = Some [] } }
+    {
+        self.spare = Some(batch);
+    }
+
+    /// The bytes of a parcel that came. Its block goes to the store, which has room for it and none of its name. With
+    /// `NoMemory`, which may come at any time, the parcel comes back.
+    pub fn accept(&mut self, alloc: Global, parcel: Parcel) -> Result<Bytes, (Parcel, NoMemory)>
+        requires room { 1 ≤ self.old.store.spare }
+        requires apart { ¬ (Contains (ids_of self.old.store.blocks) parcel.block.id) }
+        ensures bytes { IfOk result (λ bytes. bytes ≡ parcel.block.bytes) }
+        ensures stored { OnOk result (self.new ≡ record self.old {
+          store
+              = record { blocks = with_block parcel.block self.old.store.blocks; spare = self.old.store.spare - 1 };
+        }) }
+        ensures ids { OnOk result (ids_of self.new.store.blocks
+            ≡ put parcel.block.id (ids_of self.old.store.blocks)) }
+        ensures back { IfErr result (λ refused. refused.0 ≡ parcel) }
+        ensures unchanged { OnErr result (self.new ≡ self.old) }
+    {
+        let Ok(items) = parcel.block.bytes().to_vec(alloc) else {
+            return Err((parcel, NoMemory));
+        };
+        self.store.give(parcel.block);
+        Ok(Bytes::from_vec(items))
+    }
+}
+
+/// A host's store with the blocks of this home.
+#[tactic(auto, using(ce_model::specs::Limits::home_blocks_lem, crate::specs::Hosts::host_room_lem))]
+fn store_of_home(alloc: Global, home: u32) -> Result<Store, NoMemory>
+    ensures blocks { IfOk result (λ store. ids_of store.blocks ≡ blocks_of_home home) }
+    ensures room { IfOk result (λ store. store.spare + home_blocks ≡ host_room) }
+{
+    let mut store = Store::new(alloc, HOST_ROOM)?;
+    for index in 0..HOME_BLOCKS {
+        store.give(Block::new(alloc, BlockId { home, index })?);
+    }
+    Ok(store)
+}
