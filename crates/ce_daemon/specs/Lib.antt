@@ -1,3 +1,4 @@
 pub mod Boxes
 pub mod Holding
 pub mod Sound
+pub mod Peeks

@@ -1,5 +1,5 @@
 -- The blocks of a user's host: how many can come to it, and the message that it sends next.
-use Rattle.std.specs.Prelude.{◌≡◌, refl, ℕ, ◌+◌, ◌*◌, ◌^◌, List, [], ◌∷◌, map, fold, slice_get, Option, option_map}
+use Rattle.std.specs.Prelude.{◌≡◌, refl, ℕ, ◌+◌, ◌*◌, ◌^◌, List, [], ◌∷◌, fold, slice_get, Option, option_map}
 use Rattle.ce_model.specs.declared.topology.Place.{Place}
 use Rattle.ce_model.specs.declared.topology.BlockId.{BlockId}
 use Rattle.ce_model.specs.Limits.{greatest_dim, home_blocks}
@@ -17,10 +17,6 @@ host_room_lem = refl
 -- a message to one place: the least block of a store carries it there, if there is one
 abbrev pub message_to : Place → List ℕ → List Block → Option (List (Place × Block))
 message_to to bytes blocks = option_map (λ block. (to, with_bytes bytes block) ∷ []) (slice_get blocks 0)
-
--- the places of a message, each with the name of its block, as an entry has them
-abbrev pub targets_of : List (Place × Block) → List (Place × BlockId)
-targets_of batch = map (λ (target : Place × Block). (target.0, target.1.id)) batch
 
 -- the names of a store without those of a message's blocks
 abbrev pub without_targets : List (Place × BlockId) → List BlockId → List BlockId

@@ -3,7 +3,8 @@ ghost use Rattle.std.specs.List.{Contains};
 ghost use Rattle.ce_model.specs.Limits.{greatest_users, home_blocks, host_home, block_room};
 ghost use Rattle.ce_model.specs.Blocks.{blocks_of_home, put};
 ghost use Rattle.xm_block.specs.Stores.{ids_of, with_block};
-ghost use Rattle.ce_host.specs.Hosts.{host_room, message_to, targets_of, without_targets};
+ghost use Rattle.rk_mail.specs.Targets.{targets_of};
+ghost use Rattle.ce_host.specs.Hosts.{host_room, message_to, without_targets};
 
 use ce_model::{BlockId, Bytes, GREATEST_DIMENSION, HOME_BLOCKS, HOST_HOME, NoMemory, Place};
 use rk_mail::{Batch, Parcel};

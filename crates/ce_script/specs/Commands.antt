@@ -17,9 +17,8 @@ use Rattle.ce_model.specs.Node.{is_place, process_at}
 use Rattle.ce_model.specs.Renaming.{CubeGrant, entry_inward}
 use Rattle.ce_model.specs.Trace.{sent_to}
 use Rattle.ce_model.specs.Cube.{Cube, CubeState, opening, hoststore, parcel_numbered, rest}
-use Rattle.ce_model.specs.Machine.{MachineParts, MachineState, after, free_count, held_grants, cube_of}
-use Rattle.ce_daemon.specs.declared.grant.Grant.{Grant}
-use Rattle.ce_daemon.specs.declared.grant.Peeked.{Peeked}
+use Rattle.ce_model.specs.Machine.{MachineParts, after, cube_of}
+use Rattle.ce_daemon.specs.Peeks.{peeked}
 use Rattle.ce_host.specs.declared.command.Command.{Command}
 use Rattle.ce_host.specs.declared.command.Command.TheVariants.{Getcube, Peek, Freecube, Spawn, Kill, Send, Run, Recv, Dump, Trace}
 use Rattle.ce_host.specs.declared.answer.Answer.{Answer}
@@ -46,14 +45,6 @@ getcube_reply (Some sub) = Granted sub
 abbrev pub IsGetcube : ℕ → Option Holding → ℕ → Answer → List Entry → Type 0
 IsGetcube user None dim answer entries = (sub : Option Subcube) × (entries ≡ by_host user (GetcubeMade dim sub) ∷ []) × (answer ≡ getcube_reply sub)
 IsGetcube user (Some held) dim answer entries = IsAtOnce Held answer entries
-
--- a grant with its number
-abbrev pub numbered : ℕ × CubeGrant → Grant
-numbered (number, grant) = record { number = number; user = grant.user; dim = grant.dim; sub = grant.sub }
-
--- what a peek finds: how many nodes are free, and which cubes are held
-abbrev pub peeked : MachineParts → MachineState → Peeked
-peeked machine state = record { free = free_count machine state; grants = map numbered (held_grants state) }
 
 -- `peek`
 abbrev pub IsPeek : MachineParts → ℕ → Answer → List Moment → Type 0

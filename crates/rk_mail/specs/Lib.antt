@@ -1,3 +1,4 @@
 pub mod Items
 pub mod Queue
 pub mod Targets
+pub mod Talk
