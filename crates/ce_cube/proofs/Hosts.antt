@@ -1,0 +1,294 @@
+-- What a user has its host do fits, and what it makes of the host's store.
+use Rattle.std.proofs.Common.{◌≡◌, ℕ, ◌+◌, ◌*◌, ◌^◌, ◌≤◌, true, false, ◌==◌, if◌then◌else◌, List, [], ◌∷◌, ◌++◌, map, drop, length, slice_get, Option, Some, None, IsSomeAnd, option_map, option_and_then, refl, ap, sym, ◌∙◌, subst, inl, inr, arith, pow_mono, append-nil}
+use Rattle.std.specs.List.{AllByRecursion}
+use Rattle.std.proofs.lemmas.Bool.{cases_Bool, cases_lt}
+use Rattle.rv_model.specs.Image.{ImageParts}
+use Rattle.ce_model.specs.declared.topology.TheConstants.{HOST}
+use Rattle.ce_model.specs.declared.topology.BlockId.{BlockId}
+use Rattle.ce_model.specs.declared.topology.Place.{Place}
+use Rattle.ce_model.specs.declared.entry.Entry.{Entry}
+use Rattle.ce_model.specs.declared.entry.What.TheVariants.{HostTake, Send, Arm}
+use Rattle.ce_model.specs.Limits.{greatest_dim, home_blocks, home_blocks_lem, block_room, greatest_count}
+use Rattle.ce_model.specs.Blocks.{put, is_same_id, without_id}
+use Rattle.ce_model.specs.Parcels.{Parcel, Item, start, mail, kill}
+use Rattle.ce_model.specs.Node.{Node, Call, takes, sends, spawns, kills, notes, arms, looks, takes_mail, is_place}
+use Rattle.ce_model.specs.Hearing.{mail_of, hears}
+use Rattle.ce_model.specs.Answers.{answer}
+use Rattle.ce_model.specs.Trace.{armed, dispatched, armed_by, dispatched_by}
+use Rattle.ce_model.specs.Cube.{Cube, CubeState, HostCall, send_bytes, opening, left_by, hoststore, stored_by, with_parcel, parcel_numbered, host_call, asked_by, call_by, take_message, allow}
+use Rattle.ce_model.specs.Owners.{IsBlockOf}
+use Rattle.ce_model.specs.Subcubes.{relative}
+use Rattle.ce_model.specs.Renaming.{CubeGrant, place_inward, block_inward, place_outward, block_outward, what_renamed, call_with, parcel_with, entry_inward, node_outward}
+use Rattle.ce_model.specs.Views.{view}
+use Rattle.ce_model.specs.Machine.{MachineParts, IsMachine, HeldCube, IsLawful, IsWithinLimits, Fits, IsCallOf, HoldsCube, in_cube, after, held_by, cube_of, MachineState, IsLawfulEntry, drain, freecube}
+use Rattle.ce_model.proofs.OneMore.{hoststore-more, armed-more, dispatched-more}
+use Rattle.ce_model.proofs.AloneByEntries.{asked_by-host_call}
+use Rattle.ce_solo.proofs.Counting.{same_id-self, hit, hit-self, hit-le, same_from_hit, count, count-cons, count-is}
+use Rattle.ce_solo.proofs.Items.{parcel_ids}
+use Rattle.ce_solo.proofs.Totals.{total, total-is, total-le}
+use Rattle.ce_solo.proofs.Room.{held_blocks, few-blocks}
+use Rattle.ce_solo.proofs.Renaming.Grants.{renaming}
+use Rattle.ce_solo.proofs.Projection.Numbers.{IsPlaced, relative_host, block_in_out}
+use Rattle.ce_solo.proofs.Projection.Law.{projected, after-more}
+use Rattle.ce_cube.specs.Boxes.{draining, store_now, IsMadeBy, IsAccepted}
+use Rattle.ce_cube.specs.Laws.{ArmsAllow, DrainsFit, HostsFit, HostsSend, HostsTake}
+use Rattle.ce_cube.specs.Rounds.{dispatches_left}
+use Rattle.ce_model.proofs.Walked.{each-more}
+use Rattle.ce_solo.proofs.Projection.Held.{held-own}
+use Rattle.ce_cube.proofs.Held.{Seen, seen, placed-grant, by_cube}
+use Rattle.ce_cube.proofs.Users.{user-within}
+use Rattle.ce_cube.proofs.Adds.{answer-made, one-more}
+use Rattle.ce_cube.proofs.Names.{count-outward}
+use Rattle.ce_cube.proofs.Replies.{numbered-renamed}
+
+-- names don't matter for a machine's limits
+limits-renamed : (rename : BlockId → BlockId) (call : Call) → IsWithinLimits call → IsWithinLimits (call_with rename call)
+limits-renamed rename (sends pid to bytes) is = is
+limits-renamed rename (spawns pid image to) is = tt
+limits-renamed rename (kills pid to) is = tt
+limits-renamed rename (arms count) is = is
+limits-renamed rename (takes asking dead poller) is = tt
+limits-renamed rename (notes pid word) is = tt
+limits-renamed rename looks is = tt
+limits-renamed rename takes_mail is = tt
+
+-- the first of a store is out of it
+first_out : (id : BlockId) (store : List BlockId) → slice_get store 0 ≡ Some id → without_id id store ≡ drop 1 store
+first_out id [] e = absurd (cc)
+first_out id (x ∷ store) e =
+    let same : x ≡ id = ap (λ found. elim found [ None ↦ id | Some y ↦ y ]) e in
+    let is : is_same_id id x ≡ true = subst (λ y. is_same_id id y ≡ true) (sym same) (same_id-self id) in
+    rw is refl
+
+first_in : (P : BlockId → Type 0) (id : BlockId) (store : List BlockId) → AllByRecursion P store → slice_get store 0 ≡ Some id → P id
+first_in P id [] all e = absurd (cc)
+first_in P id (x ∷ store) all e = subst P (ap (λ found. elim found [ None ↦ id | Some y ↦ y ]) e) all.0
+
+-- the block of a parcel that was found is among those that wait
+found-waits : (number : ℕ) (items : List Item) (parcel : Parcel) → parcel_numbered number items ≡ Some parcel → 1 ≤ count parcel.block.id (parcel_ids items)
+found-waits number [] parcel e = absurd (cc)
+found-waits number (start pid image ∷ items) parcel e = found-waits number items parcel e
+found-waits number (kill pid ∷ items) parcel e = found-waits number items parcel e
+found-waits number (mail other ∷ items) parcel e =
+    elim (cases_Bool (number == other.number)) [
+      | inl here ↦
+          let some : Some other ≡ Some parcel = rw here at e in
+          let same : other ≡ parcel = cc in
+          omega (arith, count-cons parcel.block.id other.block.id (parcel_ids items), ap (λ (p : Parcel). count parcel.block.id (p.block.id ∷ parcel_ids items)) same, count-cons parcel.block.id parcel.block.id (parcel_ids items), hit-self parcel.block.id)
+      | inr past ↦
+          let later : parcel_numbered number items ≡ Some parcel = rw past at e in
+          omega (arith, found-waits number items parcel later, count-cons parcel.block.id other.block.id (parcel_ids items))
+    ]
+
+-- a node without processes, which stores what it hears of
+keeper : List BlockId → Node
+keeper store = record { number = 0; dim = 0; home = 0; images = 0; processes = []; store = store; polling = []; turn = None }
+
+keeper-stores : (images : List ImageParts) (grant : CubeGrant) (store : List BlockId) (parcel : Parcel)
+    → hears images (node_outward grant (keeper store)) (mail_of parcel) ≡ record (node_outward grant (keeper store)) { store = put parcel.block.id (map (block_outward grant) store) }
+unfolding hears keeper
+keeper-stores images grant store parcel = refl
+
+put-outward : (dim : ℕ) (grant : CubeGrant) (placed : IsPlaced dim grant) (store : List BlockId) (parcel : Parcel) → AllByRecursion (IsBlockOf grant.dim) store
+    → IsBlockOf grant.dim parcel.block.id → map (block_outward grant) (put parcel.block.id store) ≡ put (block_outward grant parcel.block.id) (map (block_outward grant) store)
+unfolding hears keeper
+put-outward dim grant placed store parcel all of =
+    ap (λ (node : Node). node.store) (sym ((renaming dim grant (keeper store) (placed-grant dim grant placed) (subst (AllByRecursion (IsBlockOf grant.dim)) (sym (append-nil store)) all)).1 [] (mail_of parcel) of))
+
+module _ (parts : MachineParts) (history : List Entry) (machine : IsMachine parts) (lawful : IsLawful parts history) (cube : HeldCube)
+    (holds : held_by (after history) cube.grant.user ≡ Some cube) (goes : cube.drained ≡ false) where
+  abbrev now : Seen parts history cube
+  now = seen parts history cube machine lawful holds goes
+
+  abbrev own : Cube
+  own = cube_of parts.images cube.grant
+
+  abbrev s : CubeState
+  s = left_by own (opening own) (view history cube.number)
+
+  abbrev out : BlockId → BlockId
+  out = block_outward cube.grant
+
+  store-blocks : AllByRecursion (IsBlockOf cube.grant.dim) s.hoststore
+  store-blocks = held_blocks own s s.hoststore now.stands.sound (λ id. omega (arith, total-is id cube.grant.dim s))
+
+  fits-by : (asked : HostCall) (call : Call) → host_call own s.hoststore asked ≡ Some call → IsWithinLimits call
+      → Fits parts history cube.grant.user HOST (in_cube (call_with out call))
+  fits-by asked call e within =
+      let was = (projected parts history machine lawful).held cube.grant.user cube holds in
+      let host = relative_host parts.dim cube.grant now.placed in
+      let of : IsCallOf parts history HOST (call_with out call) cube = record {
+        made = call;
+        inside = inl refl;
+        next = ap (λ actor. call_by own (opening own) (view history cube.number) actor (asked_by call)) host
+            ∙ ap (option_and_then (host_call own s.hoststore)) (asked_by-host_call own s.hoststore asked call e) ∙ e;
+        renamed = refl;
+        within = λ host. limits-renamed out call within;
+        not_drained = goes;
+      } in (
+        user-within parts history cube.number cube.grant was.behind lawful was.found,
+        subst (λ held. IsSomeAnd held (IsCallOf parts history HOST (call_with out call))) (sym holds) of,
+      )
+
+  -- the host's store behind an entry of its own
+  module _ (asked : HostCall) (call : Call) (is : host_call own s.hoststore asked ≡ Some call) (within : IsWithinLimits call) (entry : Entry)
+      (made : IsMadeBy parts history cube.grant HOST (call_with out call) entry) where
+    abbrev inner : Entry
+    inner = entry_inward cube.grant.sub entry
+
+    store-next : store_now parts (history ++ entry ∷ []) cube.number cube.grant ≡ stored_by (s.standing.node_record HOST).waiting s.hoststore inner.what
+    store-next =
+        let more = one-more parts history machine lawful cube holds goes HOST (call_with out call) entry (fits-by asked call is within) made in
+        let actor : inner.actor ≡ HOST = ap (relative cube.grant.sub) made.actor_is ∙ relative_host parts.dim cube.grant now.placed in
+        ap (hoststore (opening own)) more.trace
+        ∙ hoststore-more (opening own) (view history cube.number) inner
+        ∙ ap (λ n. if n == HOST then stored_by (s.standing.node_record HOST).waiting s.hoststore inner.what else s.hoststore) actor
+
+  -- ---- it allows dispatches
+
+  arm-allows : (count : ℕ) (entry : Entry) → count ≤ greatest_count → IsMadeBy parts history cube.grant HOST (arms count) entry
+      → dispatches_left parts (history ++ entry ∷ []) cube.number cube.grant ≡ count
+  unfolding answer
+  arm-allows count entry within made =
+      let o = (opening own).standing in
+      let t = view history cube.number in
+      let inner = entry_inward cube.grant.sub entry in
+      let more = one-more parts history machine lawful cube holds goes HOST (arms count) entry (fits-by (allow count) (arms count) refl within) made in
+      let what : inner.what ≡ Arm count =
+      ap (what_renamed (place_inward cube.grant.sub) (block_inward cube.grant.sub)) (sym (answer-made parts history cube HOST (arms count) entry holds made)) in
+      omega (
+        arith,
+        ap (armed o) more.trace ∙ armed-more o t inner ∙ ap (armed_by (armed o t)) what,
+        ap (dispatched o) more.trace ∙ dispatched-more o t inner ∙ ap (dispatched_by (dispatched o t)) what,
+      )
+
+  -- ---- it gives its cube back
+
+  drain-fits : Fits parts history cube.grant.user HOST drain
+  drain-fits =
+      let was = (projected parts history machine lawful).held cube.grant.user cube holds in (
+        user-within parts history cube.number cube.grant was.behind lawful was.found,
+        (refl, subst (λ held. IsSomeAnd held (λ one. one.drained ≡ false)) (sym holds) goes),
+      )
+
+  drained_held : held_by (after (history ++ draining cube.grant ∷ [])) cube.grant.user ≡ Some (record cube { drained = true; mail = [] })
+  drained_held =
+      ap (λ (state : MachineState). held_by state cube.grant.user) (after-more history (draining cube.grant))
+      ∙ held-own cube.grant.user (λ one. record one { drained = true; mail = [] }) (λ one. refl) (λ one node kept. record kept { waiting = [] }) (after history) cube holds
+
+  drains-fit : Fits parts history cube.grant.user HOST drain × IsLawful parts (history ++ draining cube.grant ∷ [])
+      × Fits parts (history ++ draining cube.grant ∷ []) cube.grant.user HOST freecube
+  drains-fit = (
+    drain-fits,
+    each-more (IsLawfulEntry parts) history (draining cube.grant) lawful (record { request = drain; fits = drain-fits; answer = refl }),
+    (drain-fits.0, (refl, subst (λ held. IsSomeAnd held (λ one. one.drained ≡ true)) (sym drained_held) refl)),
+  )
+
+  -- ---- it sends
+
+  module _ (to : Place) (id : BlockId) (bytes : List ℕ) (least : slice_get s.hoststore 0 ≡ Some id) (place : is_place cube.grant.dim to ≡ true)
+      (short : length bytes ≤ block_room) (entry : Entry) (made : IsMadeBy parts history cube.grant HOST (sends 0 ((to, out id) ∷ []) bytes) entry) where
+    sent-is : entry.what ≡ Send 0 cube.parcel_count ((place_outward cube.grant.sub to, out id) ∷ []) bytes
+    unfolding answer
+    sent-is = sym (answer-made parts history cube HOST (sends 0 ((to, out id) ∷ []) bytes) entry holds made)
+
+    asked-is : host_call own s.hoststore (send_bytes to bytes) ≡ Some (sends 0 ((to, id) ∷ []) bytes)
+    asked-is = rw (place, least) refl
+
+    send-next : store_now parts (history ++ entry ∷ []) cube.number cube.grant ≡ drop 1 s.hoststore
+    send-next =
+        store-next (send_bytes to bytes) (sends 0 ((to, id) ∷ []) bytes) asked-is short entry made
+        ∙ ap (λ what. stored_by (s.standing.node_record HOST).waiting s.hoststore (what_renamed (place_inward cube.grant.sub) (block_inward cube.grant.sub) what)) sent-is
+        ∙ ap (λ id. without_id id s.hoststore)
+        (block_in_out parts.dim cube.grant now.placed id (first_in (IsBlockOf cube.grant.dim) id s.hoststore store-blocks least))
+        ∙ first_out id s.hoststore least
+
+  -- ---- it takes
+
+  module _ (number : ℕ) (entry : Entry) (made : IsMadeBy parts history cube.grant HOST takes_mail entry) (what : entry.what ≡ HostTake (Some number)) where
+    abbrev items : List Item
+    items = (s.standing.node_record HOST).waiting
+
+    module _ (parcel : Parcel) (found : parcel_numbered number items ≡ Some parcel) where
+      once_with : (id : BlockId) → count id (parcel.block.id ∷ s.hoststore) ≤ total id cube.grant.dim s
+      once_with id =
+          elim (cases_lt (hit id parcel.block.id) 1) [
+            | inl other ↦ omega (arith, other, count-cons id parcel.block.id s.hoststore, total-is id cube.grant.dim s)
+            | inr same ↦
+                omega (
+                  arith,
+                  hit-le id parcel.block.id,
+                  count-cons id parcel.block.id s.hoststore,
+                  total-is id cube.grant.dim s,
+                  found-waits number items parcel found,
+                  ap (λ id. count id (parcel_ids items)) (same_from_hit id parcel.block.id same),
+                )
+          ]
+
+      own-blocks : AllByRecursion (IsBlockOf cube.grant.dim) (parcel.block.id ∷ s.hoststore)
+      own-blocks = held_blocks own s (parcel.block.id ∷ s.hoststore) now.stands.sound once_with
+
+      few : length (parcel.block.id ∷ s.hoststore) ≤ (2 ^ cube.grant.dim + 1) * home_blocks
+      few = few-blocks own (parcel.block.id ∷ s.hoststore) now.of own-blocks (λ id. omega (arith, once_with id, total-le own s id now.stands.sound))
+
+      accepted : IsAccepted parts history cube.number cube.grant entry (parcel_with out parcel)
+      accepted = record {
+        new =
+            let id = parcel.block.id in
+            omega (arith, count-outward parts.dim cube.grant now.placed id s.hoststore own-blocks.0 own-blocks.1, count-is id s.hoststore, once_with id, total-le own s id now.stands.sound, count-cons id id s.hoststore, hit-self id);
+        room =
+            let more : 2 ^ cube.grant.dim ≤ 2 ^ greatest_dim = pow_mono now.of.dim in
+            omega (arith, few, more, ap (λ n. (2 ^ cube.grant.dim + 1) * n) home_blocks_lem, ap (λ n. (2 ^ greatest_dim + 1) * n) home_blocks_lem);
+        stored =
+            ap (map out) (store-next take_message takes_mail refl tt entry made
+            ∙ ap (λ what. stored_by items s.hoststore (what_renamed (place_inward cube.grant.sub) (block_inward cube.grant.sub) what)) what
+            ∙ ap (with_parcel s.hoststore) found)
+            ∙ put-outward parts.dim cube.grant now.placed s.hoststore parcel own-blocks.1 own-blocks.0;
+      }
+
+    take-next : (parcel : Parcel) (found : Option Parcel) → parcel_numbered number items ≡ found → option_map (parcel_with out) found ≡ Some parcel
+        → IsAccepted parts history cube.number cube.grant entry parcel
+    take-next parcel None is e = absurd (cc)
+    take-next parcel (Some own) is e =
+        subst (IsAccepted parts history cube.number cube.grant entry) (ap (λ found. elim found [ None ↦ parcel | Some p ↦ p ]) e) (accepted own is)
+
+    taken-next : (parcel : Parcel) → HoldsCube history cube.grant.user (λ cube. parcel_numbered number cube.mail ≡ Some parcel)
+        → IsAccepted parts history cube.number cube.grant entry parcel
+    taken-next parcel is =
+        let here = subst (λ held. IsSomeAnd held (λ one. parcel_numbered number one.mail ≡ Some parcel)) holds is in
+        take-next parcel (parcel_numbered number items) refl (sym (ap (parcel_numbered number) now.standing.host ∙ numbered-renamed out number items) ∙ here)
+
+pub hosts-fit : HostsFit
+hosts-fit parts history number grant machine lawful held asked call is within =
+    by_cube
+    (λ number grant. host_call (cube_of parts.images grant) (store_now parts history number grant) asked ≡ Some call
+    → Fits parts history grant.user HOST (in_cube (call_with (block_outward grant) call))) history number grant
+    (λ cube holds goes is. fits-by parts history machine lawful cube holds goes asked call is within) held is
+
+pub hosts-send : HostsSend
+hosts-send parts history number grant machine lawful held to id bytes entry least place short made =
+    by_cube
+    (λ number grant. slice_get (store_now parts history number grant) 0 ≡ Some id → is_place grant.dim to ≡ true
+    → IsMadeBy parts history grant HOST (sends 0 ((to, block_outward grant id) ∷ []) bytes) entry
+    → store_now parts (history ++ entry ∷ []) number grant ≡ drop 1 (store_now parts history number grant)) history number grant
+    (λ cube holds goes least place made. send-next parts history machine lawful cube holds goes to id bytes least place short entry made) held least place made
+
+pub hosts-take : HostsTake
+hosts-take parts history number grant machine lawful held number' parcel entry made what is =
+    by_cube
+    (λ number grant. IsMadeBy parts history grant HOST takes_mail entry → HoldsCube history grant.user (λ cube. parcel_numbered number' cube.mail ≡ Some parcel)
+    → IsAccepted parts history number grant entry parcel) history number grant
+    (λ cube holds goes made is. taken-next parts history machine lawful cube holds goes number' entry made what parcel is) held made is
+
+pub arms-allow : ArmsAllow
+arms-allow parts history number grant machine lawful held count entry within made =
+    by_cube
+    (λ number grant. IsMadeBy parts history grant HOST (arms count) entry → dispatches_left parts (history ++ entry ∷ []) number grant ≡ count) history number grant
+    (λ cube holds goes made. arm-allows parts history machine lawful cube holds goes count entry within made) held made
+
+pub drains-fit-held : DrainsFit
+drains-fit-held parts history number grant machine lawful held =
+    by_cube
+    (λ number grant. Fits parts history grant.user HOST drain × IsLawful parts (history ++ draining grant ∷ [])
+    × Fits parts (history ++ draining grant ∷ []) grant.user HOST freecube) history number grant
+    (λ cube holds goes. drains-fit parts history machine lawful cube holds goes) held

@@ -1,0 +1,128 @@
+-- What a node hears in the program by the machine's reply is what the node of the cube hears, with the machine's names.
+use Rattle.std.proofs.Common.{◌≡◌, ℕ, true, false, if◌then◌else◌, Bool, List, [], ◌∷◌, map, find, Option, Some, None, option_map, option_and_then, refl, ap, sym, ◌∙◌}
+use Rattle.std.specs.List.{AllByRecursion}
+use Rattle.ce_model.specs.declared.topology.Place.{Place}
+use Rattle.ce_model.specs.declared.topology.BlockId.{BlockId}
+use Rattle.ce_model.specs.declared.entry.What.{What}
+use Rattle.ce_model.specs.declared.entry.What.TheVariants as entry
+use Rattle.ce_model.specs.declared.entry.KillFound.{KillFound}
+use Rattle.ce_model.specs.declared.entry.KillFound.TheVariants as found
+use Rattle.ce_model.specs.declared.entry.Given.{Given}
+use Rattle.ce_model.specs.declared.entry.Given.TheVariants as given
+use Rattle.ce_model.specs.Parcels as model
+use Rattle.ce_model.specs.Parcels.{Item, start, mail, kill, is_named_by, parcel_in}
+use Rattle.ce_model.specs.Hearing.{mail_of, nothing, told}
+use Rattle.ce_model.specs.Cube.{parcel_numbered, heard_parcel, heard_given, heard_in, kill_answer}
+use Rattle.ce_model.specs.Renaming.{parcel_with, item_with, heard_with, what_renamed}
+use Rattle.rk_mail.specs.declared.talk.Heard.{Heard}
+use Rattle.rk_mail.specs.Talk.{heard_as, heard_of_kill, IsGiven, IsHeardIn}
+use Rattle.ce_solo.specs.Laws.{IsHeardOf}
+use Rattle.ce_solo.proofs.Items.{parcel_ids}
+use Rattle.ce_solo.proofs.Made.{find-all}
+use Rattle.ce_model.specs.Owners.{IsBlockOf}
+
+module _ (rename : BlockId → BlockId) where
+  named-renamed : (given : Given) (item : Item) → is_named_by given (item_with rename item) ≡ is_named_by given item
+  named-renamed (given.Start pid image) (start other number) = refl
+  named-renamed (given.Start pid image) (mail parcel) = refl
+  named-renamed (given.Start pid image) (kill other) = refl
+  named-renamed (given.Mail pid number) (start other image) = refl
+  named-renamed (given.Mail pid number) (mail parcel) = refl
+  named-renamed (given.Mail pid number) (kill other) = refl
+  named-renamed (given.Kill pid) (start other image) = refl
+  named-renamed (given.Kill pid) (mail parcel) = refl
+  named-renamed (given.Kill pid) (kill other) = refl
+  named-renamed (given.Poll pid) item = refl
+  named-renamed given.Idle item = refl
+  named-renamed given.Spent item = refl
+
+  found_of : (b : Bool) (item : Item) (rest rest' : Option Item) → rest' ≡ option_map (item_with rename) rest
+      → (if b then Some (item_with rename item) else rest') ≡ option_map (item_with rename) (if b then Some item else rest)
+  found_of true item rest rest' same = refl
+  found_of false item rest rest' same = same
+
+  find-named : (given : Given) (items : List Item) → find (is_named_by given) (map (item_with rename) items) ≡ option_map (item_with rename) (find (is_named_by given) items)
+  find-named given [] = refl
+  find-named given (item ∷ items) =
+      rw (named-renamed given item)
+      (found_of (is_named_by given item) item (find (is_named_by given) items) (find (is_named_by given) (map (item_with rename) items)) (find-named given items))
+
+  parcel_in-renamed : (found : Option Item) → option_and_then parcel_in (option_map (item_with rename) found) ≡ option_map (parcel_with rename) (option_and_then parcel_in found)
+  parcel_in-renamed None = refl
+  parcel_in-renamed (Some (start pid image)) = refl
+  parcel_in-renamed (Some (mail parcel)) = refl
+  parcel_in-renamed (Some (kill pid)) = refl
+
+  pub numbered-renamed : (number : ℕ) (items : List Item) → parcel_numbered number (map (item_with rename) items) ≡ option_map (parcel_with rename) (parcel_numbered number items)
+  numbered-renamed number items =
+      ap (option_and_then parcel_in) (find-named (given.Mail 0 number) items) ∙ parcel_in-renamed (find (is_named_by (given.Mail 0 number)) items)
+
+  mail-heard : (found : Option model.Parcel) (parcel : model.Parcel) → option_map (parcel_with rename) found ≡ Some parcel → mail_of parcel ≡ heard_with rename (heard_parcel found)
+  mail-heard None parcel e = absurd (cc)
+  mail-heard (Some own) parcel e = ap (λ found. elim found [ None ↦ nothing | Some p ↦ mail_of p ]) (sym e)
+
+  given-heard : (items : List Item) (given : Given) (heard : Heard) → IsGiven (map (item_with rename) items) given heard
+      → heard_as heard ≡ heard_with rename (heard_given items given)
+  given-heard items (given.Start pid image) heard is = ap heard_as is
+  given-heard items (given.Mail pid number) heard is =
+      ap heard_as is.1 ∙ mail-heard (parcel_numbered number items) _ (sym (numbered-renamed number items) ∙ is.2)
+  given-heard items (given.Kill pid) heard is = ap heard_as is
+  given-heard items (given.Poll pid) heard is = ap heard_as is
+  given-heard items given.Idle heard is = ap heard_as is
+  given-heard items given.Spent heard is = ap heard_as is
+
+  fresh-heard : (fresh : Bool) (heard : Heard) → IsHeardIn [] (entry.Spawn 0 0 (record { node = 0; pid = 0 }) fresh) heard → heard_as heard ≡ told (if fresh then 0 else 2)
+  fresh-heard true heard is = ap heard_as is
+  fresh-heard false heard is = ap heard_as is
+
+  kill-heard : (found : KillFound) (heard : Heard) → heard ≡ heard_of_kill found → heard_as heard ≡ told (kill_answer found)
+  kill-heard found.Killed heard is = ap heard_as is
+  kill-heard found.Unused heard is = ap heard_as is
+  kill-heard found.Already heard is = ap heard_as is
+
+  -- an entry's places and blocks may have any names
+  pub reply-heard : (place : Place → Place) (block : BlockId → BlockId) (items : List Item) (what : What) (heard : Heard) → IsHeardIn (map (item_with rename) items) what heard
+      → heard_as heard ≡ heard_with rename (heard_in items (what_renamed place block what))
+  reply-heard place block items (entry.Take asking dead poller given) heard is = given-heard items given heard is
+  reply-heard place block items (entry.Send pid first to bytes) heard is = ap heard_as is
+  reply-heard place block items (entry.Spawn pid image to fresh) heard is = fresh-heard fresh heard is
+  reply-heard place block items (entry.Kill pid to found) heard is = kill-heard found heard is
+  reply-heard place block items (entry.Note pid word) heard is = ap heard_as is
+  reply-heard place block items other heard is = absurd is
+
+-- ---- whose block comes with a parcel
+
+abbrev IsItemIn : ℕ → Item → Type 0
+IsItemIn dim (mail parcel) = IsBlockOf dim parcel.block.id
+IsItemIn dim other = Unit {0}
+
+items_in : (dim : ℕ) (items : List Item) → AllByRecursion (IsBlockOf dim) (parcel_ids items) → AllByRecursion (IsItemIn dim) items
+items_in dim [] all = tt
+items_in dim (start pid image ∷ items) all = (tt, items_in dim items all)
+items_in dim (mail parcel ∷ items) all = (all.0, items_in dim items all.1)
+items_in dim (kill pid ∷ items) all = (tt, items_in dim items all)
+
+found_in : (dim : ℕ) (found : Option Item) → ((item : Item) → found ≡ Some item → IsItemIn dim item) → IsHeardOf dim (heard_parcel (option_and_then parcel_in found))
+found_in dim None is = tt
+found_in dim (Some (start pid image)) is = tt
+found_in dim (Some (mail parcel)) is = is (mail parcel) refl
+found_in dim (Some (kill pid)) is = tt
+
+given_in : (dim : ℕ) (items : List Item) (given : Given) → AllByRecursion (IsItemIn dim) items → IsHeardOf dim (heard_given items given)
+given_in dim items (given.Start pid image) all = tt
+given_in dim items (given.Mail pid number) all =
+    found_in dim (find (is_named_by (given.Mail 0 number)) items) (λ item e. find-all (IsItemIn dim) (is_named_by (given.Mail 0 number)) items item all e)
+given_in dim items (given.Kill pid) all = tt
+given_in dim items (given.Poll pid) all = tt
+given_in dim items given.Idle all = tt
+given_in dim items given.Spent all = tt
+
+heard_in-in : (dim : ℕ) (items : List Item) (what : What) → AllByRecursion (IsItemIn dim) items → IsHeardOf dim (heard_in items what)
+heard_in-in dim items (entry.Take asking dead poller given) all = given_in dim items given all
+heard_in-in dim items (entry.Send pid first to bytes) all = tt
+heard_in-in dim items (entry.Spawn pid image to fresh) all = tt
+heard_in-in dim items (entry.Kill pid to found) all = tt
+heard_in-in dim items other all = tt
+
+pub heard-of : (dim : ℕ) (items : List Item) (what : What) → AllByRecursion (IsBlockOf dim) (parcel_ids items) → IsHeardOf dim (heard_in items what)
+heard-of dim items what all = heard_in-in dim items what (items_in dim items all)

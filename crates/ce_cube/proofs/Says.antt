@@ -1,0 +1,84 @@
+-- What a box says that stands for a node is the node's next call, which fits.
+use Rattle.std.proofs.Common.{◌≡◌, ℕ, ◌^◌, ◌<◌, true, false, ◌==◌, IsTrue, IsSomeAnd, List, Option, Some, refl, ap, sym, ◌∙◌, subst, inr}
+use Rattle.std.proofs.lemmas.Bool.{both_ways, lt-ltb}
+use Rattle.ce_model.specs.declared.topology.TheConstants.{HOST}
+use Rattle.ce_model.specs.declared.topology.BlockId.{BlockId}
+use Rattle.ce_model.specs.declared.entry.Entry.{Entry}
+use Rattle.ce_model.specs.Node.{Node, Call, takes, sends, spawns, kills, notes, arms, looks, takes_mail}
+use Rattle.ce_model.specs.Saying.{Saying, says}
+use Rattle.ce_model.specs.Cube.{Cube, CubeState, opening, call_by, HostCall, asked_by, next_call}
+use Rattle.ce_model.specs.Subcubes.{node_of}
+use Rattle.ce_model.specs.Renaming.{block_outward, call_with}
+use Rattle.ce_model.specs.Views.{view}
+use Rattle.ce_model.specs.Machine.{MachineParts, IsMachine, HeldCube, IsLawful, IsCallOf, after, held_by, cube_of}
+use Rattle.ce_model.proofs.Subcubes.{is_inside-node_of}
+use Rattle.ce_script.specs.Rounds.{asks_for_work}
+use Rattle.ce_solo.proofs.Projection.Numbers.{node_no_host, out_no_host, relative_out}
+use Rattle.ce_solo.proofs.Projection.Law.{projected}
+use Rattle.ce_cube.specs.Boxes.{node_now, StandsFor, IsSaidBy}
+use Rattle.ce_cube.specs.Laws.{BoxesSay}
+use Rattle.ce_cube.proofs.Held.{Seen, seen, by_cube}
+use Rattle.ce_cube.proofs.Users.{user-within}
+use Rattle.ce_cube.proofs.Seats.{box-says, box-again}
+
+-- a call asks for work by whatever names
+pub asks-renamed : (rename : BlockId → BlockId) (call : Call) → asks_for_work (call_with rename call) ≡ asks_for_work call
+asks-renamed rename (takes asking dead poller) = refl
+asks-renamed rename (sends pid to bytes) = refl
+asks-renamed rename (spawns pid image to) = refl
+asks-renamed rename (kills pid to) = refl
+asks-renamed rename (notes pid word) = refl
+asks-renamed rename (arms count) = refl
+asks-renamed rename looks = refl
+asks-renamed rename takes_mail = refl
+
+-- a node makes the call that it says
+call_by-node : (cube : Cube) (o : CubeState) (t : List Entry) (r : ℕ) (asked : Option HostCall) → (r == HOST) ≡ false → r < 2 ^ cube.dim
+    → call_by cube o t r asked ≡ Some (next_call cube o r t)
+call_by-node cube o t r asked node below = let is = lt-ltb r (2 ^ cube.dim) below in rw (node, is) refl
+
+module _ (parts : MachineParts) (history : List Entry) (machine : IsMachine parts) (lawful : IsLawful parts history) (cube : HeldCube)
+    (holds : held_by (after history) cube.grant.user ≡ Some cube) (goes : cube.drained ≡ false) (r : ℕ) (below : r < 2 ^ cube.grant.dim) where
+  abbrev now : Seen parts history cube
+  now = seen parts history cube machine lawful holds goes
+
+  abbrev node : Node
+  node = node_now parts history cube.number cube.grant r
+
+  call-of : (call : Call) → call ≡ call_with (block_outward cube.grant) (says node).call → IsCallOf parts history (node_of cube.grant.sub r) call cube
+  call-of call is =
+      let own = cube_of parts.images cube.grant in
+      record {
+        made = (says node).call;
+        inside = inr (is_inside-node_of cube.grant.sub r now.placed.sub.apart (rw now.placed.sub.dimension below));
+        next = ap (λ actor. call_by own (opening own) (view history cube.number) actor (asked_by (says node).call)) (relative_out parts.dim cube.grant now.placed r below)
+            ∙ call_by-node own (opening own) (view history cube.number) r (asked_by (says node).call) (node_no_host parts.dim cube.grant now.placed r below) below;
+        renamed = sym is;
+        within = λ host. absurd (both_ways _ (out_no_host parts.dim cube.grant now.placed r) host);
+        not_drained = goes;
+      }
+
+  pub says-of : (box : Node) → StandsFor cube.grant node box → IsSaidBy parts history cube.number cube.grant r box
+  says-of box stands =
+      let said = box-says parts history cube now r below box stands in
+      let call = ap (λ (saying : Saying). saying.call) said in
+      let was = (projected parts history machine lawful).held cube.grant.user cube holds in
+      record {
+        at_rest = ap (λ (saying : Saying). saying.node) said;
+        call = call;
+        fits = (
+          user-within parts history cube.number cube.grant was.behind lawful was.found,
+          subst (λ held. IsSomeAnd held (IsCallOf parts history (node_of cube.grant.sub r) (says box).call)) (sym holds) (call-of (says box).call call),
+        );
+        again = λ work. box-again parts history cube now r below box stands (asks call work);
+        in_step = λ work. record { at_rest = ap (λ (saying : Saying). saying.node) said; asks = asks call work };
+      }
+    where
+      asks : (says box).call ≡ call_with (block_outward cube.grant) (says node).call → IsTrue (asks_for_work (says box).call) → asks_for_work (says node).call ≡ true
+      asks call work = sym (asks-renamed (block_outward cube.grant) (says node).call) ∙ ap asks_for_work (sym call) ∙ work
+
+pub boxes-say : BoxesSay
+boxes-say parts history number grant machine lawful held r box below stands =
+    by_cube
+    (λ number grant. r < 2 ^ grant.dim → StandsFor grant (node_now parts history number grant r) box → IsSaidBy parts history number grant r box)
+    history number grant (λ cube holds goes below stands. says-of parts history machine lawful cube holds goes r below box stands) held below stands

@@ -1,0 +1,84 @@
+-- A node of a cube that is held, and the box that stands for it: both say the same, with other names.
+use Rattle.std.proofs.Common.{◌≡◌, ℕ, ◌^◌, ◌<◌, ◌≤◌, IsTrue, List, refl, ap, sym, ◌∙◌, inl, inr, arith}
+use Rattle.std.specs.List.{AllByRecursion}
+use Rattle.ce_model.specs.declared.topology.BlockId.{BlockId}
+use Rattle.ce_model.specs.declared.entry.Entry.{Entry}
+use Rattle.ce_model.specs.Node.{Node, Call, takes, sends, spawns, kills, notes, arms, looks, takes_mail, blocks_of}
+use Rattle.ce_model.specs.Saying.{Saying, says, says_in}
+use Rattle.ce_model.specs.Hearing.{Heard, hears}
+use Rattle.ce_model.specs.Cube.{Cube, CubeState, opening, left_by}
+use Rattle.ce_model.specs.Renaming.{block_outward, heard_with, node_outward, saying_outward}
+use Rattle.ce_model.specs.Owners.{IsBlockOf}
+use Rattle.ce_model.specs.Views.{view}
+use Rattle.ce_model.specs.Machine.{MachineParts, HeldCube, cube_of}
+use Rattle.ce_script.specs.Rounds.{asks_for_work}
+use Rattle.ce_solo.specs.Laws.{IsNodeOf, IsHeardOf}
+use Rattle.ce_solo.proofs.Counting.{count, count-nil, sum_run-part}
+use Rattle.ce_solo.proofs.Items.{parcel_ids}
+use Rattle.ce_solo.proofs.Totals.{at_node, at_node-is, total, total-is}
+use Rattle.ce_solo.proofs.Room.{held_blocks}
+use Rattle.ce_solo.proofs.Words.{Leaves, IsCallOf}
+use Rattle.ce_solo.proofs.Made.{made-leaves}
+use Rattle.ce_solo.proofs.Renaming.Grants.{renaming}
+use Rattle.ce_cube.specs.Boxes.{StandsFor}
+use Rattle.ce_cube.proofs.Held.{Seen, placed-grant}
+
+-- a node that asked for work asks so again
+pub asks_again : (node : Node) (call : Call) → IsCallOf node call → IsTrue (asks_for_work call) → says node ≡ record { node = node; call = call }
+unfolding says
+asks_again node (takes asking dead poller) of asks = ap (says_in node) of.1 ∙ ap (λ (call : Call). record { node = node; call = call }) (sym of.0)
+asks_again node (sends pid to bytes) of asks = absurd (cc)
+asks_again node (spawns pid image to) of asks = absurd (cc)
+asks_again node (kills pid to) of asks = absurd (cc)
+asks_again node (notes pid word) of asks = absurd (cc)
+asks_again node (arms count) of asks = absurd of
+asks_again node looks of asks = absurd of
+asks_again node takes_mail of asks = absurd of
+
+module _ (parts : MachineParts) (history : List Entry) (cube : HeldCube) (now : Seen parts history cube) (r : ℕ) (below : r < 2 ^ cube.grant.dim) where
+  abbrev pub own : Cube
+  own = cube_of parts.images cube.grant
+
+  abbrev pub s : CubeState
+  s = left_by own (opening own) (view history cube.number)
+
+  at_most : (id : BlockId) → at_node id s r ≤ total id cube.grant.dim s
+  at_most id = omega (arith, total-is id cube.grant.dim s, sum_run-part (at_node id s) r 0 (2 ^ cube.grant.dim) (omega arith) (omega (arith, below)))
+
+  pub node-said : Leaves (s.node r) (says (s.node r)).node (says (s.node r)).call
+  node-said = made-leaves own s r (says (s.node r)).call now.of below now.stands.sound refl
+
+  node-blocks : IsNodeOf cube.grant.dim (s.node r)
+  node-blocks = held_blocks own s (blocks_of (s.node r)) now.stands.sound (λ id. omega (arith, at_node-is id s r, at_most id))
+
+  pub rest-blocks : IsNodeOf cube.grant.dim (says (s.node r)).node
+  rest-blocks =
+      held_blocks own s (blocks_of (says (s.node r)).node) now.stands.sound
+      (λ id. omega (arith, at_node-is id s r, at_most id, node-said.became.blocks id, count-nil id))
+
+  pub parcel-blocks : AllByRecursion (IsBlockOf cube.grant.dim) (parcel_ids (s.standing.node_record r).waiting)
+  parcel-blocks = held_blocks own s (parcel_ids (s.standing.node_record r).waiting) now.stands.sound (λ id. omega (arith, at_node-is id s r, at_most id))
+
+  pub rest-again : IsTrue (asks_for_work (says (s.node r)).call) → says (says (s.node r)).node ≡ says (s.node r)
+  rest-again asks = asks_again (says (s.node r)).node (says (s.node r)).call node-said.of_node asks
+
+  says_outward : (node : Node) → IsNodeOf cube.grant.dim node → says (node_outward cube.grant node) ≡ saying_outward cube.grant (says node)
+  says_outward node blocks = (renaming parts.dim cube.grant node (placed-grant parts.dim cube.grant now.placed) blocks).0
+
+  -- the box says what the node says
+  pub box-says : (box : Node) → StandsFor cube.grant (s.node r) box → says box ≡ saying_outward cube.grant (says (s.node r))
+  box-says box (inl same) = ap says same ∙ says_outward (s.node r) node-blocks
+  box-says box (inr step) =
+      ap says step.at_rest ∙ says_outward (says (s.node r)).node rest-blocks ∙ ap (saying_outward cube.grant) (rest-again step.asks)
+
+  -- and hears what it hears
+  pub rest-hears : (heard : Heard) → IsHeardOf cube.grant.dim heard
+      → hears parts.images (node_outward cube.grant (says (s.node r)).node) (heard_with (block_outward cube.grant) heard)
+      ≡ node_outward cube.grant (hears parts.images (says (s.node r)).node heard)
+  rest-hears heard is = (renaming parts.dim cube.grant (says (s.node r)).node (placed-grant parts.dim cube.grant now.placed) rest-blocks).1 parts.images heard is
+
+  -- a box at rest says again what it says where that asks for work
+  pub box-again : (box : Node) → StandsFor cube.grant (s.node r) box → IsTrue (asks_for_work (says (s.node r)).call) → says (says box).node ≡ says box
+  box-again box stands asks =
+      let said = box-says box stands in
+      box-says (says box).node (inr (record { at_rest = ap (λ (saying : Saying). saying.node) said; asks = asks })) ∙ sym said

@@ -1,0 +1,5 @@
+use Rattle.ce_cube.proofs.Resting.{rounds-rest}
+use Rattle.ce_cube.proofs.laws.rounds_rest_law.Goals as goal
+
+pub returns : goal.returns
+returns c = record { law = rounds-rest }

@@ -1,0 +1,136 @@
+-- The laws of the boxes of a cube that is held, each in one line.
+use Rattle.std.specs.Prelude.{◌≡◌, ◌⊎◌, ℕ, ◌^◌, ◌<◌, ◌≤◌, ◌==◌, ◌||◌, true, false, IsFalse, List, [], ◌∷◌, ◌++◌, length, map, drop, slice_get, Some}
+use Rattle.ce_model.specs.declared.topology.Place.{Place}
+use Rattle.ce_model.specs.declared.topology.BlockId.{BlockId}
+use Rattle.ce_model.specs.declared.entry.Entry.{Entry}
+use Rattle.ce_model.specs.Limits.{block_room, greatest_count}
+use Rattle.ce_model.specs.Parcels.{Parcel}
+use Rattle.ce_model.specs.declared.entry.What.TheVariants.{Peek, Look, HostTake}
+use Rattle.ce_model.specs.declared.entry.Found.TheVariants.{Busy}
+use Rattle.ce_model.specs.declared.topology.TheConstants.{HOST}
+use Rattle.ce_model.specs.Node.{Node, Call, arms, sends, takes_mail, looks, is_place}
+use Rattle.ce_model.specs.Saying.{says}
+use Rattle.ce_model.specs.Hearing.{hears}
+use Rattle.ce_model.specs.Subcubes.{node_of}
+use Rattle.ce_model.specs.Renaming.{CubeGrant, block_outward, call_with, node_outward}
+use Rattle.ce_model.specs.Trace.{standing}
+use Rattle.ce_model.specs.Answers.{is_quiet, is_used_up}
+use Rattle.ce_model.specs.Cube.{opening, node_numbers, HostCall, host_call, parcel_numbered}
+use Rattle.ce_model.specs.Views.{view}
+use Rattle.ce_model.specs.Machine.{MachineParts, IsMachine, IsLawful, IsLawfulEntry, IsWithinLimits, Fits, HoldsCube, getcube, drain, freecube, in_cube, answered, after, all_parcels, cube_of}
+use Rattle.rk_mail.specs.declared.talk.Heard.{Heard}
+use Rattle.ce_solo.specs.Laws.{OfEachTrace}
+use Rattle.rk_mail.specs.Talk.{heard_as}
+use Rattle.ce_script.specs.Rounds.{asks_for_work, AreTurnsOver, serial, IsRoundWithoutWork}
+use Rattle.ce_cube.specs.Hearable.{IsRightAnswer, calls_left}
+use Rattle.ce_cube.specs.Boxes.{IsHeldAs, node_now, StandsFor, AreInStep, IsAccepted, IsSaidBy, IsMadeBy, IsOneMore, IsAnswered, IsAside, granting, draining, IsBegun, store_now}
+use Rattle.ce_cube.specs.Rounds.{dispatches_left, IsEntryOf}
+use Rattle.ce_cube.specs.Rehoming.{names_in, AreAllBlocks}
+
+-- this holds of every cube that is held after a lawful history of a machine within its limits
+abbrev pub OfEachHeld : (MachineParts → List Entry → ℕ → CubeGrant → Type 0) → Type 0
+OfEachHeld P = (parts : MachineParts) (history : List Entry) (number : ℕ) (grant : CubeGrant) → IsMachine parts → IsLawful parts history
+    → IsHeldAs history number grant → P parts history number grant
+
+-- a getcube that was granted begins a cube
+abbrev pub GrantsBegin : Type 0
+GrantsBegin = (parts : MachineParts) (history : List Entry) (grant : CubeGrant) → IsMachine parts → IsLawful parts history
+    → Fits parts history grant.user HOST (getcube grant.dim)
+    → answered parts (after history) grant.user HOST (getcube grant.dim) ≡ Some (granting grant).what → IsBegun parts history grant
+
+-- what a box says that stands for a node is the node's next call, which fits
+abbrev pub BoxesSay : Type 0
+BoxesSay = OfEachHeld (λ parts history number grant. (r : ℕ) (box : Node) → r < 2 ^ grant.dim
+    → StandsFor grant (node_now parts history number grant r) box → IsSaidBy parts history number grant r box)
+
+-- a call of the cube that fits makes an entry more of the cube's trace
+abbrev pub CallsAdd : Type 0
+CallsAdd = OfEachHeld (λ parts history number grant. (actor : ℕ) (call : Call) (entry : Entry) → Fits parts history grant.user actor (in_cube call)
+    → IsMadeBy parts history grant actor call entry → IsOneMore parts history number grant entry)
+
+-- an entry of another user, or a look at the machine, leaves the cube as it is
+abbrev pub OthersKeep : Type 0
+OthersKeep = OfEachHeld (λ parts history number grant. (entry : Entry) → IsLawfulEntry parts history entry
+    → ((entry.user == grant.user) ≡ false) ⊎ (entry.what ≡ Peek) → IsAside parts history number grant entry)
+
+-- the box of the node that made an entry stands for the node behind it, once it has heard the answer
+abbrev pub BoxesHear : Type 0
+BoxesHear = OfEachHeld (λ parts history number grant. (r : ℕ) (box : Node) (entry : Entry) (heard : Heard) → r < 2 ^ grant.dim
+    → StandsFor grant (node_now parts history number grant r) box → IsMadeBy parts history grant (node_of grant.sub r) (says box).call entry
+    → IsAnswered history grant r entry.what heard
+    → hears parts.images (says box).node (heard_as heard) ≡ node_outward grant (node_now parts (history ++ entry ∷ []) number grant r))
+
+-- and it can hear that answer, which is one to its call
+abbrev pub BoxesCanHear : Type 0
+BoxesCanHear = OfEachHeld (λ parts history number grant. (r : ℕ) (box : Node) (entry : Entry) (heard : Heard) → r < 2 ^ grant.dim
+    → StandsFor grant (node_now parts history number grant r) box → IsMadeBy parts history grant (node_of grant.sub r) (says box).call entry
+    → IsAnswered history grant r entry.what heard → IsRightAnswer parts.images (says box) heard)
+
+-- by each call that asks for no work a turn has fewer calls left
+abbrev pub TurnsEnd : Type 0
+TurnsEnd = OfEachHeld (λ parts history number grant. (r : ℕ) (box : Node) (entry : Entry) (heard : Heard) → r < 2 ^ grant.dim
+    → StandsFor grant (node_now parts history number grant r) box → IsMadeBy parts history grant (node_of grant.sub r) (says box).call entry
+    → IsAnswered history grant r entry.what heard → IsFalse (asks_for_work (says box).call)
+    → calls_left (hears parts.images (says box).node (heard_as heard)) < calls_left box)
+
+-- ---- the host
+
+-- what a user has its host do fits
+abbrev pub HostsFit : Type 0
+HostsFit = OfEachHeld (λ parts history number grant. (asked : HostCall) (call : Call)
+    → host_call (cube_of parts.images grant) (store_now parts history number grant) asked ≡ Some call → IsWithinLimits call
+    → Fits parts history grant.user HOST (in_cube (call_with (block_outward grant) call)))
+
+-- a message that the host sends takes the least block out of its store
+abbrev pub HostsSend : Type 0
+HostsSend = OfEachHeld (λ parts history number grant. (to : Place) (id : BlockId) (bytes : List ℕ) (entry : Entry)
+    → slice_get (store_now parts history number grant) 0 ≡ Some id → is_place grant.dim to ≡ true → length bytes ≤ block_room
+    → IsMadeBy parts history grant HOST (sends 0 ((to, block_outward grant id) ∷ []) bytes) entry
+    → store_now parts (history ++ entry ∷ []) number grant ≡ drop 1 (store_now parts history number grant))
+
+-- a message that it takes puts its block in
+abbrev pub HostsTake : Type 0
+HostsTake = OfEachHeld (λ parts history number grant. (number' : ℕ) (parcel : Parcel) (entry : Entry) → IsMadeBy parts history grant HOST takes_mail entry
+    → entry.what ≡ HostTake (Some number') → HoldsCube history grant.user (λ cube. parcel_numbered number' cube.mail ≡ Some parcel)
+    → IsAccepted parts history number grant entry parcel)
+
+-- so many dispatches are left as the host has just allowed
+abbrev pub ArmsAllow : Type 0
+ArmsAllow = OfEachHeld (λ parts history number grant. (count : ℕ) (entry : Entry) → count ≤ greatest_count → IsMadeBy parts history grant HOST (arms count) entry
+    → dispatches_left parts (history ++ entry ∷ []) number grant ≡ count)
+
+-- a cube that is held can be drained, and is given back behind that
+abbrev pub DrainsFit : Type 0
+DrainsFit = OfEachHeld (λ parts history number grant. Fits parts history grant.user HOST drain
+    × IsLawful parts (history ++ draining grant ∷ []) × Fits parts (history ++ draining grant ∷ []) grant.user HOST freecube)
+
+-- ---- turns and rounds
+
+-- an entry of a node is of its turn, and takes a dispatch exactly where it gives work
+abbrev pub EntriesCount : Type 0
+EntriesCount = OfEachHeld (λ parts history number grant. (r : ℕ) (box : Node) (entry : Entry) (heard : Heard) → r < 2 ^ grant.dim
+    → StandsFor grant (node_now parts history number grant r) box → IsMadeBy parts history grant (node_of grant.sub r) (says box).call entry
+    → IsAnswered history grant r entry.what heard → IsEntryOf parts history number grant r (says box).call entry heard)
+
+-- where all boxes are in step no turn is open
+abbrev pub StepsEndTurns : Type 0
+StepsEndTurns = (parts : MachineParts) (history : List Entry) (number : ℕ) (grant : CubeGrant) (box : ℕ → Node)
+    → AreInStep parts history number grant box → AreTurnsOver (cube_of parts.images grant) (opening (cube_of parts.images grant)) (view history number)
+
+-- behind a round without work a cube is quiet, or its dispatches are used up
+abbrev pub RoundsRest : Type 0
+RoundsRest = OfEachTrace (λ cube o t. (before round : List Entry) → t ≡ before ++ round → IsRoundWithoutWork serial cube.dim round
+    → (is_quiet (node_numbers cube.dim) (standing o.standing t) || is_used_up (standing o.standing t)) ≡ true)
+
+-- so a look right behind one never finds it busy
+abbrev pub LooksEnd : Type 0
+LooksEnd = OfEachHeld (λ parts history number grant. (before round : List Entry) (entry : Entry) → view history number ≡ before ++ round
+    → IsRoundWithoutWork serial grant.dim round → IsMadeBy parts history grant HOST looks entry → (entry.what ≡ Look Busy) → ⊥)
+
+-- ---- a cube that is given back
+
+-- where all boxes are in step, the cube's blocks are in them, on the parcels that wait and in the host's store, each once, and there is no other
+abbrev pub BlocksAreWhole : Type 0
+BlocksAreWhole = OfEachHeld (λ parts history number grant. (box : ℕ → Node) → AreInStep parts history number grant box
+    → HoldsCube history grant.user (λ cube. AreAllBlocks grant (names_in grant box (all_parcels (after history) cube)
+    (map (block_outward grant) (store_now parts history number grant)))))

@@ -1,0 +1,14 @@
+//! The nodes of a cube in their boxes: what they say fits the machine that all users share, and what they hear makes of each
+//! box the next node of the cube's own model. The laws are definitions in `specs/`; each is the contract of a function of the
+//! module `laws`.
+#![tactic(auto)]
+
+mod laws;
+
+pub use laws::{
+    arms_allow_law, blocks_are_whole_law, blocks_sort_law, boxes_can_hear_law, boxes_hear_law,
+    boxes_say_law, calls_add_law, drains_fit_law, entries_count_law, grants_begin_law,
+    hosts_fit_law, hosts_send_law, hosts_take_law, looks_end_law, others_keep_law,
+    rounds_are_made_law, rounds_go_on_law, rounds_rest_law, steps_end_turns_law,
+    stores_are_home_law, turns_end_law,
+};

@@ -1,0 +1,15 @@
+pub mod Asked
+pub mod AtOnce
+pub mod BobRow
+pub mod GoesOn
+pub mod Held
+pub mod Legal
+pub mod Messages
+pub mod Moments
+pub mod NoFitRow
+pub mod Over
+pub mod Replies
+pub mod Resting
+pub mod Run
+pub mod Running
+pub mod Turns

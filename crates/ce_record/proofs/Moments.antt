@@ -1,0 +1,86 @@
+-- The moments of a history that grows, and of its users.
+use Rattle.std.proofs.Common.{◌≡◌, ℕ, Bool, true, false, ◌==◌, if◌then◌else◌, List, [], ◌∷◌, ◌++◌, map, filter, flat_map, refl, ap, sym, ◌∙◌, append-nil}
+use Rattle.std.specs.List.{AllByRecursion}
+use Rattle.std.proofs.lemmas.List.{map-append}
+use Rattle.std.proofs.lemmas.List.Elements.{filter-append}
+use Rattle.ce_model.specs.declared.entry.Entry.{Entry}
+use Rattle.ce_model.proofs.Walked.{one_further}
+use Rattle.ce_script.specs.Moments.{Moment, moments_behind, moments, moments_of, entries_of}
+
+-- ---- lists
+
+pub map-flat : {X Y Z : Type 0} (g : Y → Z) (f : X → List Y) (xs : List X) → flat_map (λ x. map g (f x)) xs ≡ map g (flat_map f xs)
+map-flat g f [] = refl
+map-flat g f (x ∷ xs) = ap (λ ys. map g (f x) ++ ys) (map-flat g f xs) ∙ sym (map-append g (f x) (flat_map f xs))
+
+pub filter-every : {X : Type 0} (test : X → Bool) (xs : List X) → AllByRecursion (λ x. test x ≡ true) xs → filter test xs ≡ xs
+filter-every test [] all = refl
+filter-every test (x ∷ xs) all = rw all.0 (ap (λ ys. x ∷ ys) (filter-every test xs all.1))
+
+pub filter-no : {X : Type 0} (test : X → Bool) (xs : List X) → AllByRecursion (λ x. test x ≡ false) xs → filter test xs ≡ []
+filter-no test [] all = refl
+filter-no test (x ∷ xs) all = rw all.0 (filter-no test xs all.1)
+
+-- ---- moments
+
+pub behind-append : (before xs ys : List Entry) → moments_behind before (xs ++ ys) ≡ moments_behind before xs ++ moments_behind (before ++ xs) ys
+behind-append before [] ys = ap (λ b. moments_behind b ys) (sym (append-nil before))
+behind-append before (x ∷ xs) ys =
+    ap (λ rest. record { before = before; entry = x } ∷ rest)
+    (behind-append (before ++ x ∷ []) xs ys ∙ ap (λ b. moments_behind (before ++ x ∷ []) xs ++ moments_behind b ys) (one_further before x xs))
+
+pub moments-append : (history made : List Entry) → moments (history ++ made) ≡ moments history ++ moments_behind history made
+unfolding moments
+moments-append history made = behind-append [] history made
+
+-- the entries of moments are those of the history
+pub entries-behind : (before behind : List Entry) → entries_of (moments_behind before behind) ≡ behind
+entries-behind before [] = refl
+entries-behind before (entry ∷ behind) = ap (λ rest. entry ∷ rest) (entries-behind (before ++ entry ∷ []) behind)
+
+-- ---- a user's
+
+-- a user's entries of a history
+abbrev pub own_entries : ℕ → List Entry → List Entry
+own_entries user history = filter (λ entry. entry.user == user) history
+
+own_behind : (user : ℕ) (before behind : List Entry)
+    → entries_of (filter (λ moment. moment.entry.user == user) (moments_behind before behind)) ≡ own_entries user behind
+own_behind user before [] = refl
+own_behind user before (entry ∷ behind) =
+    one (entry.user == user) (record { before = before; entry = entry }) _ _ (own_behind user (before ++ entry ∷ []) behind)
+  where
+    one : (b : Bool) (moment : Moment) (rest : List Moment) (entries : List Entry) → entries_of rest ≡ entries
+        → entries_of (if b then moment ∷ rest else rest) ≡ (if b then moment.entry ∷ entries else entries)
+    one true moment rest entries same = ap (λ entries. moment.entry ∷ entries) same
+    one false moment rest entries same = same
+
+pub entries-own : (user : ℕ) (history : List Entry) → entries_of (moments_of user history) ≡ own_entries user history
+unfolding moments
+entries-own user history = own_behind user [] history
+
+pub all-behind : (P : Entry → Type 0) (before behind : List Entry) → AllByRecursion P behind → AllByRecursion (λ (moment : Moment). P moment.entry) (moments_behind before behind)
+all-behind P before [] all = tt
+all-behind P before (entry ∷ behind) all = (all.0, all-behind P (before ++ entry ∷ []) behind all.1)
+
+-- a user's moments of a history that grows by entries of this user, or of another
+pub own-append : (user : ℕ) (history made : List Entry)
+    → moments_of user (history ++ made) ≡ moments_of user history ++ filter (λ moment. moment.entry.user == user) (moments_behind history made)
+own-append user history made =
+    ap (filter (λ (moment : Moment). moment.entry.user == user)) (moments-append history made)
+    ∙ filter-append (λ (moment : Moment). moment.entry.user == user) (moments history) (moments_behind history made)
+
+pub own-more : (user : ℕ) (history made : List Entry) → AllByRecursion (λ entry. (entry.user == user) ≡ true) made
+    → moments_of user (history ++ made) ≡ moments_of user history ++ moments_behind history made
+own-more user history made all =
+    own-append user history made
+    ∙ ap (λ more. moments_of user history ++ more)
+    (filter-every (λ (moment : Moment). moment.entry.user == user) (moments_behind history made) (all-behind (λ entry. (entry.user == user) ≡ true) history made all))
+
+pub own-stays : (user : ℕ) (history made : List Entry) → AllByRecursion (λ entry. (entry.user == user) ≡ false) made
+    → moments_of user (history ++ made) ≡ moments_of user history
+own-stays user history made all =
+    own-append user history made
+    ∙ ap (λ more. moments_of user history ++ more)
+    (filter-no (λ (moment : Moment). moment.entry.user == user) (moments_behind history made) (all-behind (λ entry. (entry.user == user) ≡ false) history made all))
+    ∙ append-nil (moments_of user history)

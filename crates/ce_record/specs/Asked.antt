@@ -1,0 +1,65 @@
+-- What commands without rounds want and ask for, and what the machine's entry answers them.
+use Rattle.std.specs.Prelude.{◌≡◌, ℕ, List, [], ◌∷◌, Option, Some, None, Bool, true, false, if◌then◌else◌}
+use Rattle.ce_model.specs.declared.topology.TheConstants.{HOST}
+use Rattle.ce_model.specs.declared.topology.Place.{Place}
+use Rattle.ce_model.specs.declared.topology.BlockId.{BlockId}
+use Rattle.ce_model.specs.declared.entry.Entry.{Entry}
+use Rattle.ce_model.specs.declared.entry.What.{What}
+use Rattle.ce_model.specs.declared.entry.What.TheVariants.{Getcube as GetcubeMade, Peek as PeekMade, Send as SendMade, Spawn as SpawnMade, Kill as KillMade}
+use Rattle.ce_model.specs.Node.{sends, spawns, kills}
+use Rattle.ce_model.specs.Machine.{MachineParts, MachineState, after, Request, getcube, peek, in_cube, answered, Fits}
+use Rattle.rk_mail.specs.declared.talk.Heard.{Heard}
+use Rattle.rk_mail.specs.declared.talk.Heard.TheVariants.{Posted, Spawned, Used as HeardUsed, Killed, Unused as HeardUnused, Already as HeardAlready}
+use Rattle.ce_host.specs.declared.command.Command.{Command}
+use Rattle.ce_host.specs.declared.command.Command.TheVariants.{Getcube, Peek, Spawn, Kill, Send, Dump}
+use Rattle.ce_host.specs.declared.answer.Answer.{Answer}
+use Rattle.ce_host.specs.declared.answer.Answer.TheVariants.{Peeked as PeekFound, Ok as Done, Used, Unused, Already}
+use Rattle.ce_daemon.specs.Peeks.{peeked}
+use Rattle.ce_script.specs.Commands.{getcube_reply, kill_reply}
+
+-- the command is for who holds a cube
+abbrev pub wants_cube : Command → Bool
+wants_cube (Getcube dim) = false
+wants_cube Peek = false
+wants_cube other = true
+
+-- the place that a command names
+abbrev pub place_in : Command → Option Place
+place_in (Spawn image to) = Some to
+place_in (Kill to) = Some to
+place_in (Send to bytes) = Some to
+place_in (Dump at) = Some at
+place_in other = None
+
+-- what a command asks of the machine that makes one entry; a message goes in the block of this name
+abbrev pub request_of : BlockId → Command → Option Request
+request_of id (Getcube dim) = Some (getcube dim)
+request_of id Peek = Some peek
+request_of id (Spawn image to) = Some (in_cube (spawns 0 image to))
+request_of id (Kill to) = Some (in_cube (kills 0 to))
+request_of id (Send to bytes) = Some (in_cube (sends 0 ((to, id) ∷ []) bytes))
+request_of id other = None
+
+-- what a command is answered by its one entry, in the state before it
+abbrev pub reply_by : MachineParts → MachineState → What → Option Answer
+reply_by parts state (GetcubeMade dim sub) = Some (getcube_reply sub)
+reply_by parts state PeekMade = Some (PeekFound (peeked parts state))
+reply_by parts state (SpawnMade pid image to fresh) = Some (if fresh then Done else Used)
+reply_by parts state (KillMade pid to found) = Some (kill_reply found)
+reply_by parts state (SendMade pid first to bytes) = Some Done
+reply_by parts state other = None
+
+-- what a command is answered by what its host hears
+abbrev pub heard_reply : Heard → Option Answer
+heard_reply (Posted batch) = Some Done
+heard_reply Spawned = Some Done
+heard_reply HeardUsed = Some Used
+heard_reply Killed = Some Done
+heard_reply HeardUnused = Some Unused
+heard_reply HeardAlready = Some Already
+heard_reply other = None
+
+-- behind a history a user's host asks for this, and the machine makes this entry of it
+pub record IsAsked (parts : MachineParts) (history : List Entry) (user : ℕ) (request : Request) (what : What) : Type 0 where
+  pub fits : Fits parts history user HOST request
+  pub answer : answered parts (after history) user HOST request ≡ Some what

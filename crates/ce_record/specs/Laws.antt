@@ -1,0 +1,213 @@
+-- The laws of the record that a run leaves.
+use Rattle.std.specs.Prelude.{◌≡◌, ℕ, ◌^◌, ◌<◌, ◌==◌, true, false, List, [], ◌∷◌, ◌++◌, Some, None, IsTrue, IsSomeAnd, map, flat_map, length, replicate, slice_set, slice_index_or}
+use Rattle.std.specs.List.{AllByRecursion}
+use Rattle.ce_model.specs.declared.topology.TheConstants.{HOST}
+use Rattle.ce_model.specs.declared.topology.Place.{Place}
+use Rattle.ce_model.specs.declared.topology.BlockId.{BlockId}
+use Rattle.ce_model.specs.declared.topology.Subcube.{Subcube}
+use Rattle.ce_model.specs.declared.entry.Entry.{Entry}
+use Rattle.ce_model.specs.declared.entry.What.{What}
+use Rattle.ce_model.specs.declared.entry.What.TheVariants.{Getcube as GetcubeMade, Drain, Freecube as FreecubeMade}
+use Rattle.ce_model.specs.declared.entry.Found.{Found}
+use Rattle.ce_model.specs.Parcels.{Parcel, Item}
+use Rattle.ce_model.specs.Node.{is_place, process_at}
+use Rattle.ce_model.specs.Trace.{sent_to}
+use Rattle.ce_model.specs.Cube.{opening, hoststore, parcel_numbered, rest}
+use Rattle.ce_model.specs.Subcubes.{node_of}
+use Rattle.ce_model.specs.Renaming.{entry_inward}
+use Rattle.ce_model.specs.Views.{view}
+use Rattle.ce_model.specs.Machine.{MachineParts, IsMachine, IsLawful, HeldCube, MachineState, after, held_by, Request, getcube}
+use Rattle.rk_mail.specs.declared.talk.Heard.{Heard}
+use Rattle.rk_mail.specs.Talk.{IsHeardIn}
+use Rattle.ce_host.specs.declared.command.Command.{Command}
+use Rattle.ce_host.specs.declared.command.Command.TheVariants.{Getcube, Freecube, Send, Run, Recv, Dump, Trace}
+use Rattle.ce_host.specs.declared.answer.Answer.{Answer}
+use Rattle.ce_host.specs.declared.answer.Answer.TheVariants.{NoCube, Held, Freed, NoPlace, NoStore, Message, State, Entries}
+use Rattle.ce_script.specs.declared.record.Record.{Record}
+use Rattle.ce_script.specs.declared.script.Script.{Script}
+use Rattle.ce_script.specs.Bounds.{IsWithinLimits}
+use Rattle.ce_script.specs.Rounds.{RoundKind, serial, has_work, joined}
+use Rattle.ce_script.specs.Moments.{moments_of, entries_of, holding}
+use Rattle.ce_script.specs.Commands.{by_host, run_reply, RecvEnd, message_reply, recv_reply}
+use Rattle.ce_script.specs.Doings.{Doing, held_after}
+use Rattle.ce_script.specs.Legal.{IsLegal, machine_of}
+use Rattle.ce_script.specs.Serial.{IsSerial}
+use Rattle.ce_record.specs.Asked.{wants_cube, place_in, request_of, reply_by, heard_reply, IsAsked}
+use Rattle.ce_record.specs.CubeRounds.{IsCallBy, AreTurnsOf, IsRoundOf, IsRunOf, IsRecvOf}
+use Rattle.ce_record.specs.Held.{held_now, new_cube, cube_in, IsTurnOver, AreTurnsOverIn}
+use Rattle.ce_record.specs.Run.{IsRunSoFar, doing_behind, IsNextCommand, reply_of, AreReplies, KeepsRun}
+
+-- ---- what users hold
+
+-- what a user holds by its own entries is what the machine says
+abbrev pub HeldIsHeld : Type 0
+HeldIsHeld = (parts : MachineParts) (history : List Entry) (user : ℕ) → IsMachine parts → IsLawful parts history
+    → holding (entries_of (moments_of user history)) ≡ held_now history user
+
+-- so it is by what the user did, where that has its entries
+abbrev pub HeldAfterIsHeld : Type 0
+HeldAfterIsHeld = (parts : MachineParts) (history : List Entry) (user : ℕ) (doings : List Doing) → IsMachine parts → IsLawful parts history
+    → flat_map (λ doing. doing.moments) doings ≡ moments_of user history → held_after doings ≡ held_now history user
+
+-- ---- the run
+
+-- at first nothing was done
+abbrev pub RunBegins : Type 0
+RunBegins = (kind : RoundKind) (machine : MachineParts) → IsRunSoFar kind machine [] []
+
+-- a run goes on by one command of one user
+abbrev pub RunGoesOn : Type 0
+RunGoesOn = (kind : RoundKind) (machine : MachineParts) (history : List Entry) (all : List (ℕ × Doing)) (user : ℕ) (command : Command) (answer : Answer)
+    (made : List Entry) → IsMachine machine → IsLawful machine history → IsRunSoFar kind machine history all
+    → IsNextCommand kind machine history user command answer made
+    → IsRunSoFar kind machine (history ++ made) (all ++ (user, doing_behind history command answer made) ∷ [])
+
+-- at first no user was answered
+abbrev pub RepliesBegin : Type 0
+RepliesBegin = (count : ℕ) → AreReplies [] (replicate count [])
+
+-- the user of a command has one reply more
+abbrev pub RepliesGoOn : Type 0
+RepliesGoOn = (all : List (ℕ × Doing)) (dones : List (List (Command × Answer))) (user : ℕ) (doing : Doing) → user < length dones → AreReplies all dones
+    → AreReplies (all ++ (user, doing) ∷ []) (slice_set dones user (slice_index_or dones user [] ++ reply_of doing ∷ []))
+
+-- the machine of a script with a user is within its limits
+abbrev pub ScriptHasMachine : Type 0
+ScriptHasMachine = (script : Script) → IsWithinLimits script → 0 < length script.users → IsMachine (machine_of script)
+
+-- the record of a run of all the script's commands is legal and serial
+abbrev pub RunIsLegal : Type 0
+RunIsLegal = (script : Script) (kept : Record) (all : List (ℕ × Doing)) → IsWithinLimits script → IsLawful (machine_of script) kept.history
+    → IsRunSoFar serial (machine_of script) kept.history all → KeepsRun script all kept → IsLegal serial script kept × IsSerial script kept
+
+-- so is the empty record of a script without users
+abbrev pub NoUserIsLegal : Type 0
+NoUserIsLegal = (script : Script) → IsWithinLimits script → script.users ≡ []
+    → IsLegal serial script (record { users = []; history = [] }) × IsSerial script (record { users = []; history = [] })
+
+-- ---- commands without rounds
+
+-- this holds behind each history by which a user holds a cube
+abbrev pub OfHolder : (MachineParts → List Entry → ℕ → HeldCube → Type 0) → Type 0
+OfHolder P = (parts : MachineParts) (history : List Entry) (user : ℕ) (cube : HeldCube) → held_by (after history) user ≡ Some cube
+    → P parts history user cube
+
+-- who holds no cube is told so by each command that wants one
+abbrev pub NoCubeIsNext : Type 0
+NoCubeIsNext = (kind : RoundKind) (parts : MachineParts) (history : List Entry) (user : ℕ) (command : Command) → held_by (after history) user ≡ None
+    → IsTrue (wants_cube command) → IsNextCommand kind parts history user command NoCube []
+
+-- who holds a cube gets no other
+abbrev pub HeldIsNext : Type 0
+HeldIsNext = (kind : RoundKind) → OfHolder (λ parts history user cube. (dim : ℕ) → IsNextCommand kind parts history user (Getcube dim) Held [])
+
+-- a command to what is no place of the cube is told so
+abbrev pub NoPlaceIsNext : Type 0
+NoPlaceIsNext = (kind : RoundKind) → OfHolder (λ parts history user cube. (command : Command) (to : Place) → place_in command ≡ Some to → is_place cube.grant.dim to ≡ false
+    → IsNextCommand kind parts history user command NoPlace [])
+
+-- nothing is sent where the host's store is empty
+abbrev pub NoStoreIsNext : Type 0
+NoStoreIsNext = (kind : RoundKind) → OfHolder (λ parts history user cube. (to : Place) (bytes : List ℕ) → is_place cube.grant.dim to ≡ true
+    → hoststore (opening (cube_in parts cube)) (view history cube.number) ≡ [] → IsNextCommand kind parts history user (Send to bytes) NoStore [])
+
+-- a dump says what the process does in the cube's state after its trace, where its node has run to its next call
+abbrev pub DumpIsNext : Type 0
+DumpIsNext = (kind : RoundKind) → OfHolder (λ parts history user cube. (at : Place) → is_place cube.grant.dim at ≡ true → IsNextCommand kind parts history user (Dump at)
+    (State (process_at (rest (cube_in parts cube) (opening (cube_in parts cube)) at.node (view history cube.number)) at.pid).status) [])
+
+-- a trace says how long the cube's trace is
+abbrev pub TraceIsNext : Type 0
+TraceIsNext = (kind : RoundKind) → OfHolder (λ parts history user cube. IsNextCommand kind parts history user Trace (Entries (length (view history cube.number))) [])
+
+-- a cube is drained, and then given back
+abbrev pub given_back : ℕ → List Entry
+given_back user = by_host user Drain ∷ by_host user FreecubeMade ∷ []
+
+abbrev pub FreecubeIsNext : Type 0
+FreecubeIsNext = (kind : RoundKind) → OfHolder (λ parts history user cube. IsMachine parts → IsLawful parts (history ++ given_back user)
+    → IsNextCommand kind parts history user Freecube Freed (given_back user))
+
+-- what the machine's entry answers to what a command asks for
+abbrev pub AskedIsNext : Type 0
+AskedIsNext = (kind : RoundKind) (parts : MachineParts) (history : List Entry) (user : ℕ) (command : Command) (id : BlockId) (request : Request) (what : What)
+    (answer : Answer) → IsMachine parts → IsLawful parts history → request_of id command ≡ Some request → IsAsked parts history user request what
+    → reply_by parts (after history) what ≡ Some answer → IsNextCommand kind parts history user command answer (by_host user what ∷ [])
+
+-- a send, a spawn or a kill is answered by what its host hears
+abbrev pub HeardIsReply : Type 0
+HeardIsReply = (parts : MachineParts) (state : MachineState) (items : List Item) (what : What) (heard : Heard) → IsHeardIn items what heard
+    → reply_by parts state what ≡ heard_reply heard
+
+-- ---- between commands
+
+-- a user's entries leave what others hold
+abbrev pub OthersStay : Type 0
+OthersStay = (parts : MachineParts) (history : List Entry) (user other : ℕ) (made : List Entry) → IsMachine parts → IsLawful parts (history ++ made)
+    → AllByRecursion (λ entry. entry.user ≡ user) made → (user == other) ≡ false
+    → (held_by (after (history ++ made)) other ≡ held_by (after history) other) × (held_now (history ++ made) other ≡ held_now history other)
+
+-- the cube that a getcube grants has the next number, and no trace
+abbrev pub CubeBegins : Type 0
+CubeBegins = (parts : MachineParts) (history : List Entry) (user dim : ℕ) (sub : Subcube) → IsMachine parts → IsLawful parts history
+    → IsAsked parts history user (getcube dim) (GetcubeMade dim (Some sub))
+    → (held_by (after (history ++ by_host user (GetcubeMade dim (Some sub)) ∷ [])) user
+    ≡ Some (new_cube (after history).grant_count (record { user = user; dim = dim; sub = sub })))
+    × (view (history ++ by_host user (GetcubeMade dim (Some sub)) ∷ []) (after history).grant_count ≡ [])
+
+-- ---- rounds
+
+-- this holds of a cube that a user holds behind a lawful history, and that wasn't drained
+abbrev pub OfCube : (MachineParts → List Entry → ℕ → HeldCube → Type 0) → Type 0
+OfCube P = OfHolder (λ parts history user cube. IsMachine parts → IsLawful parts history → cube.drained ≡ false → P parts history user cube)
+
+-- calls of the cube make its trace longer
+abbrev pub TraceGoesOn : Type 0
+TraceGoesOn = OfCube (λ parts history user cube. (made : List Entry) → AllByRecursion (IsCallBy user) made
+    → view (history ++ made) cube.number ≡ view history cube.number ++ map (entry_inward cube.grant.sub) made)
+
+-- and behind them it is held still
+abbrev pub CubeStays : Type 0
+CubeStays = OfCube (λ parts history user cube. (made : List Entry) → AllByRecursion (IsCallBy user) made
+    → IsSomeAnd (held_by (after (history ++ made)) user) (λ now. (now.number ≡ cube.number) × (now.grant ≡ cube.grant) × (now.drained ≡ false)))
+
+-- turns of its nodes, one of each, are a serial round
+abbrev pub TurnsAreRound : Type 0
+TurnsAreRound = OfCube (λ parts history user cube. (turns : List (List Entry)) → AreTurnsOf user cube.grant turns
+    → IsRoundOf serial user cube.grant (has_work (joined turns)) (joined turns))
+
+-- the turns of its nodes are over where the cube has no trace
+abbrev pub TurnsBeginOver : Type 0
+TurnsBeginOver = (parts : MachineParts) (history : List Entry) (cube : HeldCube) → view history cube.number ≡ [] → AreTurnsOverIn parts history cube
+
+-- the host leaves them so
+abbrev pub HostLeavesTurns : Type 0
+HostLeavesTurns = OfCube (λ parts history user cube. (made : List Entry) → AllByRecursion (IsCallBy user) made → AllByRecursion (λ entry. entry.actor ≡ HOST) made
+    → AreTurnsOverIn parts history cube → AreTurnsOverIn parts (history ++ made) cube)
+
+-- and a node leaves those of the others so
+abbrev pub NodeLeavesTurns : Type 0
+NodeLeavesTurns = OfCube (λ parts history user cube. (made : List Entry) (node r : ℕ) → AllByRecursion (IsCallBy user) made
+    → AllByRecursion (λ entry. entry.actor ≡ node_of cube.grant.sub node) made → node < 2 ^ cube.grant.dim → (node == r) ≡ false
+    → IsTurnOver parts history cube r → IsTurnOver parts (history ++ made) cube r)
+
+-- a run is answered by what its look finds
+abbrev pub RunIsNext : Type 0
+RunIsNext = (kind : RoundKind) → OfCube (λ parts history user cube. (count : ℕ) (found : Found) (answer : Answer) (made : List Entry) → IsRunOf kind user cube.grant count found made
+    → run_reply found ≡ Some answer → IsLawful parts (history ++ made) → AreTurnsOverIn parts (history ++ made) cube
+    → IsNextCommand kind parts history user (Run count) answer made)
+
+-- all that was sent to the cube's host
+abbrev pub sent_to_host : MachineParts → HeldCube → List Entry → List Item
+sent_to_host parts cube trace = sent_to (opening (cube_in parts cube)).standing HOST trace
+
+-- a recv is answered with the message that it takes, or by what its look finds
+abbrev pub RecvIsNext : Type 0
+RecvIsNext = (kind : RoundKind) → OfCube (λ parts history user cube. (count : ℕ) (end : RecvEnd) (answer : Answer) (made : List Entry) → IsRecvOf kind user cube.grant count end made
+    → recv_reply (sent_to_host parts cube (view (history ++ made) cube.number)) end ≡ Some answer → IsLawful parts (history ++ made)
+    → AreTurnsOverIn parts (history ++ made) cube → IsNextCommand kind parts history user (Recv count) answer made)
+
+-- what the machine keeps for the host is what was sent to it, whatever is sent later
+abbrev pub MessageIsSent : Type 0
+MessageIsSent = OfCube (λ parts history user cube. (number : ℕ) (parcel : Parcel) (more : List Entry) → parcel_numbered number cube.mail ≡ Some parcel
+    → message_reply (parcel_numbered number (sent_to_host parts cube (view history cube.number ++ more))) ≡ Some (Message parcel.from parcel.block.bytes))

@@ -1,0 +1,5 @@
+pub mod Asked
+pub mod CubeRounds
+pub mod Held
+pub mod Laws
+pub mod Run

@@ -1,0 +1,147 @@
+//! The laws of the record that a run leaves. The functions do nothing: a contract is the law, which proofs cite.
+ghost use Rattle.ce_record.specs.Laws.{HeldIsHeld, HeldAfterIsHeld, RunBegins, RunGoesOn, RepliesBegin, RepliesGoOn, ScriptHasMachine, RunIsLegal, NoUserIsLegal, NoCubeIsNext, HeldIsNext, NoPlaceIsNext, NoStoreIsNext, DumpIsNext, TraceIsNext, FreecubeIsNext, AskedIsNext, HeardIsReply, OthersStay, CubeBegins, TurnsBeginOver, HostLeavesTurns, NodeLeavesTurns, TraceGoesOn, CubeStays, TurnsAreRound, RunIsNext, RecvIsNext, MessageIsSent};
+
+/// What a user holds by its own entries of a lawful history is what the machine says.
+pub fn held_is_held_law()
+    ensures law { HeldIsHeld }
+{}
+
+/// What a user holds by all that it did is what the machine says.
+pub fn held_after_law()
+    ensures law { HeldAfterIsHeld }
+{}
+
+/// A run begins with an empty history.
+pub fn run_begins_law()
+    ensures law { RunBegins }
+{}
+
+/// A run goes on by one command of one user.
+pub fn run_goes_on_law()
+    ensures law { RunGoesOn }
+{}
+
+/// At first no user was answered.
+pub fn replies_begin_law()
+    ensures law { RepliesBegin }
+{}
+
+/// The one that makes a command has one reply more.
+pub fn replies_go_on_law()
+    ensures law { RepliesGoOn }
+{}
+
+/// The machine of a script with a user is within its limits.
+pub fn script_has_machine_law()
+    ensures law { ScriptHasMachine }
+{}
+
+/// The record of a run of all the script's commands is legal and serial.
+pub fn run_is_legal_law()
+    ensures law { RunIsLegal }
+{}
+
+/// The empty record of a script without users is legal and serial.
+pub fn no_user_is_legal_law()
+    ensures law { NoUserIsLegal }
+{}
+
+/// A command that wants a cube is told that its user holds none.
+pub fn no_cube_law()
+    ensures law { NoCubeIsNext }
+{}
+
+/// A getcube is told that its user holds a cube already.
+pub fn held_law()
+    ensures law { HeldIsNext }
+{}
+
+/// A command is told that its cube has no such place.
+pub fn no_place_law()
+    ensures law { NoPlaceIsNext }
+{}
+
+/// A send is told that the host has no block.
+pub fn no_store_law()
+    ensures law { NoStoreIsNext }
+{}
+
+/// A dump is told what the process does.
+pub fn dump_law()
+    ensures law { DumpIsNext }
+{}
+
+/// A trace is told how long the cube's is.
+pub fn trace_law()
+    ensures law { TraceIsNext }
+{}
+
+/// A cube is drained and given back.
+pub fn freecube_law()
+    ensures law { FreecubeIsNext }
+{}
+
+/// A command that makes one entry is told what the machine answers.
+pub fn asked_law()
+    ensures law { AskedIsNext }
+{}
+
+/// A send, a spawn or a kill is answered by what its host hears.
+pub fn heard_is_reply_law()
+    ensures law { HeardIsReply }
+{}
+
+/// A user's entries leave what others hold.
+pub fn others_stay_law()
+    ensures law { OthersStay }
+{}
+
+/// A cube that is granted has the next number and no trace.
+pub fn cube_begins_law()
+    ensures law { CubeBegins }
+{}
+
+/// The turns of a cube's nodes are over where it has no trace.
+pub fn turns_begin_over_law()
+    ensures law { TurnsBeginOver }
+{}
+
+/// The host leaves the turns of its cube's nodes over.
+pub fn host_leaves_turns_law()
+    ensures law { HostLeavesTurns }
+{}
+
+/// A node leaves the turns of the other nodes over.
+pub fn node_leaves_turns_law()
+    ensures law { NodeLeavesTurns }
+{}
+
+/// Calls of a cube make its trace longer.
+pub fn trace_goes_on_law()
+    ensures law { TraceGoesOn }
+{}
+
+/// Behind calls of a cube it is held still.
+pub fn cube_stays_law()
+    ensures law { CubeStays }
+{}
+
+/// Turns of a cube's nodes, one of each, are a serial round.
+pub fn turns_are_round_law()
+    ensures law { TurnsAreRound }
+{}
+
+/// A run is answered by what its look finds.
+pub fn run_law()
+    ensures law { RunIsNext }
+{}
+
+/// A recv is answered with the message that it takes, or by what its look finds.
+pub fn recv_law()
+    ensures law { RecvIsNext }
+{}
+
+/// A message that waits for a host is one that was sent to it.
+pub fn message_law()
+    ensures law { MessageIsSent }
+{}
