@@ -1,5 +1,5 @@
 ghost use Rattle.std.specs.Prelude.{◌≡◌, ◌<◌, ◌≤◌, ◌++◌, [], ◌∷◌, length, option_to_list, ◌↔◌, IsNone, IfOk};
-ghost use Rattle.ce_model.specs.Limits.{greatest_targets};
+ghost use Rattle.ce_model.specs.Limits.{block_room, greatest_targets};
 ghost use Rattle.rk_mail.specs.Targets.{bytes_of, HaveEqualBytes, with_bytes};
 
 use ce_model::{GREATEST_TARGETS, NoMemory, Place};
@@ -51,11 +51,12 @@ impl Batch {
         self.targets.len() as u32
     }
 
-    /// The bytes of each of its blocks. It has a place.
+    /// The bytes of each of its blocks, `BLOCK_ROOM` at most. It has a place.
     pub fn bytes(&self) -> &[u8]
         requires { 0 < length self.now }
         ensures value { result.now ≡ bytes_of self.now }
         ensures each { HaveEqualBytes self.now }
+        ensures within { length result.now ≤ block_room }
     {
         let (_, block) = &self.targets[0];
         block.bytes()

@@ -9,7 +9,7 @@ use Rattle.rv_asm.specs.declared.fault.AsmKind.TheVariants.{BadByte}
 use Rattle.rv_asm.specs.Faults.{◌>>=◌, refuse}
 use Rattle.rv_asm.specs.Line.{is_colon}
 
-either : (a b : Bool) → a || b ≡ false → (a ≡ false) × (b ≡ false)
+pub either : (a b : Bool) → a || b ≡ false → (a ≡ false) × (b ≡ false)
 either true b e = absurd cc
 either false b e = (refl, e)
 

@@ -1,11 +1,10 @@
 -- The operands of `.word` and `.byte`, judged one after the other.
-use Rattle.std.proofs.Common.{◌≡◌, ℕ, suc, ◌<◌, ◌≤◌, List, ◌∷◌, length, map, Option, Some, None, Result, Ok, Err, Bor, sym, ap, ◌∙◌, arith}
+use Rattle.std.proofs.Common.{◌≡◌, ℕ, suc, ◌<◌, ◌≤◌, List, ◌∷◌, length, map, Option, Some, None, Result, Bor, sym, ap, ◌∙◌, arith}
 use Rattle.std.specs.Prelude.{fold, option_map, IfSome}
 use Rattle.rv_asm.specs.declared.fault.AsmKind.{AsmKind}
 use Rattle.ce_text.specs.Line.{cut, trimmed}
 use Rattle.rv_asm.specs.Line.{is_comma}
 use Rattle.rv_asm.specs.Faults.{gathered}
-use Rattle.rv_asm.specs.Operand.{Views}
 use Rattle.rv_asm.proofs.Pieces.{pieces_cut, pieces_behind}
 
 -- the bytes that are left, if any
@@ -30,7 +29,3 @@ pub with_more : {A : Type 0} (judge : List ℕ → Result A AsmKind) (judged : R
 with_more judge judged bytes front after e =
     sym (ap (λ (operands : List (List ℕ)). fold gathered judged (map judge operands)) (pieces_cut bytes)
     ∙ ap (λ (parts : List ℕ × Option (List ℕ)). fold gathered judged (map judge (trimmed parts.0 ∷ pieces_behind parts.1))) (sym e))
-
-pub same_view : {A B : Type 0} (view : A → B) (r : Result A AsmKind) (x y : Result B AsmKind) → Views view r x → Views view r y → x ≡ y
-same_view view (Ok a) x y h k = h ∙ sym k
-same_view view (Err kind) x y h k = h ∙ sym k

@@ -18,3 +18,6 @@ pub mod LineJudged
 pub mod LabelsJudged
 pub mod Comments
 pub mod Labelling
+pub mod Summing
+pub mod Listed
+pub mod Blanks

@@ -1,27 +1,34 @@
 -- The words of the table stand for instructions and registers that there are.
-use Rattle.std.proofs.Common.{ℕ, Bool, true, false, cond, List, [], ◌∷◌, Option, Some, refl, arith, rules, pos}
+use Rattle.std.proofs.Common.{ℕ, Bool, true, false, cond, List, [], ◌∷◌, Option, Some, arith, rules}
 use Rattle.std.specs.Prelude.{IfSome, bytes_eq}
-use Rattle.rv_inst.specs.Valid.{IsTwelveBits}
+use Rattle.rv_inst.specs.Valid.{IsRegister, IsValid}
+use Rattle.rv_asm.specs.declared.mnemonic.Mnemonic.{Mnemonic}
+use Rattle.rv_asm.specs.declared.mnemonic.Mnemonic.TheVariants as words
 use Rattle.rv_asm.specs.Table.{look_up}
-use Rattle.rv_asm.specs.Words.{mnemonics}
+use Rattle.rv_asm.specs.Words.{mnemonics, mnemonic_of}
 use Rattle.rv_asm.specs.Sound.{IsSoundWord}
 
--- P of the value of each row
-abbrev pub AllValues : {X : Type 0} → (X → Type 0) → List (List ℕ × X) → Type 0
-AllValues P [] = Unit {0}
-AllValues P (row ∷ rows) = P row.1 × AllValues P rows
+-- the rows that hold an instruction or a register hold one that there is; nothing is asked of the others
+abbrev AllSound : List (List ℕ × Mnemonic) → Type 0
+AllSound [] = Unit {0}
+AllSound ((word, words.Plain inst) ∷ rows) = IsValid inst × AllSound rows
+AllSound ((word, words.Jump rd) ∷ rows) = IsRegister rd × AllSound rows
+AllSound ((word, mnemonic) ∷ rows) = AllSound rows
 
-looked_by : {X : Type 0} (P : X → Type 0) (here : Bool) (value : X) (there : Option X) → P value → IfSome there P → IfSome (cond here (Some value) there) P
-looked_by P true value there p q = p
-looked_by P false value there p q = q
+looked_by : (here : Bool) (mnemonic : Mnemonic) (there : Option Mnemonic) → IsSoundWord mnemonic → IfSome there IsSoundWord → IfSome (cond here (Some mnemonic) there) IsSoundWord
+looked_by true mnemonic there sound others = sound
+looked_by false mnemonic there sound others = others
 
-pub looked : {X : Type 0} (P : X → Type 0) (rows : List (List ℕ × X)) (text : List ℕ) → AllValues P rows → IfSome (look_up rows text) P
-looked P [] text all = tt
-looked P (row ∷ rows) text all = looked_by P (bytes_eq row.0 text) row.1 (look_up rows text) all.0 (looked P rows text all.1)
+looked : (rows : List (List ℕ × Mnemonic)) (text : List ℕ) → AllSound rows → IfSome (look_up rows text) IsSoundWord
+looked [] text all = tt
+looked ((word, words.Plain inst) ∷ rows) text all = looked_by (bytes_eq word text) (words.Plain inst) (look_up rows text) all.0 (looked rows text all.1)
+looked ((word, words.Jump rd) ∷ rows) text all = looked_by (bytes_eq word text) (words.Jump rd) (look_up rows text) all.0 (looked rows text all.1)
+looked ((word, mnemonic) ∷ rows) text all = looked_by (bytes_eq word text) mnemonic (look_up rows text) tt (looked rows text all)
 
-short_zero : IsTwelveBits (pos 0)
-short_zero = (search rules, search rules)
-
-pub sound_words : AllValues IsSoundWord mnemonics
+sound_rows : AllSound mnemonics
 unfolding mnemonics
-sound_words = (tt, (tt, (tt, (tt, (tt, (tt, (tt, (tt, (tt, (tt, (tt, (tt, (tt, (tt, (tt, (tt, (tt, (tt, (tt, (tt, (tt, (tt, (tt, (tt, (tt, (tt, (tt, (tt, (tt, (tt, (tt, (tt, (tt, (tt, (tt, (tt, (tt, ((omega arith, refl, refl), (tt, (tt, ((omega arith, omega arith, short_zero), ((omega arith, omega arith, short_zero), (tt, (tt, (tt, (omega arith, (omega arith, (tt, (tt, (tt, tt))))))))))))))))))))))))))))))))))))))))))))))))))
+sound_rows = search (rules, arith)
+
+pub sound_word : (word : List ℕ) → IfSome (mnemonic_of word) IsSoundWord
+unfolding mnemonic_of
+sound_word word = looked mnemonics word sound_rows

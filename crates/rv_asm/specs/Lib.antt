@@ -1,5 +1,6 @@
 pub mod Line
 pub mod LineFaults
+pub mod Listing
 pub mod Name
 pub mod Table
 pub mod Register

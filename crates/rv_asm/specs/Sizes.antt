@@ -1,5 +1,6 @@
 -- How much room statements take.
-use Rattle.std.specs.Prelude.{ℕ, Bool, true, false}
+use Rattle.std.specs.Prelude.{ℕ, Bool, true, false, List, sum_by}
+use Rattle.rv_asm.specs.declared.statement.Placed.{Placed}
 use Rattle.rv_asm.specs.declared.statement.Statement.{Statement}
 use Rattle.rv_asm.specs.declared.statement.Statement.TheVariants.{Inst, Jal, Branch, La, Word, Address, Byte, Zero}
 
@@ -19,3 +20,7 @@ abbrev pub lays_words : Statement → Bool
 lays_words (Byte byte) = false
 lays_words (Zero count) = false
 lays_words statement = true
+
+-- how many bytes statements take together
+abbrev pub statements_size : List Placed → ℕ
+statements_size placed = sum_by (λ it. size_of it.statement) placed

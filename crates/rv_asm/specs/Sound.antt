@@ -1,6 +1,11 @@
 -- Statements whose operands are in range.
-use Rattle.std.specs.Prelude.{List, [], ◌∷◌}
-use Rattle.rv_inst.specs.Valid.{IsRegister, IsValid}
+use Rattle.std.specs.Prelude.{ℤ, List, [], ◌∷◌}
+use Rattle.std.proofs.Props.{props}
+use Rattle.rv_model.specs.declared.inst.Inst.{Inst}
+use Rattle.rv_model.specs.declared.inst.Inst.TheVariants as insts
+use Rattle.rv_model.specs.declared.inst.ImmOp.{ImmOp}
+use Rattle.rv_model.specs.declared.inst.ImmOp.TheVariants.{Addi, Slti, Sltiu, Xori, Ori, Andi, Slli, Srli, Srai}
+use Rattle.rv_inst.specs.Valid.{IsRegister, IsImmediateOf, IsValid}
 use Rattle.rv_asm.specs.declared.mnemonic.Mnemonic.{Mnemonic}
 use Rattle.rv_asm.specs.declared.mnemonic.Mnemonic.TheVariants as words
 use Rattle.rv_asm.specs.declared.statement.Statement.{Statement}
@@ -31,3 +36,44 @@ AreSound (statement ∷ others) = IsSound statement × AreSound others
 abbrev pub ArePlacedSound : List Placed → Type 0
 ArePlacedSound [] = Unit {0}
 ArePlacedSound (placed ∷ others) = IsSound placed.statement × ArePlacedSound others
+
+-- ---- no two proofs that statements are sound differ
+
+IsImmediateOf-prop : (op : ImmOp) (z : ℤ) → IsProp (IsImmediateOf op z)
+IsImmediateOf-prop Addi z = hlevel props
+IsImmediateOf-prop Slti z = hlevel props
+IsImmediateOf-prop Sltiu z = hlevel props
+IsImmediateOf-prop Xori z = hlevel props
+IsImmediateOf-prop Ori z = hlevel props
+IsImmediateOf-prop Andi z = hlevel props
+IsImmediateOf-prop Slli z = hlevel props
+IsImmediateOf-prop Srli z = hlevel props
+IsImmediateOf-prop Srai z = hlevel props
+
+IsValid-prop : (inst : Inst) → IsProp (IsValid inst)
+IsValid-prop (insts.Lui d n) = hlevel props
+IsValid-prop (insts.Auipc d n) = hlevel props
+IsValid-prop (insts.Jal d z) = hlevel props
+IsValid-prop (insts.Jalr d a z) = hlevel props
+IsValid-prop (insts.Branch o a b z) = hlevel props
+IsValid-prop (insts.Load o d a z) = hlevel props
+IsValid-prop (insts.Store o a b z) = hlevel props
+IsValid-prop (insts.OpImm o d a z) = hlevel (props, IsImmediateOf-prop o z)
+IsValid-prop (insts.Op o d a b) = hlevel props
+IsValid-prop (insts.Fence word) = hlevel props
+IsValid-prop insts.Ecall = hlevel props
+IsValid-prop insts.Ebreak = hlevel props
+
+IsSound-prop : (statement : Statement) → IsProp (IsSound statement)
+IsSound-prop (statements.Inst inst) = IsValid-prop inst
+IsSound-prop (statements.Jal rd label) = hlevel props
+IsSound-prop (statements.Branch op rs1 rs2 label) = hlevel props
+IsSound-prop (statements.La rd label) = hlevel props
+IsSound-prop (statements.Word word) = hlevel props
+IsSound-prop (statements.Address label) = hlevel props
+IsSound-prop (statements.Byte byte) = hlevel props
+IsSound-prop (statements.Zero count) = hlevel props
+
+pub ArePlacedSound-prop : (placed : List Placed) → IsProp (ArePlacedSound placed)
+ArePlacedSound-prop [] = hlevel props
+ArePlacedSound-prop (one ∷ others) = hlevel (props, IsSound-prop one.statement, ArePlacedSound-prop others)

@@ -1,17 +1,18 @@
 -- What the code's values stand for.
-use Rattle.std.specs.Prelude.{List, Result, Ok, Err}
-use Rattle.std.specs.Global.{Vec as VecOf}
+use Rattle.std.specs.Prelude.{ℕ, List, Option, Some, None, Result, Ok, Err}
 use Rattle.rv_asm.specs.declared.fault.AsmKind.{AsmKind}
-use Rattle.rv_asm.specs.declared.statement.Operand.{Operand}
-use Rattle.rv_asm.specs.declared.statement.Operand.TheVariants as operands
+use Rattle.rv_asm.specs.declared.statement.Datum.{Datum}
+use Rattle.rv_asm.specs.declared.statement.Datum.TheVariants as datums
 use Rattle.rv_asm.specs.declared.statement.Statement.{Statement}
-use Rattle.rv_asm.specs.declared.statement.Statement.TheVariants as statements
+use Rattle.rv_asm.specs.Names.{Names}
+use Rattle.rv_asm.specs.Statements.{word_value, byte_value}
 
--- the statement that lays an operand of `.word`
-abbrev pub statement_meant : Operand → Statement
-statement_meant (operands.Number word) = statements.Word word
-statement_meant (operands.Label label) = statements.Address label.now
+-- an operand of `.word` or of `.byte`
+abbrev pub datum_value : Datum → Names → List ℕ → Result Statement AsmKind
+datum_value datums.Word names piece = word_value names piece
+datum_value datums.Byte names piece = byte_value names piece
 
-abbrev pub items_of : Result (VecOf Statement) AsmKind → Result (List Statement) AsmKind
-items_of (Ok list) = Ok list.items
-items_of (Err kind) = Err kind
+-- the judgment that a list and a fault stand for: the fault, where there is one
+abbrev pub judged_of : {A : Type 0} → Option AsmKind → List A → Result (List A) AsmKind
+judged_of None list = Ok list
+judged_of (Some kind) list = Err kind

@@ -1,8 +1,8 @@
 //! The first pass: each line is judged, and its statements get their places.
 
-ghost use Rattle.std.specs.Prelude.{◌≡◌, ◌^◌, ◌<◌, length, Some, option_map, IfOk, OnOk};
+ghost use Rattle.std.specs.Prelude.{◌≡◌, ◌^◌, ◌<◌, length, Some, option_map};
 ghost use Rattle.rv_asm.specs.Sizes.{size_of, lays_words};
-ghost use Rattle.rv_asm.specs.Sound.{IsSound, AreSound, ArePlacedSound};
+ghost use Rattle.rv_asm.specs.Sound.{IsSound, AreSound};
 ghost use Rattle.rv_asm.specs.LaidOut.{laid_out};
 ghost use Rattle.rv_asm.specs.FirstPass.{place, place_all, define, equ, lay, statement, labelled, line_laid, operands_of, Lays, first_pass};
 ghost use Rattle.rv_asm.specs.Faults.{GivesAll};
@@ -18,27 +18,18 @@ use ce_text::{are_plain, before_comment, cut_at, cut_at_blank, has_byte, trimmed
 use rv_model::{IMAGE_ROOM, PRIVATE_START};
 use std::alloc::Global;
 
-fn size_of(statement: &Statement) -> u32
+fn size_of(statement: &Statement<'_>) -> u32
     ensures { result ≡ size_of statement.now }
 {
     match statement {
         Statement::Byte(_) => 1,
         Statement::Zero(count) => *count,
-        Statement::La { rd: _, label: _ } => 8,
-        Statement::Inst(_)
-        | Statement::Jal { rd: _, label: _ }
-        | Statement::Branch {
-            op: _,
-            rs1: _,
-            rs2: _,
-            label: _,
-        }
-        | Statement::Word(_)
-        | Statement::Address(_) => 4,
+        Statement::La { .. } => 8,
+        _ => 4,
     }
 }
 
-fn lays_words(statement: &Statement) -> bool
+fn lays_words(statement: &Statement<'_>) -> bool
     ensures { result ≡ lays_words statement.now }
 {
     !matches!(statement, Statement::Byte(_) | Statement::Zero(_))
@@ -47,10 +38,9 @@ fn lays_words(statement: &Statement) -> bool
 /// Lays one more statement, of this line. `Unaligned` where words would not stand at a multiple of 4, then
 /// `TooLarge`.
 #[tactic(auto, unfolding(crate::specs::FirstPass::place))]
-fn place(layout: &mut Layout, line: u32, statement: Statement) -> Result<(), Halt>
+fn place<'a>(layout: &mut Layout<'a>, line: u32, statement: Statement<'a>) -> Result<(), Halt>
     requires { IsSound statement }
-    ensures laid { Lays result (laid_out layout.new) (place line (laid_out layout.old) statement) }
-    ensures sound { OnOk result (ArePlacedSound layout.old.statements.items → ArePlacedSound layout.new.statements.items) }
+    ensures { Lays result (laid_out layout.new) (place line (laid_out layout.old) statement.entry) }
 {
     if lays_words(&statement) && layout.size % 4 != 0 {
         return Err(Halt::Fault(AsmKind::Unaligned));
@@ -64,10 +54,13 @@ fn place(layout: &mut Layout, line: u32, statement: Statement) -> Result<(), Hal
     Ok(())
 }
 
-fn place_all(layout: &mut Layout, line: u32, statements: Vec<Statement>) -> Result<(), Halt>
+fn place_all<'a>(
+    layout: &mut Layout<'a>,
+    line: u32,
+    statements: Vec<Statement<'a>>,
+) -> Result<(), Halt>
     requires { AreSound statements.items }
-    ensures laid { Lays result (laid_out layout.new) (place_all line (laid_out layout.old) statements.items) }
-    ensures sound { OnOk result (ArePlacedSound layout.old.statements.items → ArePlacedSound layout.new.statements.items) }
+    ensures { Lays result (laid_out layout.new) (place_all line (laid_out layout.old) statements.entry.items) }
 {
     for statement in statements {
         place(layout, line, statement)?;
@@ -77,9 +70,8 @@ fn place_all(layout: &mut Layout, line: u32, statements: Vec<Statement>) -> Resu
 
 /// Gives a name a meaning, and `NameTaken` where it has one.
 #[tactic(auto, unfolding(crate::specs::FirstPass::define))]
-fn define(layout: &mut Layout, name: &[u8], symbol: Symbol) -> Result<(), Halt>
-    ensures laid { Lays result (laid_out layout.new) (define (laid_out layout.old) name.now symbol) }
-    ensures sound { OnOk result (ArePlacedSound layout.old.statements.items → ArePlacedSound layout.new.statements.items) }
+fn define(layout: &mut Layout<'_>, name: &[u8], symbol: Symbol) -> Result<(), Halt>
+    ensures { Lays result (laid_out layout.new) (define (laid_out layout.old) name.now symbol) }
 {
     if layout.symbols.is_taken(name) {
         return Err(Halt::Fault(AsmKind::NameTaken));
@@ -90,9 +82,8 @@ fn define(layout: &mut Layout, name: &[u8], symbol: Symbol) -> Result<(), Halt>
 
 /// `.equ name, n`
 #[tactic(auto, unfolding(crate::specs::FirstPass::equ))]
-fn equ(layout: &mut Layout, operands: &[u8]) -> Result<(), Halt>
-    ensures laid { Lays result (laid_out layout.new) (equ (laid_out layout.old) operands.now) }
-    ensures sound { OnOk result (ArePlacedSound layout.old.statements.items → ArePlacedSound layout.new.statements.items) }
+fn equ<'a>(layout: &mut Layout<'a>, operands: &'a [u8]) -> Result<(), Halt>
+    ensures { Lays result (laid_out layout.new) (equ (laid_out layout.old) operands.now) }
 {
     let first = cut_at(operands, b',').0;
     if layout.symbols.is_taken(trimmed(first)) {
@@ -105,15 +96,14 @@ fn equ(layout: &mut Layout, operands: &[u8]) -> Result<(), Halt>
 
 /// A statement of another word than `.equ`.
 #[tactic(auto, unfolding(crate::specs::FirstPass::lay))]
-fn lay(
+fn lay<'a>(
     alloc: Global,
-    layout: &mut Layout,
+    layout: &mut Layout<'a>,
     line: u32,
     word: &[u8],
-    operands: &[u8],
+    operands: &'a [u8],
 ) -> Result<(), Halt>
-    ensures laid { Lays result (laid_out layout.new) (lay line (laid_out layout.old) word.now operands.now) }
-    ensures sound { OnOk result (ArePlacedSound layout.old.statements.items → ArePlacedSound layout.new.statements.items) }
+    ensures { Lays result (laid_out layout.new) (lay line (laid_out layout.old) word.now operands.now) }
 {
     let mnemonic = mnemonic_of(word).ok_or(AsmKind::UnknownWord)?;
     let statements = statements_of(alloc, mnemonic, &layout.symbols, operands)?;
@@ -131,9 +121,13 @@ fn operands_of(rest: Option<&[u8]>) -> &[u8]
 
 /// What a line has behind its label: nothing, or a word and its operands.
 #[tactic(auto, unfolding(crate::specs::FirstPass::statement))]
-fn statement(alloc: Global, layout: &mut Layout, line: u32, bytes: &[u8]) -> Result<(), Halt>
-    ensures laid { Lays result (laid_out layout.new) (statement line (laid_out layout.old) bytes.now) }
-    ensures sound { OnOk result (ArePlacedSound layout.old.statements.items → ArePlacedSound layout.new.statements.items) }
+fn statement<'a>(
+    alloc: Global,
+    layout: &mut Layout<'a>,
+    line: u32,
+    bytes: &'a [u8],
+) -> Result<(), Halt>
+    ensures { Lays result (laid_out layout.new) (statement line (laid_out layout.old) bytes.now) }
 {
     if bytes.is_empty() {
         return Ok(());
@@ -149,15 +143,14 @@ fn statement(alloc: Global, layout: &mut Layout, line: u32, bytes: &[u8]) -> Res
     }
 }
 
-fn labelled(
+fn labelled<'a>(
     alloc: Global,
-    layout: &mut Layout,
+    layout: &mut Layout<'a>,
     line: u32,
-    front: &[u8],
-    rest: &[u8],
+    front: &'a [u8],
+    rest: &'a [u8],
 ) -> Result<(), Halt>
-    ensures laid { Lays result (laid_out layout.new) (labelled line (laid_out layout.old) front.now (Some rest.now)) }
-    ensures sound { OnOk result (ArePlacedSound layout.old.statements.items → ArePlacedSound layout.new.statements.items) }
+    ensures { Lays result (laid_out layout.new) (labelled line (laid_out layout.old) front.now (Some rest.now)) }
 {
     let label = trimmed(front);
     if !is_name(label) {
@@ -170,9 +163,13 @@ fn labelled(
 
 /// One line.
 #[tactic(auto, unfolding(crate::specs::FirstPass::line_laid))]
-fn line(alloc: Global, layout: &mut Layout, number: u32, bytes: &[u8]) -> Result<(), Halt>
-    ensures laid { Lays result (laid_out layout.new) (line_laid number (laid_out layout.old) bytes.now) }
-    ensures sound { OnOk result (ArePlacedSound layout.old.statements.items → ArePlacedSound layout.new.statements.items) }
+fn line<'a>(
+    alloc: Global,
+    layout: &mut Layout<'a>,
+    number: u32,
+    bytes: &'a [u8],
+) -> Result<(), Halt>
+    ensures { Lays result (laid_out layout.new) (line_laid number (laid_out layout.old) bytes.now) }
 {
     let code = before_comment(bytes);
     if !are_plain(code) {
@@ -187,10 +184,9 @@ fn line(alloc: Global, layout: &mut Layout, number: u32, bytes: &[u8]) -> Result
 
 /// The layout of a text of fewer than 2^31 bytes, or its first fault of the first pass.
 #[tactic(auto, unfolding(crate::specs::FirstPass::first_pass))]
-pub fn first_pass(alloc: Global, text: &[u8]) -> Result<Layout, AsmFault>
+pub fn first_pass(alloc: Global, text: &[u8]) -> Result<Layout<'_>, AsmFault>
     requires { length text.now < 2 ^ 31 }
-    ensures laid { GivesAll laid_out result (first_pass text.now) }
-    ensures sound { IfOk result (λ layout. ArePlacedSound layout.statements.items) }
+    ensures { GivesAll laid_out result (first_pass text.now) }
 {
     let mut layout = Layout {
         symbols: Symbols::new(alloc),

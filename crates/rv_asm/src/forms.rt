@@ -3,10 +3,11 @@
 ghost use Rattle.std.specs.Prelude.{◌≡◌, IfOk};
 ghost use Rattle.rv_inst.specs.Valid.{IsRegister, IsTwelveBits, IsUpper, IsImmediateOf};
 ghost use Rattle.rv_asm.specs.Symbols.{names_of};
-ghost use Rattle.rv_asm.specs.Operand.{Views, word_of, byte_of};
+ghost use Rattle.rv_asm.specs.Operand.{word_of, byte_of};
 ghost use Rattle.rv_asm.specs.Statements.{register_upper, register_memory, immediate, registers_immediate, three_registers, two_registers, register_word, register_label, registers_label, one_label, zero_count};
 
 use crate::fault::AsmKind;
+use crate::name::Name;
 use crate::operand::{
     both, memory, name_piece, number, one_piece, ranged, register, three_pieces, two_pieces,
 };
@@ -58,15 +59,8 @@ fn immediate(symbols: &Symbols, op: ImmOp, piece: &[u8]) -> Result<i64, AsmKind>
 {
     let n = number(symbols, piece);
     match op {
-        ImmOp::Slli => ranged(0, 31, n),
-        ImmOp::Srli => ranged(0, 31, n),
-        ImmOp::Srai => ranged(0, 31, n),
-        ImmOp::Addi => ranged(-2048, 2047, n),
-        ImmOp::Slti => ranged(-2048, 2047, n),
-        ImmOp::Sltiu => ranged(-2048, 2047, n),
-        ImmOp::Xori => ranged(-2048, 2047, n),
-        ImmOp::Ori => ranged(-2048, 2047, n),
-        ImmOp::Andi => ranged(-2048, 2047, n),
+        ImmOp::Slli | ImmOp::Srli | ImmOp::Srai => ranged(0, 31, n),
+        _ => ranged(-2048, 2047, n),
     }
 }
 
@@ -119,34 +113,34 @@ pub fn register_word(symbols: &Symbols, operands: &[u8]) -> Result<(u8, u32), As
 
 /// `rd, label`
 #[tactic(auto, unfolding(crate::specs::Statements::register_label))]
-pub fn register_label(operands: &[u8]) -> Result<(u8, &[u8]), AsmKind>
-    ensures value { Views (λ it. (it.0, it.1.now)) result (register_label operands.now) }
+pub fn register_label(operands: &[u8]) -> Result<(u8, Name<'_>), AsmKind>
+    ensures value { result ≡ register_label operands.now }
     ensures small { IfOk result (λ it. IsRegister it.0) }
 {
     let (rd, label) = two_pieces(operands)?;
     let (rd, ()) = both(register(rd), name_piece(label))?;
-    Ok((rd, label))
+    Ok((rd, Name::of(label)))
 }
 
 /// `rs1, rs2, label`
 #[tactic(auto, unfolding(crate::specs::Statements::registers_label))]
-pub fn registers_label(operands: &[u8]) -> Result<(u8, u8, &[u8]), AsmKind>
-    ensures value { Views (λ it. (it.0, it.1, it.2.now)) result (registers_label operands.now) }
+pub fn registers_label(operands: &[u8]) -> Result<(u8, u8, Name<'_>), AsmKind>
+    ensures value { result ≡ registers_label operands.now }
     ensures small { IfOk result (λ it. IsRegister it.0 × IsRegister it.1) }
 {
     let (rs1, rs2, label) = three_pieces(operands)?;
     let ((rs1, rs2), ()) = both(both(register(rs1), register(rs2)), name_piece(label))?;
-    Ok((rs1, rs2, label))
+    Ok((rs1, rs2, Name::of(label)))
 }
 
 /// `label`
 #[tactic(auto, unfolding(crate::specs::Statements::one_label))]
-pub fn one_label(operands: &[u8]) -> Result<&[u8], AsmKind>
-    ensures { Views (λ label. label.now) result (one_label operands.now) }
+pub fn one_label(operands: &[u8]) -> Result<Name<'_>, AsmKind>
+    ensures { result ≡ one_label operands.now }
 {
     let label = one_piece(operands)?;
     name_piece(label)?;
-    Ok(label)
+    Ok(Name::of(label))
 }
 
 /// `n` from 0 to the most bytes that an image may take up.

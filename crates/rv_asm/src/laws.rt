@@ -1,28 +1,33 @@
 //! Laws of the assembler, each the contract of a function that does nothing.
 
-ghost use Rattle.std.specs.Prelude.{◌≡◌, ◌<◌, ◌^◌, ℕ, List, length, Some, Ok, IsTrue, Err, ◌≢◌, codes, ◌++◌, ◌∷◌, false};
+ghost use Rattle.std.specs.Prelude.{◌≡◌, ◌<◌, ◌≤◌, ◌+◌, ◌*◌, ◌^◌, map, ℕ, List, length, Some, Ok, IsTrue, Err, ◌≢◌, codes, ◌++◌, ◌∷◌, [], true, false};
 ghost use Rattle.rv_model.specs.Exec.{Access, went, with_reg, reg, exec, jumped, is_taken, next_pc};
 ghost use Rattle.rv_model.specs.declared.inst.BranchOp.{BranchOp};
 ghost use Rattle.rv_inst.specs.Valid.{IsRegister};
 ghost use Rattle.rv_asm.specs.Law.{InstructionsDecode, OneSpelling};
 ghost use Rattle.rv_asm.specs.Effects.{HasInstructions, HasParts, steps, pc_behind};
-ghost use Rattle.rv_model.specs.Image.{image_start};
-ghost use Rattle.rv_asm.specs.Assembly.{entry_of};
+ghost use Rattle.rv_model.specs.Image.{image_start, image_room};
+ghost use Rattle.rv_asm.specs.Assembly.{assembled, entry_of};
+ghost use Rattle.rv_asm.specs.Listing.{IsListing};
+ghost use Rattle.rv_asm.specs.Sizes.{statements_size};
+ghost use Rattle.rv_model.specs.declared.inst.Inst.{Inst};
 ghost use Rattle.ce_text.specs.Line.{lines};
-ghost use Rattle.rv_asm.specs.FirstPass.{Laid, line_laid, first_pass};
-ghost use Rattle.rv_asm.specs.Before.{label_of, line_at, address_at, IsFirstFault, AreLaid};
+ghost use Rattle.rv_asm.specs.FirstPass.{Laid, statement, line_laid, first_pass};
+ghost use Rattle.rv_asm.specs.Before.{label_of, line_at, address_at, laid_before, IsFirstFault, AreLaid};
+ghost use Rattle.rv_asm.specs.Line.{is_colon, is_opening, is_closing};
+ghost use Rattle.rv_asm.specs.Operand.{memory};
 ghost use Rattle.rv_asm.specs.Names.{Names};
 ghost use Rattle.rv_asm.specs.declared.mnemonic.Mnemonic.{Mnemonic};
 ghost use Rattle.rv_asm.specs.Forms.{statement_fault};
 ghost use Rattle.rv_asm.specs.LineFaults.{line_fault};
 ghost use Rattle.rv_asm.specs.LabelFaults.{label_fault, IsFirstLabelFault, HaveLabels};
-ghost use Rattle.ce_text.specs.Bytes.{is_hash};
-ghost use Rattle.std.specs.List.{list_any};
+ghost use Rattle.ce_text.specs.Bytes.{is_hash, is_blank};
+ghost use Rattle.std.specs.List.{list_all, list_any};
 ghost use Rattle.rv_asm.specs.declared.statement.Statement.{Statement};
 ghost use Rattle.rv_asm.specs.declared.statement.Placed.{Placed};
 ghost use Rattle.rv_asm.specs.Statements.{load_word, statements_of};
 ghost use Rattle.std.specs.Result.{result_err};
-ghost use Rattle.rv_asm.specs.SecondPass.{Part, parts_of, second_pass};
+ghost use Rattle.rv_asm.specs.SecondPass.{Part, Instruction, parts_of, second_pass};
 ghost use Rattle.rv_asm.specs.declared.fault.AsmFault.{AsmFault};
 ghost use Rattle.rv_asm.specs.declared.symbols.Symbol.TheVariants.{Label};
 ghost use Rattle.rv_asm.specs.declared.statement.Statement.TheVariants as statements;
@@ -66,10 +71,13 @@ pub fn jumps_reach_their_labels()
         → IsTrue (is_taken op (reg x rs1) (reg x rs2)) → exec A x pc m ≡ jumped pc address x m }
 {}
 
-/// A label's address is the start of the image and the size of all that is laid before its line.
-#[tactic(auto, using(crate::proofs::Labelling::label_addresses))]
+/// A label's address is the start of the image and the size of all that is laid before its line, which is the sum of the
+/// sizes of the statements before it.
+#[tactic(auto, using(crate::proofs::Labelling::label_addresses, crate::proofs::Summing::address_behind))]
 pub fn labels_have_addresses()
-    ensures { (text name : List ℕ) (laid : Laid) (i : ℕ) → first_pass text ≡ Ok laid
+    ensures sizes { (text : List (List ℕ)) (i : ℕ)
+        → address_at text i ≡ image_start + statements_size (laid_before text i).statements }
+    ensures address { (text name : List ℕ) (laid : Laid) (i : ℕ) → first_pass text ≡ Ok laid
         → i < length (lines text) → label_of (line_at (lines text) i) ≡ Some name
         → laid.names name ≡ Some (Label (address_at (lines text) i)) }
 {}
@@ -130,6 +138,46 @@ pub fn first_label_faults_are_answered()
         → IsFirstLabelFault names address placed fault }
     ensures none { (names : Names) (address : ℕ) (placed : List Placed) (parts : List Part)
         → second_pass names address placed ≡ Ok parts → HaveLabels names address placed }
+{}
+
+/// A listing of valid instructions, each written as the table has it, assembles to exactly these, in their order, and is
+/// entered at the first. The instructions name no labels, and empty lines and comments may stand between them.
+#[tactic(auto, using(crate::proofs::Listed::listing_assembles))]
+pub fn listings_are_assembled()
+    ensures { (text : List ℕ) (insts : List Inst) → IsListing (lines text) insts
+        → 0 < length insts → 4 * length insts ≤ image_room
+        → assembled text ≡ Ok (record { entry = image_start; parts = map Instruction insts }) }
+{}
+
+/// Blanks change nothing: there may be any number of them at the ends of a line, on both sides of the colon behind a
+/// label, behind a statement's word where there is one, and on both sides of a comma between operands and of a bracket.
+#[tactic(auto, using(crate::proofs::Blanks::ends_go, crate::proofs::Blanks::colon_goes, crate::proofs::Blanks::word_goes, crate::proofs::Blanks::comma_goes, crate::proofs::Blanks::opening_goes, crate::proofs::Blanks::closing_goes))]
+pub fn blanks_change_nothing()
+    ensures ends { (number : ℕ) (laid : Laid) (before line after : List ℕ)
+        → list_all is_blank before ≡ true → list_all is_blank after ≡ true
+        → line_laid number laid (before ++ line ++ after) ≡ line_laid number laid line }
+    ensures colon { (number : ℕ) (laid : Laid) (label before after rest : List ℕ)
+        → list_any is_hash label ≡ false → list_any is_colon label ≡ false
+        → list_all is_blank before ≡ true → list_all is_blank after ≡ true
+        → line_laid number laid (label ++ before ++ 58 ∷ (after ++ rest))
+        ≡ line_laid number laid (label ++ 58 ∷ rest) }
+    ensures word { (number : ℕ) (laid : Laid) (word : List ℕ) (blank : ℕ) (blanks operands : List ℕ)
+        → list_any is_blank word ≡ false → is_blank blank ≡ true → list_all is_blank blanks ≡ true
+        → statement number laid (word ++ blank ∷ (blanks ++ operands))
+        ≡ statement number laid (word ++ blank ∷ operands) }
+    ensures comma { (mnemonic : Mnemonic) (names : Names) (first before after second : List ℕ)
+        → list_all is_blank before ≡ true → list_all is_blank after ≡ true
+        → statements_of mnemonic names (first ++ before ++ 44 ∷ (after ++ second))
+        ≡ statements_of mnemonic names (first ++ 44 ∷ second) }
+    ensures opening { (names : Names) (number before after base : List ℕ)
+        → list_any is_opening number ≡ false
+        → list_all is_blank before ≡ true → list_all is_blank after ≡ true
+        → memory names (number ++ before ++ 40 ∷ (after ++ base)) ≡ memory names (number ++ 40 ∷ base) }
+    ensures closing { (names : Names) (number base before after : List ℕ)
+        → list_any is_opening number ≡ false → list_any is_closing base ≡ false
+        → list_all is_blank before ≡ true → list_all is_blank after ≡ true
+        → memory names (number ++ 40 ∷ (base ++ before ++ 41 ∷ after))
+        ≡ memory names (number ++ 40 ∷ (base ++ 41 ∷ [])) }
 {}
 
 /// A comment changes nothing of what a line means.

@@ -3,17 +3,19 @@
 ghost use Rattle.std.specs.Prelude.{◌≡◌, ◌≤◌, sum_by};
 ghost use Rattle.rv_model.specs.Image.{image_room};
 ghost use Rattle.rv_asm.specs.Sizes.{size_of};
+ghost use Rattle.rv_asm.specs.Sound.{ArePlacedSound, ArePlacedSound-prop};
 
 use crate::statement::Placed;
 use crate::symbols::Symbols;
 
 /// What the first pass lays out: what the names mean, and the statements with their lines.
 #[derive(Drop)]
-pub struct Layout {
+pub struct Layout<'a> {
     pub symbols: Symbols,
-    pub statements: Vec<Placed>,
+    pub statements: Vec<Placed<'a>>,
     /// How many bytes the statements take.
     pub size: u32,
     ghost counted: { size ≡ sum_by (λ placed. size_of placed.statement) statements.items },
     ghost fits: { size ≤ image_room },
+    ghost sound: { ArePlacedSound statements.items } by { ArePlacedSound-prop statements.items },
 }

@@ -1,43 +1,38 @@
 //! Names of labels and numbers.
 
-ghost use Rattle.std.specs.Prelude.{◌≡◌, IfOk};
+ghost use Rattle.std.specs.Prelude.{◌≡◌};
 ghost use Rattle.rv_asm.specs.Name.{is_name};
 
-use std::alloc::{AllocError, Global};
 use std::marker::Model;
 
 /// How many bytes a name has at most.
 const LONGEST: usize = 32;
 
-/// A name that a statement keeps for the second pass. Contracts see it as its bytes.
+/// The label that a statement names, as it stands in the text. Contracts see it as its bytes.
 #[derive(Debug, Drop)]
-pub struct Name {
-    bytes: Vec<u8>,
-}
+pub struct Name<'a>(&'a [u8]);
 
-impl Model for Name {
+impl<'a> Model for Name<'a> {
     ghost use Rattle.std.specs.Prelude.{List, ℕ};
 
     ghost Value = { List ℕ };
 
-    ghost view = { λ name. name.bytes.items };
+    ghost view = { λ name. name.0.now };
 }
 
-impl Name {
+impl<'a> Name<'a> {
     /// The name with these bytes.
-    pub fn of(alloc: Global, bytes: &[u8]) -> Result<Name, AllocError>
-        ensures { IfOk result (λ name. name ≡ bytes.now) }
+    pub fn of(bytes: &'a [u8]) -> Name<'a>
+        ensures { result ≡ bytes.now }
     {
-        Ok(Name {
-            bytes: Vec::from_slice(alloc, bytes)?,
-        })
+        Name(bytes)
     }
 
     /// Its bytes.
     pub fn as_slice(&self) -> &[u8]
         ensures { result.now ≡ self.now }
     {
-        self.bytes.as_slice()
+        self.0
     }
 }
 

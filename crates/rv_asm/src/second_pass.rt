@@ -6,7 +6,7 @@ ghost use Rattle.rv_inst.specs.Valid.{IsRegister, IsEven, IsValid};
 ghost use Rattle.rv_model.specs.Image.{image_start, image_room};
 ghost use Rattle.rv_asm.specs.Symbols.{names_of};
 ghost use Rattle.rv_asm.specs.Sizes.{size_of};
-ghost use Rattle.rv_asm.specs.Sound.{IsSound, ArePlacedSound};
+ghost use Rattle.rv_asm.specs.Sound.{IsSound};
 ghost use Rattle.rv_asm.specs.SecondPass.{Instruction, address_of, offset_to, parts_of, second_pass};
 ghost use Rattle.rv_asm.specs.Spelling.{Appends, GivesParts};
 ghost use Rattle.rv_asm.specs.declared.statement.Statement.TheVariants as statements;
@@ -28,7 +28,7 @@ const BRANCH_REACH: u32 = 1 << 12;
 
 /// The address of a label, and `UnknownName` where no line has it.
 #[tactic(auto, unfolding(crate::specs::SecondPass::address_of))]
-fn address_of(symbols: &Symbols, label: &Name) -> Result<u32, AsmKind>
+fn address_of(symbols: &Symbols, label: &Name<'_>) -> Result<u32, AsmKind>
     ensures { result ≡ address_of (names_of symbols.now) label.now }
 {
     match symbols.meaning(label.as_slice()) {
@@ -79,7 +79,7 @@ fn put(out: &mut Vec<u8>, inst: Inst) -> Result<(), Halt>
 
 /// `jal rd, label` at the end of the bytes.
 #[tactic(auto, unfolding(crate::specs::SecondPass::parts_of))]
-fn put_jump(out: &mut Vec<u8>, symbols: &Symbols, rd: u8, label: &Name) -> Result<(), Halt>
+fn put_jump(out: &mut Vec<u8>, symbols: &Symbols, rd: u8, label: &Name<'_>) -> Result<(), Halt>
     requires register { IsRegister rd }
     requires room { vec_len out.old ≤ image_room }
     ensures parts { Appends result out.old.items out.new.items (parts_of (names_of symbols.now) (image_start + vec_len out.old) (statements.Jal rd label.now)) }
@@ -99,7 +99,7 @@ fn put_branch(
     op: BranchOp,
     rs1: u8,
     rs2: u8,
-    label: &Name,
+    label: &Name<'_>,
 ) -> Result<(), Halt>
     requires first { IsRegister rs1 }
     requires second { IsRegister rs2 }
@@ -123,7 +123,7 @@ fn put_branch(
 
 /// `la rd, label` at the end of the bytes.
 #[tactic(auto, unfolding(crate::specs::SecondPass::parts_of))]
-fn put_address(out: &mut Vec<u8>, symbols: &Symbols, rd: u8, label: &Name) -> Result<(), Halt>
+fn put_address(out: &mut Vec<u8>, symbols: &Symbols, rd: u8, label: &Name<'_>) -> Result<(), Halt>
     requires { IsRegister rd }
     ensures parts { Appends result out.old.items out.new.items (parts_of (names_of symbols.now) (image_start + vec_len out.old) (statements.La rd label.now)) }
     ensures size { OnOk result (vec_len out.new ≡ vec_len out.old + 8) }
@@ -136,7 +136,7 @@ fn put_address(out: &mut Vec<u8>, symbols: &Symbols, rd: u8, label: &Name) -> Re
 
 /// `.word label` at the end of the bytes.
 #[tactic(auto, unfolding(crate::specs::SecondPass::parts_of))]
-fn put_label(out: &mut Vec<u8>, symbols: &Symbols, label: &Name) -> Result<(), Halt>
+fn put_label(out: &mut Vec<u8>, symbols: &Symbols, label: &Name<'_>) -> Result<(), Halt>
     ensures parts { Appends result out.old.items out.new.items (parts_of (names_of symbols.now) (image_start + vec_len out.old) (statements.Address label.now)) }
     ensures size { OnOk result (vec_len out.new ≡ vec_len out.old + 4) }
 {
@@ -146,7 +146,11 @@ fn put_label(out: &mut Vec<u8>, symbols: &Symbols, label: &Name) -> Result<(), H
 
 /// What a statement becomes, at the end of the bytes so far.
 #[tactic(auto, unfolding(crate::specs::SecondPass::parts_of))]
-fn put_statement(out: &mut Vec<u8>, symbols: &Symbols, statement: &Statement) -> Result<(), Halt>
+fn put_statement(
+    out: &mut Vec<u8>,
+    symbols: &Symbols,
+    statement: &Statement<'_>,
+) -> Result<(), Halt>
     requires sound { IsSound statement.now }
     requires room { vec_len out.old ≤ image_room }
     ensures parts { Appends result out.old.items out.new.items (parts_of (names_of symbols.now) (image_start + vec_len out.old) statement.now) }
@@ -170,8 +174,7 @@ fn put_statement(out: &mut Vec<u8>, symbols: &Symbols, statement: &Statement) ->
 }
 
 /// The bytes of a layout, or its first fault of the second pass.
-pub fn second_pass(alloc: Global, layout: &Layout) -> Result<Vec<u8>, AsmFault>
-    requires { ArePlacedSound layout.now.statements.items }
+pub fn second_pass(alloc: Global, layout: &Layout<'_>) -> Result<Vec<u8>, AsmFault>
     ensures parts { GivesParts (λ out. out.items) result (second_pass (names_of layout.now.symbols) image_start layout.now.statements.items) }
     ensures size { IfOk result (λ out. vec_len out ≡ layout.now.size) }
 {

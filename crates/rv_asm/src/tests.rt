@@ -17,15 +17,22 @@ fn bytes_of(alloc: Global, text: &[u8]) -> Result<Vec<u8>, AsmFault> {
     })
 }
 
-/// Each text is refused at this line, as this kind.
-fn refused(rt: &impl Abort, alloc: Global, rows: &[(&str, u32, AsmKind)]) {
+/// Each text is refused at this line, as this kind. Where memory runs out, that is the answer.
+fn refused(rt: &impl Abort, alloc: Global, rows: &[(&str, u32, AsmKind)]) -> Result<(), Fail> {
     for (text, line, kind) in rows {
         let (line, kind) = (*line, *kind);
         match bytes_of(alloc, text.as_bytes()) {
             Ok(_) => panic!(rt; "accepted: {text}"),
+            Err(
+                AsmFault {
+                    line: _,
+                    kind: AsmKind::Memory(cause),
+                },
+            ) => return Err(cause.into()),
             Err(fault) => assert_eq!(rt; fault, AsmFault { line, kind }, "{text}"),
         }
     }
+    Ok(())
 }
 
 /// The text gives these bytes.
@@ -44,65 +51,72 @@ fn gives(rt: &impl Abort, alloc: Global, text: &str, words: &[u32]) -> Result<()
     gives_bytes(rt, alloc, text, &wanted)
 }
 
+/// Each line gives its word, where the lines are one text.
+fn each_gives(rt: &impl Abort, alloc: Global, rows: &[(&str, u32)]) -> Result<(), Fail> {
+    let mut text = String::new(alloc);
+    for (line, _) in rows {
+        write!(&mut text, "{line}\n")?;
+    }
+    let bytes = bytes_of(alloc, text.as_bytes())?;
+    let mut words = bytes.as_slice().chunks(4);
+    for (line, word) in rows {
+        assert_eq!(rt; words.next(), Some(word.to_le_bytes().as_slice()), "{line}");
+    }
+    assert_eq!(rt; words.next(), None);
+    Ok(())
+}
+
 /// Each statement once. The words are those of another assembler for RV32I.
 #[test]
 fn statements(rt: HostRuntime) -> Result<(), Fail> {
-    let text =
-        "x: lui a0, 1048575\nauipc t6, 0\njal ra, x\njalr s11, -2048(sp)\nbeq a0, a1, x\nbne s0, s1, x\n\
-        blt t0, t1, x\nbge x0, x31, x\nbltu fp, gp, x\nbgeu tp, ra, x\nlb a0, -1(a1)\nlh a2, 2047(a3)\nlw a4, 0(a5)\n\
-        lbu a6, 1(a7)\nlhu s2, 2(s3)\nsb s4, -2048(s5)\nsh s6, 2047(s7)\nsw s8, 31(s9)\naddi s10, zero, -2048\n\
-        slti t2, t3, 2047\nsltiu t4, t5, -1\nxori a0, a0, 1\nori a1, a1, 2\nandi a2, a2, 3\nslli a3, a3, 31\n\
-        srli a4, a4, 0\nsrai a5, a5, 17\nadd a0, a1, a2\nsll a0, a1, a2\nslt a0, a1, a2\nsltu a0, a1, a2\n\
-        xor a0, a1, a2\nsrl a0, a1, a2\nor a0, a1, a2\nand a0, a1, a2\nsub a0, a1, a2\nsra a0, a1, a2\nfence\necall\n\
-        ebreak\nmv a0, a1\nj x\ncall x\nret\nnop\n";
-    let words = [
-        0xFFFF_F537,
-        0x0000_0F97,
-        0xFF9F_F0EF,
-        0x8001_0DE7,
-        0xFEB5_08E3,
-        0xFE94_16E3,
-        0xFE62_C4E3,
-        0xFFF0_52E3,
-        0xFE34_60E3,
-        0xFC12_7EE3,
-        0xFFF5_8503,
-        0x7FF6_9603,
-        0x0007_A703,
-        0x0018_C803,
-        0x0029_D903,
-        0x814A_8023,
-        0x7F6B_9FA3,
-        0x018C_AFA3,
-        0x8000_0D13,
-        0x7FFE_2393,
-        0xFFFF_3E93,
-        0x0015_4513,
-        0x0025_E593,
-        0x0036_7613,
-        0x01F6_9693,
-        0x0007_5713,
-        0x4117_D793,
-        0x00C5_8533,
-        0x00C5_9533,
-        0x00C5_A533,
-        0x00C5_B533,
-        0x00C5_C533,
-        0x00C5_D533,
-        0x00C5_E533,
-        0x00C5_F533,
-        0x40C5_8533,
-        0x40C5_D533,
-        0x0FF0_000F,
-        0x0000_0073,
-        0x0010_0073,
-        0x0005_8513,
-        0xF5DF_F06F,
-        0xF59F_F0EF,
-        0x0000_8067,
-        0x0000_0013,
+    let rows = [
+        ("x: lui a0, 1048575", 0xFFFF_F537),
+        ("auipc t6, 0", 0x0000_0F97),
+        ("jal ra, x", 0xFF9F_F0EF),
+        ("jalr s11, -2048(sp)", 0x8001_0DE7),
+        ("beq a0, a1, x", 0xFEB5_08E3),
+        ("bne s0, s1, x", 0xFE94_16E3),
+        ("blt t0, t1, x", 0xFE62_C4E3),
+        ("bge x0, x31, x", 0xFFF0_52E3),
+        ("bltu fp, gp, x", 0xFE34_60E3),
+        ("bgeu tp, ra, x", 0xFC12_7EE3),
+        ("lb a0, -1(a1)", 0xFFF5_8503),
+        ("lh a2, 2047(a3)", 0x7FF6_9603),
+        ("lw a4, 0(a5)", 0x0007_A703),
+        ("lbu a6, 1(a7)", 0x0018_C803),
+        ("lhu s2, 2(s3)", 0x0029_D903),
+        ("sb s4, -2048(s5)", 0x814A_8023),
+        ("sh s6, 2047(s7)", 0x7F6B_9FA3),
+        ("sw s8, 31(s9)", 0x018C_AFA3),
+        ("addi s10, zero, -2048", 0x8000_0D13),
+        ("slti t2, t3, 2047", 0x7FFE_2393),
+        ("sltiu t4, t5, -1", 0xFFFF_3E93),
+        ("xori a0, a0, 1", 0x0015_4513),
+        ("ori a1, a1, 2", 0x0025_E593),
+        ("andi a2, a2, 3", 0x0036_7613),
+        ("slli a3, a3, 31", 0x01F6_9693),
+        ("srli a4, a4, 0", 0x0007_5713),
+        ("srai a5, a5, 17", 0x4117_D793),
+        ("add a0, a1, a2", 0x00C5_8533),
+        ("sll a0, a1, a2", 0x00C5_9533),
+        ("slt a0, a1, a2", 0x00C5_A533),
+        ("sltu a0, a1, a2", 0x00C5_B533),
+        ("xor a0, a1, a2", 0x00C5_C533),
+        ("srl a0, a1, a2", 0x00C5_D533),
+        ("or a0, a1, a2", 0x00C5_E533),
+        ("and a0, a1, a2", 0x00C5_F533),
+        ("sub a0, a1, a2", 0x40C5_8533),
+        ("sra a0, a1, a2", 0x40C5_D533),
+        ("fence", 0x0FF0_000F),
+        ("ecall", 0x0000_0073),
+        ("ebreak", 0x0010_0073),
+        ("mv a0, a1", 0x0005_8513),
+        ("j x", 0xF5DF_F06F),
+        ("call x", 0xF59F_F0EF),
+        ("ret", 0x0000_8067),
+        ("nop", 0x0000_0013),
     ];
-    gives(&rt, rt.alloc(), text, &words)
+    each_gives(&rt, rt.alloc(), &rows)
 }
 
 /// `li` has one instruction from -2,048 to 2,047 modulo 2^32, and else two; `la` always has two.
@@ -154,87 +168,71 @@ fn data(rt: HostRuntime) -> Result<(), Fail> {
 #[test]
 fn programs(rt: HostRuntime) -> Result<(), Fail> {
     let alloc = rt.alloc();
-    gives(
-        &rt,
-        alloc,
-        "li a0, 8\nli a7, 1\necall\nmv s0, a0\nli t0, 7\nsw t0, 0(s0)\nli a1, -1\nli a2, 0\nli a7, 4\necall\nlw t1, 0(s0)\n",
-        &[
-            0x0080_0513,
-            0x0010_0893,
-            0x0000_0073,
-            0x0005_0413,
-            0x0070_0293,
-            0x0054_2023,
-            0xFFF0_0593,
-            0x0000_0613,
-            0x0040_0893,
-            0x0000_0073,
-            0x0004_2303,
-        ],
-    )?;
-    gives(
-        &rt,
-        alloc,
-        "loop: li a7, 7\necall\nli a1, -1\nli a2, 0\nli a7, 4\necall\nj loop\n",
-        &[
-            0x0070_0893,
-            0x0000_0073,
-            0xFFF0_0593,
-            0x0000_0613,
-            0x0040_0893,
-            0x0000_0073,
-            0xFE9F_F06F,
-        ],
-    )?;
-    gives(
-        &rt,
-        alloc,
-        "li a7, 7\necall\nli a7, 13\necall\n",
-        &[0x0070_0893, 0x0000_0073, 0x00D0_0893, 0x0000_0073],
-    )
+    let sender = [
+        ("li a0, 8", 0x0080_0513),
+        ("li a7, 1", 0x0010_0893),
+        ("ecall", 0x0000_0073),
+        ("mv s0, a0", 0x0005_0413),
+        ("li t0, 7", 0x0070_0293),
+        ("sw t0, 0(s0)", 0x0054_2023),
+        ("li a1, -1", 0xFFF0_0593),
+        ("li a2, 0", 0x0000_0613),
+        ("li a7, 4", 0x0040_0893),
+        ("ecall", 0x0000_0073),
+        ("lw t1, 0(s0)", 0x0004_2303),
+    ];
+    let receiver = [
+        ("loop: li a7, 7", 0x0070_0893),
+        ("ecall", 0x0000_0073),
+        ("li a1, -1", 0xFFF0_0593),
+        ("li a2, 0", 0x0000_0613),
+        ("li a7, 4", 0x0040_0893),
+        ("ecall", 0x0000_0073),
+        ("j loop", 0xFE9F_F06F),
+    ];
+    let waiter = [
+        ("li a7, 7", 0x0070_0893),
+        ("ecall", 0x0000_0073),
+        ("li a7, 13", 0x00D0_0893),
+        ("ecall", 0x0000_0073),
+    ];
+    each_gives(&rt, alloc, &sender)?;
+    each_gives(&rt, alloc, &receiver)?;
+    each_gives(&rt, alloc, &waiter)
 }
 
 /// A program that passes a token round a ring of nodes.
 #[test]
 fn ring(rt: HostRuntime) -> Result<(), Fail> {
-    let ring =
-        "loop: li a7, 7\n      ecall\n      mv s0, a0\n      li a7, 10\n      ecall\n      mv s1, a0\n      lw t0, 0(s0)\n\
-      addi t1, s1, 1\n      add t0, t0, t1\n      sw t0, 0(s0)\n      lw t0, 4(s0)\n      addi t0, t0, -1\n      sw t0, 4(s0)\n\
-      beq t0, zero, done\n      li a7, 12\n      ecall\n      addi t1, a0, -1\n      addi a1, s1, 1\n      and a1, a1, t1\n\
-      j pass\ndone: li a1, -1\npass: li a2, 0\n      mv a0, s0\n      li a7, 4\n      ecall\n      j loop\n";
-    gives(
-        &rt,
-        rt.alloc(),
-        ring,
-        &[
-            0x0070_0893,
-            0x0000_0073,
-            0x0005_0413,
-            0x00A0_0893,
-            0x0000_0073,
-            0x0005_0493,
-            0x0004_2283,
-            0x0014_8313,
-            0x0062_82B3,
-            0x0054_2023,
-            0x0044_2283,
-            0xFFF2_8293,
-            0x0054_2223,
-            0x0002_8E63,
-            0x00C0_0893,
-            0x0000_0073,
-            0xFFF5_0313,
-            0x0014_8593,
-            0x0065_F5B3,
-            0x0080_006F,
-            0xFFF0_0593,
-            0x0000_0613,
-            0x0004_0513,
-            0x0040_0893,
-            0x0000_0073,
-            0xF9DF_F06F,
-        ],
-    )
+    let rows = [
+        ("loop: li a7, 7", 0x0070_0893),
+        ("ecall", 0x0000_0073),
+        ("mv s0, a0", 0x0005_0413),
+        ("li a7, 10", 0x00A0_0893),
+        ("ecall", 0x0000_0073),
+        ("mv s1, a0", 0x0005_0493),
+        ("lw t0, 0(s0)", 0x0004_2283),
+        ("addi t1, s1, 1", 0x0014_8313),
+        ("add t0, t0, t1", 0x0062_82B3),
+        ("sw t0, 0(s0)", 0x0054_2023),
+        ("lw t0, 4(s0)", 0x0044_2283),
+        ("addi t0, t0, -1", 0xFFF2_8293),
+        ("sw t0, 4(s0)", 0x0054_2223),
+        ("beq t0, zero, done", 0x0002_8E63),
+        ("li a7, 12", 0x00C0_0893),
+        ("ecall", 0x0000_0073),
+        ("addi t1, a0, -1", 0xFFF5_0313),
+        ("addi a1, s1, 1", 0x0014_8593),
+        ("and a1, a1, t1", 0x0065_F5B3),
+        ("j pass", 0x0080_006F),
+        ("done: li a1, -1", 0xFFF0_0593),
+        ("pass: li a2, 0", 0x0000_0613),
+        ("mv a0, s0", 0x0004_0513),
+        ("li a7, 4", 0x0040_0893),
+        ("ecall", 0x0000_0073),
+        ("j loop", 0xF9DF_F06F),
+    ];
+    each_gives(&rt, rt.alloc(), &rows)
 }
 
 /// The example of docs/ASSEMBLY.md.
@@ -262,7 +260,7 @@ fn example(rt: HostRuntime) -> Result<(), Fail> {
 
 /// Each kind, with a fault of a later kind on its line that does not win.
 #[test]
-fn faults_in_order(rt: HostRuntime) {
+fn faults_in_order(rt: HostRuntime) -> Result<(), Fail> {
     let rows = [
         // One fault alone.
         ("addi a0, a0, 2048", 1, AsmKind::BadNumber),
@@ -296,12 +294,12 @@ fn faults_in_order(rt: HostRuntime) {
         ("nop\nstart:", 0, AsmKind::Entry),
         ("j nowhere\nwhat", 2, AsmKind::UnknownWord),
     ];
-    refused(&rt, rt.alloc(), &rows);
+    refused(&rt, rt.alloc(), &rows)
 }
 
 /// The choices of the language, each with a text that is refused.
 #[test]
-fn refused_forms(rt: HostRuntime) {
+fn refused_forms(rt: HostRuntime) -> Result<(), Fail> {
     let rows = [
         // A statement's word ends at a blank.
         ("nop,", 1, AsmKind::UnknownWord),
@@ -358,7 +356,7 @@ fn refused_forms(rt: HostRuntime) {
             AsmKind::BadNumber,
         ),
     ];
-    refused(&rt, rt.alloc(), &rows);
+    refused(&rt, rt.alloc(), &rows)
 }
 
 /// The choices of the language, each with a text that is accepted.

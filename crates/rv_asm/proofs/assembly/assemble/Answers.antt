@@ -8,12 +8,12 @@ use Rattle.rv_asm.proofs.assembly.assemble.Goals as goal
 
 pub returns-in_err-layout : goal.returns-in_err-layout
 returns-in_err-layout c =
-    let known = fails_first c.args.text.now c.in_err-layout.field-0.0 c.in_err-layout.ensures.laid in
+    let known = fails_first c.args.text.now c.in_err-layout.field-0.0 c.in_err-layout.ensures in
     search rules
 
 pub returns-in_err-bytes : goal.returns-in_err-bytes
 returns-in_err-bytes c =
-    let known = fails_second c.args.text.now (laid_out c.in_ok-layout.layout) c.in_err-bytes.field-0.0 c.in_ok-layout.ensures.laid c.in_err-bytes.ensures.parts in
+    let known = fails_second c.args.text.now (laid_out c.in_ok-layout.layout) c.in_err-bytes.field-0.0 c.in_ok-layout.ensures c.in_err-bytes.ensures.parts in
     search rules
 
 pub returns-in-Ok : goal.returns-in-Ok
@@ -27,7 +27,7 @@ returns-in-Ok c =
     let assembly : Assembly = record { entry = entry_of laid.names; parts = parts } in
     let same = c.in-Ok.ensures.same in (
       assembly,
-      described c.args.text.now laid parts c.in_ok-layout.ensures.laid c.in_ok-bytes.ensures.parts.1 begins,
+      described c.args.text.now laid parts c.in_ok-layout.ensures c.in_ok-bytes.ensures.parts.1 begins,
       record {
         entry = ap (λ (image : ImageParts). image.entry) same ∙ c.entry_of.ensures;
         loaded = subst (λ (image : ImageParts). Spells parts image.loaded) (sym same) c.in_ok-bytes.ensures.parts.2;
@@ -43,4 +43,4 @@ returns c =
     let len : length items ≡ laid.size = omega (arith, c.in_ok-bytes.bytes.ok.0, c.in_ok-bytes.ensures.size) in
     let fault = rw c.entry_of.ensures at c.in-Err.ensures.fault in
     let missing = entry_missing (entry_of laid.names) laid.size items c.in-Err.field-0 len c.in_ok-layout.layout.fits fault in
-    has_no_entry c.args.text.now laid parts c.in_ok-layout.ensures.laid c.in_ok-bytes.ensures.parts.1 missing
+    has_no_entry c.args.text.now laid parts c.in_ok-layout.ensures c.in_ok-bytes.ensures.parts.1 missing

@@ -8,31 +8,30 @@ use Rattle.rv_asm.proofs.Stopping.{stops_all}
 use Rattle.rv_asm.proofs.Passes.{lines_step, lines_more}
 use Rattle.rv_asm.proofs.first_pass.first_pass.Goals as goal
 
-pub returns-in-Err-clause-laid : goal.returns-in-Err-clause-laid
+pub returns-in-Err : goal.returns-in-Err
 unfolding first_pass
-returns-in-Err-clause-laid c =
+returns-in-Err c =
     let parts = rw c.in-Some.bytes-is at c.cut_at.ensures.parts in
     let so_far = rw c.in-Some.is at c.loop-rest.invariant.whole in
     let next = λ (one : Laid). lines_laid (c.loop-rest.number + 1) one (split_behind is_line_feed (left c.cut_at.result.1)) in
     let step = lines_step c.loop-rest.number (laid_out c.loop-rest.layout) c.in-Some.bytes.now c.cut_at.result.0.now (left c.cut_at.result.1) parts in
     rw c.at.ensures
-    (stops_all c.in-Err.halt (c.loop-rest.number + 1) (line_laid (c.loop-rest.number + 1) (laid_out c.loop-rest.layout) c.cut_at.result.0.now) next (first_pass c.args.text.now) (sym so_far ∙ step) c.in-Err.ensures.laid)
+    (stops_all c.in-Err.halt (c.loop-rest.number + 1) (line_laid (c.loop-rest.number + 1) (laid_out c.loop-rest.layout) c.cut_at.result.0.now) next (first_pass c.args.text.now) (sym so_far ∙ step) c.in-Err.ensures)
 
 pub loop-rest-preserved : goal.loop-rest-preserved
 loop-rest-preserved c =
     let parts = rw c.in-Some.bytes-is at c.cut_at.ensures.parts in
     let so_far = rw c.in-Some.is at c.loop-rest.invariant.whole in
     record {
-      whole = lines_more c.loop-rest.number (laid_out c.loop-rest.layout) (laid_out c.line.new.layout) c.in-Some.bytes.now c.cut_at.result.0.now (left c.cut_at.result.1) parts c.in_default-line.ensures.laid ∙ so_far;
-      sound = c.in_default-line.ensures.sound c.loop-rest.invariant.sound;
+      whole = lines_more c.loop-rest.number (laid_out c.loop-rest.layout) (laid_out c.line.new.layout) c.in-Some.bytes.now c.cut_at.result.0.now (left c.cut_at.result.1) parts c.in_default-line.ensures ∙ so_far;
       count =
           let before = rw c.in-Some.is at c.loop-rest.invariant.count in
           let shorter = rw c.in-Some.bytes-is at c.cut_at.ensures.shorter in
           omega (arith, before, left_shorter c.cut_at.result.1 (length c.in-Some.bytes.now) shorter);
     }
 
-pub returns-clause-laid : goal.returns-clause-laid
+pub returns : goal.returns
 unfolding first_pass lines_laid
-returns-clause-laid c =
+returns c =
     let ended = rw c.in_default.is at c.loop-rest.invariant.whole in
     sym ended

@@ -11,21 +11,20 @@ loop-statement-preserved c =
     let step = c.in-Some.ensures.steps.0 in
     record {
       whole =
-          place_next c.args.line (laid_out c.loop-statement.layout) (laid_out c.place.new.layout) (into_iter_items c.loop-statement.statement-iterator) (into_iter_items c.next.new.self) c.in-Some.statement step c.in_ok-place.ensures.laid
+          place_next c.args.line (laid_out c.loop-statement.layout) (laid_out c.place.new.layout) (into_iter_items c.loop-statement.statement-iterator) (into_iter_items c.next.new.self) c.in-Some.statement step c.in_ok-place.ensures
           ∙ c.loop-statement.invariant.whole;
       left = (subst AreSound step c.loop-statement.invariant.left).1;
-      sound = λ old. c.in_ok-place.ensures.sound (c.loop-statement.invariant.sound old);
     }
 
-pub returns-in_err-place-clause-laid : goal.returns-in_err-place-clause-laid
-returns-in_err-place-clause-laid c =
+pub returns-in_err-place : goal.returns-in_err-place
+returns-in_err-place c =
     let step = c.in-Some.ensures.steps.0 in
-    let stopped = place_stops c.in_err-place.field-0.0 c.args.line (laid_out c.loop-statement.layout) (into_iter_items c.loop-statement.statement-iterator) (into_iter_items c.next.new.self) c.in-Some.statement step c.in_err-place.ensures.laid in
+    let stopped = place_stops c.in_err-place.field-0.0 c.args.line (laid_out c.loop-statement.layout) (into_iter_items c.loop-statement.statement-iterator) (into_iter_items c.next.new.self) c.in-Some.statement step c.in_err-place.ensures in
     let whole = rw c.loop-statement.invariant.whole at stopped in
     search rules
 
-pub returns-clause-laid : goal.returns-clause-laid
-returns-clause-laid c =
+pub returns : goal.returns
+returns c =
     let none : length (into_iter_items c.loop-statement.statement-iterator) ≡ 0 = omega (arith, c.loop-statement.statement-iterator.rest.ok.0, c.in-None.ensures.steps.0) in
     sym c.loop-statement.invariant.whole
     ∙ place_none c.args.line (laid_out c.loop-statement.layout) (into_iter_items c.loop-statement.statement-iterator) (nil_from_length (into_iter_items c.loop-statement.statement-iterator) none)

@@ -2,12 +2,11 @@ use Rattle.std.proofs.Common.{◌≡◌}
 use Rattle.std.specs.Vec.Iter.{into_iter_items}
 use Rattle.rv_asm.specs.FirstPass.{place_all}
 use Rattle.rv_asm.specs.LaidOut.{laid_out}
-use Rattle.rv_asm.specs.Sound.{AreSound, ArePlacedSound}
+use Rattle.rv_asm.specs.Sound.{AreSound}
 use Rattle.rv_asm.proofs.first_pass.place_all.Given as goal
 
 abbrev pub invariant-loop-statement : goal.invariant-loop-statement
 invariant-loop-statement l = record {
   whole : place_all l.line (laid_out l.layout) (into_iter_items l.statement-iterator) ≡ place_all l.line (laid_out l.fn.layout) l.fn.statements.items;
   left : AreSound (into_iter_items l.statement-iterator);
-  sound : ArePlacedSound l.fn.layout.statements.items → ArePlacedSound l.layout.statements.items;
 }

@@ -21,7 +21,7 @@ pub put_statement-requires-clause-sound : goal.put_statement-requires-clause-sou
 put_statement-requires-clause-sound c =
     let all = c.args.layout.now.statements.items in
     let item = rw c.deref-placed-items.ensures.value at c.placed-item.is in
-    rw item (sound_at all c.loop-placed.placed-index c.placed-item.result (omega arith) c.requires)
+    rw item (sound_at all c.loop-placed.placed-index c.placed-item.result (omega arith) c.args.layout.now.sound)
 
 pub returns-in-Err-clause-parts : goal.returns-in-Err-clause-parts
 returns-in-Err-clause-parts c =
