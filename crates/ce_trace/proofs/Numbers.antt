@@ -1,0 +1,80 @@
+-- The sections of a report, by number and by the history behind each grant.
+use Rattle.std.proofs.Common.{◌≡◌, ℕ, zero, suc, ◌+◌, ◌-◌, ◌==◌, List, [], ◌∷◌, ◌++◌, Bool, false, Option, Some, None, refl, ap, sym, ◌∙◌, arith}
+use Rattle.std.specs.List.{enumerate_from, filter_map, flat_map}
+use Rattle.std.specs.Option.{option_map_or}
+use Rattle.std.proofs.lemmas.Bool.{ne_eqb}
+use Rattle.ce_model.specs.declared.entry.Entry.{Entry}
+use Rattle.ce_model.specs.Renaming.{CubeGrant}
+use Rattle.ce_model.specs.Views.{from_grant, grant_by, grant_or_later, grants_of, trace_behind, view}
+use Rattle.ce_script.specs.declared.record.Record.{Record}
+use Rattle.ce_script.specs.declared.script.Script.{Script}
+use Rattle.ce_script.specs.EntryText.{entry_line}
+use Rattle.ce_script.specs.Texts.{cube_line, cube_text}
+use Rattle.ce_trace.specs.Sections.{section_then, sections_text}
+
+-- a section whose trace a function gives
+abbrev text_by : Script → Record → (ℕ → List Entry) → ℕ × CubeGrant → List ℕ
+text_by script kept trace numbered = cube_line kept numbered.0 numbered.1 ++ flat_map (entry_line script) (trace numbered.0)
+
+-- the trace that stands in a history, or none
+abbrev found_trace : Option (CubeGrant × List Entry) → List Entry
+found_trace found = option_map_or (λ pair. trace_behind pair.0 pair.1) found []
+
+-- the grant of an entry is number 0 behind it, and the later ones are counted on
+grant-here : (grant : Option CubeGrant) (behind : List Entry) (later : ℕ → Option (CubeGrant × List Entry)) (cube : CubeGrant) → grant ≡ Some cube
+    → grant_or_later grant behind 0 later ≡ Some (cube, behind)
+grant-here grant behind later cube e = rw e refl
+
+grant-later : (grant : Option CubeGrant) (behind : List Entry) (later : ℕ → Option (CubeGrant × List Entry)) (cube : CubeGrant) (k : ℕ) → grant ≡ Some cube
+    → grant_or_later grant behind (k + 1) later ≡ later k
+grant-later grant behind later cube k e =
+    let same : k + 1 - 1 ≡ k = omega arith in
+    let above : (k + 1 == 0) ≡ false = ne_eqb (k + 1) 0 (λ z. absurd (omega (arith, z))) in
+    rw e (rw (above, same) refl)
+
+-- the sections behind a place of the history, where the traces by number are those that stand there
+record Stands (trace : ℕ → List Entry) (number : ℕ) (history : List Entry) : Type 0 where
+  pub at : (k : ℕ) → trace (number + k) ≡ found_trace (from_grant history k)
+
+stands-pass : (trace : ℕ → List Entry) (number : ℕ) (entry : Entry) (behind : List Entry) → grant_by entry ≡ None
+    → Stands trace number (entry ∷ behind) → Stands trace number behind
+stands-pass trace number entry behind e h = record { at = λ k. h.at k ∙ rw e refl }
+
+stands-later : (trace : ℕ → List Entry) (number : ℕ) (entry : Entry) (behind : List Entry) (cube : CubeGrant) → grant_by entry ≡ Some cube
+    → Stands trace number (entry ∷ behind) → Stands trace (number + 1) behind
+stands-later trace number entry behind cube e h = record {
+  at = λ k. let same : number + 1 + k ≡ number + (k + 1) = omega arith in
+      ap trace same ∙ h.at (k + 1) ∙ ap found_trace (grant-later (grant_by entry) behind (from_grant behind) cube k e);
+}
+
+stands-here : (trace : ℕ → List Entry) (number : ℕ) (entry : Entry) (behind : List Entry) (cube : CubeGrant) → grant_by entry ≡ Some cube
+    → Stands trace number (entry ∷ behind) → trace number ≡ trace_behind cube behind
+stands-here trace number entry behind cube e h =
+    let same : number ≡ number + 0 = omega arith in
+    ap trace same ∙ h.at 0 ∙ ap found_trace (grant-here (grant_by entry) behind (from_grant behind) cube e)
+
+-- one entry more in front
+by_grant : (script : Script) (kept : Record) (trace : ℕ → List Entry) (entry : Entry) (behind : List Entry) (number : ℕ) (grant : Option CubeGrant)
+    → grant_by entry ≡ grant
+    → ((next : ℕ) → Stands trace next behind → flat_map (text_by script kept trace) (enumerate_from next (grants_of behind)) ≡ sections_text script kept next behind)
+    → Stands trace number (entry ∷ behind)
+    → flat_map (text_by script kept trace) (enumerate_from number (grants_of (entry ∷ behind))) ≡ sections_text script kept number (entry ∷ behind)
+by_grant script kept trace entry behind number None e later h = rw e (later number (stands-pass trace number entry behind e h))
+by_grant script kept trace entry behind number (Some cube) e later h =
+    let texts = flat_map (text_by script kept trace) (enumerate_from (number + 1) (grants_of behind)) in
+    rw e
+    (ap (λ t. (cube_line kept number cube ++ flat_map (entry_line script) t) ++ texts) (stands-here trace number entry behind cube e h)
+    ∙ ap (λ more. (cube_line kept number cube ++ flat_map (entry_line script) (trace_behind cube behind)) ++ more) (later (number + 1) (stands-later trace number entry behind cube e h)))
+
+by_number : (script : Script) (kept : Record) (trace : ℕ → List Entry) (history : List Entry) (number : ℕ) → Stands trace number history
+    → flat_map (text_by script kept trace) (enumerate_from number (grants_of history)) ≡ sections_text script kept number history
+by_number script kept trace [] number h = refl
+by_number script kept trace (entry ∷ behind) number h =
+    by_grant script kept trace entry behind number (grant_by entry) refl (by_number script kept trace behind) h
+
+-- the sections of a report are those that follow from the history behind each grant
+pub report_sections : (script : Script) (kept : Record)
+    → flat_map (cube_text script kept) (enumerate_from 0 (grants_of kept.history)) ≡ sections_text script kept 0 kept.history
+unfolding view
+report_sections script kept =
+    by_number script kept (view kept.history) kept.history 0 (record { at = λ k. let same : 0 + k ≡ k = omega arith in ap (view kept.history) same })

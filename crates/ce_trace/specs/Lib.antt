@@ -1,0 +1,3 @@
+pub mod Links
+pub mod Sections
+pub mod Spaced

@@ -1,0 +1,6 @@
+-- Words behind others.
+use Rattle.std.specs.Prelude.{ℕ, List, ◌∷◌, flat_map}
+
+-- words, with one space before each
+abbrev pub spaced : List (List ℕ) → List ℕ
+spaced words = flat_map (λ word. 32 ∷ word) words

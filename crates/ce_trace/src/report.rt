@@ -1,0 +1,90 @@
+//! The report of a script's run.
+ghost use Rattle.std.specs.Prelude.{◌≡◌, [], ◌∷◌, ◌++◌, IfOk, OnOk, codes, decimal, flat_map};
+ghost use Rattle.ce_script.specs.TextParts.{line};
+ghost use Rattle.ce_script.specs.Texts.{done_text, report, user_text};
+
+use crate::commands::push_command;
+use crate::digits::push_number;
+use crate::links::links_of;
+use crate::replies::push_reply;
+use crate::sections::push_sections;
+use crate::words::{push, push_line_feed, push_word};
+use ce_host::{Answer, Command};
+use ce_model::NoMemory;
+use ce_script::{Record, Script, UserRecord};
+use std::alloc::{AllocError, Global};
+
+/// The report of a script's run: the machine, each user with the commands and replies, each cube that was granted with
+/// its trace, and `end`. A script without statements has none. `NoMemory` may come at any time.
+#[tactic(auto, using(crate::proofs::Numbers::report_sections), unfolding(ce_script::specs::Texts::report))]
+pub fn write_report(alloc: Global, script: &Script, kept: &Record) -> Result<Vec<u8>, NoMemory>
+    ensures { IfOk result (λ text. text.items ≡ report script.now kept.now) }
+{
+    let mut text = Vec::new(alloc);
+    let Some(dim) = script.dim else {
+        return Ok(text);
+    };
+    push_machine(&mut text, dim)?;
+    push_users(&mut text, script, kept)?;
+    let history = kept.history.as_slice();
+    let links = links_of(alloc, history)?;
+    push_sections(&mut text, script, kept, history, links.as_slice())?;
+    push(&mut text, b"end\n")?;
+    Ok(text)
+}
+
+/// The machine's line.
+fn push_machine(text: &mut Vec<u8>, dim: u32) -> Result<(), AllocError>
+    ensures { OnOk result (text.new.items
+        ≡ text.old.items ++ line (codes "machine" ∷ decimal dim ∷ [])) }
+{
+    push(text, b"machine")?;
+    push_number(text, u64::from(dim))?;
+    push_line_feed(text)
+}
+
+/// All users, and what they did.
+fn push_users(text: &mut Vec<u8>, script: &Script, kept: &Record) -> Result<(), AllocError>
+    ensures { OnOk result (text.new.items
+        ≡ text.old.items ++ flat_map (user_text script.now kept.now) kept.now.users) }
+{
+    for user in kept.users.as_slice() {
+        push_user(text, script, kept, user)?;
+    }
+    Ok(())
+}
+
+/// A user, and what it did.
+fn push_user(
+    text: &mut Vec<u8>,
+    script: &Script,
+    kept: &Record,
+    user: &UserRecord,
+) -> Result<(), AllocError>
+    ensures { OnOk result (text.new.items
+        ≡ text.old.items ++ user_text script.now kept.now user.now) }
+{
+    push(text, b"user")?;
+    push_word(text, user.name.as_str().as_bytes())?;
+    push_line_feed(text)?;
+    for done in user.done.as_slice() {
+        push_done(text, script, kept, done)?;
+    }
+    Ok(())
+}
+
+/// A command and its reply, a line each.
+fn push_done(
+    text: &mut Vec<u8>,
+    script: &Script,
+    kept: &Record,
+    done: &(Command, Answer),
+) -> Result<(), AllocError>
+    ensures { OnOk result (text.new.items
+        ≡ text.old.items ++ done_text script.now kept.now done.now) }
+{
+    push_command(text, script, &done.0)?;
+    push(text, b"\n= ")?;
+    push_reply(text, kept, &done.1)?;
+    push_line_feed(text)
+}

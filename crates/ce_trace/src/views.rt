@@ -1,0 +1,60 @@
+//! What the machine's history is for one cube.
+ghost use Rattle.std.specs.Prelude.{◌≡◌, IfOk, option_map};
+ghost use Rattle.ce_model.specs.Views.{from_grant, trace_behind, view};
+ghost use Rattle.ce_trace.specs.Sections.{cube_of};
+
+use crate::grants::{grant_by, is_call, is_drain};
+use crate::inward::entry_inward;
+use ce_daemon::Grant;
+use ce_model::{Entry, NoMemory};
+use std::alloc::Global;
+
+/// The trace of a cube in the machine's history: the calls of its user's cube from its grant up to its drain, as the
+/// cube knows them. Grants are numbered from 0; a number that was not granted has the empty trace. `NoMemory` may come
+/// at any time.
+#[tactic(auto, unfolding(ce_model::specs::Views::view))]
+pub fn view(alloc: Global, history: &[Entry], grant: u64) -> Result<Vec<Entry>, NoMemory>
+    ensures { IfOk result (λ entries. entries.items ≡ view history.now grant) }
+{
+    match grant_at(history, grant) {
+        Some((found, behind)) => trace_behind(alloc, &found, behind),
+        None => Ok(Vec::new(alloc)),
+    }
+}
+
+/// The grant of this number, and the history behind it.
+fn grant_at(history: &[Entry], number: u64) -> Option<(Grant, &[Entry])>
+    ensures { option_map (λ found. (cube_of found.0, found.1.now)) result
+        ≡ from_grant history.now number }
+{
+    let mut earlier = 0;
+    for (place, entry) in history.iter().enumerate() {
+        if let Some(grant) = grant_by(entry, earlier) {
+            if earlier == number {
+                return Some((grant, &history[place + 1..]));
+            }
+            earlier += 1;
+        }
+    }
+    None
+}
+
+/// The trace of a cube in the history behind its grant.
+#[tactic(auto, using(crate::proofs::Traces::at_drain, crate::proofs::Traces::at_call, crate::proofs::Traces::at_pass, crate::proofs::Traces::at_other))]
+fn trace_behind(alloc: Global, grant: &Grant, behind: &[Entry]) -> Result<Vec<Entry>, NoMemory>
+    ensures { IfOk result (λ entries. entries.items
+        ≡ trace_behind (cube_of grant.now) behind.now) }
+{
+    let mut trace = Vec::new(alloc);
+    for entry in behind {
+        if entry.user == grant.user {
+            if is_drain(&entry.what) {
+                break;
+            }
+            if is_call(&entry.what) {
+                trace.push(entry_inward(alloc, grant.sub, entry)?)?;
+            }
+        }
+    }
+    Ok(trace)
+}
