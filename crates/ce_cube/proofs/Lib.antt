@@ -19,3 +19,10 @@ pub mod Stores
 pub mod Begun
 pub mod Hosts
 pub mod Onward
+pub mod Exchanging
+pub mod Turning
+pub mod Crewing
+pub mod Homes
+pub mod Gathering
+pub mod Openings
+pub mod Returns

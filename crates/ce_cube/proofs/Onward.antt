@@ -25,18 +25,18 @@ use Rattle.ce_cube.proofs.Counts.{entries-count}
 use Rattle.ce_cube.proofs.Rounds.{are-made}
 
 -- what is no Take is no dispatch
-no_dispatch : (entry : Entry) → is_take entry ≡ false → is_dispatch entry ≡ false
+pub no_dispatch : (entry : Entry) → is_take entry ≡ false → is_dispatch entry ≡ false
 no_dispatch entry other = by_given (given_in entry) other
   where
     by_given : (given : Option Given) → is_some given ≡ false → option_map_or is_work given false ≡ false
     by_given None e = refl
     by_given (Some given) e = absurd (cc)
 
-or_none : (a b : Bool) → b ≡ false → (a || b) ≡ a
+pub or_none : (a b : Bool) → b ≡ false → (a || b) ≡ a
 or_none true b e = refl
 or_none false b e = e
 
-or_count : (a b : Bool) → (if a || b then 1 else 0) ≤ (if a then 1 else 0) + (if b then 1 else 0)
+pub or_count : (a b : Bool) → (if a || b then 1 else 0) ≤ (if a then 1 else 0) + (if b then 1 else 0)
 or_count true true = omega arith
 or_count true false = omega arith
 or_count false true = omega arith
@@ -63,7 +63,7 @@ module _ (parts : MachineParts) (number : ℕ) (grant : CubeGrant) (history : Li
       subst (λ node. IsInStep grant node (box' q)) (sym (more.others r q below acted.made.actor_is differ))
       (subst (IsInStep grant (node_now parts history number grant q)) (sym (changed.others q differ)) step)
 
-asks-box : (parts : MachineParts) (history : List Entry) (number : ℕ) (grant : CubeGrant) (r : ℕ) (box : Node) → IsSaidBy parts history number grant r box
+pub asks-box : (parts : MachineParts) (history : List Entry) (number : ℕ) (grant : CubeGrant) (r : ℕ) (box : Node) → IsSaidBy parts history number grant r box
     → IsTrue (asks_for_work (says (node_now parts history number grant r)).call) → asks_for_work (says box).call ≡ true
 asks-box parts history number grant r box said asks =
     ap asks_for_work said.call ∙ asks-renamed (block_outward grant) (says (node_now parts history number grant r)).call ∙ asks

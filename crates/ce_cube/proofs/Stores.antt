@@ -36,7 +36,8 @@ all_later a b (id ∷ ids) before all = (precedes-trans a b id before all.0, all
 none_before : (a b : BlockId) (ids : List BlockId) → precedes a b ≡ true → IsRising (b ∷ ids) → count a (b ∷ ids) ≡ 0
 none_before a b ids before rising = none_later a (b ∷ ids) (before, all_later a b ids before rising.0)
 
-same-store : (xs ys : List BlockId) → IsRising xs → IsRising ys → ((id : BlockId) → count id xs ≡ count id ys) → xs ≡ ys
+-- two stores with each name as often are the same
+pub same-store : (xs ys : List BlockId) → IsRising xs → IsRising ys → ((id : BlockId) → count id xs ≡ count id ys) → xs ≡ ys
 same-store [] [] rising rising' same = refl
 same-store [] (y ∷ ys) rising rising' same = absurd (omega (arith, same y, count-nil y, count-cons y y ys, hit-self y))
 same-store (x ∷ xs) [] rising rising' same = absurd (omega (arith, same x, count-nil x, count-cons x x xs, hit-self x))
@@ -104,11 +105,17 @@ count-home id home n =
           ∙ sym (none_if (id.home == home) (nat_lt id.index n) more)
     ]
 
-pub stores-are-home : StoresAreHome
+pub rising-home : (home : ℕ) → IsRising (blocks_of_home home)
 unfolding name_at
+rising-home home = rising-run home 0 home_blocks
+
+pub count-at_home : (id : BlockId) (home : ℕ) → count id (blocks_of_home home) ≡ one_if (id.home == home && nat_lt id.index home_blocks)
+unfolding name_at
+count-at_home id home = count-home id home home_blocks
+
+pub stores-are-home : StoresAreHome
 stores-are-home home store rising each =
-    same-store store (blocks_of_home home) rising (rising-run home 0 home_blocks)
-    (λ id. sym (count-is id store) ∙ each id ∙ sym (count-home id home home_blocks))
+    same-store store (blocks_of_home home) rising (rising-home home) (λ id. sym (count-is id store) ∙ each id ∙ sym (count-at_home id home))
 
 -- ---- the blocks of a cube, by their homes
 

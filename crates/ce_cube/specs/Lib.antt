@@ -1,5 +1,8 @@
 pub mod Boxes
+pub mod Crews
+pub mod Exchanges
 pub mod Hearable
+pub mod Homecoming
 pub mod Laws
 pub mod Progress
 pub mod Rehoming

@@ -1,0 +1,310 @@
+-- What the machine's answer to a call of a box makes of the machine and of the box.
+use Rattle.std.proofs.Common.{◌≡◌, ◌⊎◌, inl, inr, ◌==◌, ℕ, ◌+◌, ◌*◌, ◌^◌, ◌<◌, ◌≤◌, Bool, true, false, if◌then◌else◌, List, [], ◌∷◌, ◌++◌, length, count_by, map, Option, Some, None, IsTrue, IsFalse, IsSomeAnd, option_map, slice_get, refl, ap, sym, ◌∙◌, subst, arith}
+use Rattle.std.specs.List.{Contains}
+use Rattle.std.specs.Prelude.{is_some}
+use Rattle.std.proofs.lemmas.Bool.{eq-eqb, ne_eqb, both_ways}
+use Rattle.rv_image.specs.declared.image.Image.{Image}
+use Rattle.rv_model.specs.Image.{ImageParts}
+use Rattle.ce_model.specs.declared.process.Status.{Status}
+use Rattle.ce_model.specs.declared.process.Status.TheVariants.{Unborn, Running, Asking, Polling, Stopped}
+use Rattle.ce_model.specs.declared.topology.TheConstants.{HOST}
+use Rattle.ce_model.specs.declared.topology.BlockId.{BlockId}
+use Rattle.ce_model.specs.declared.entry.Entry.{Entry}
+use Rattle.ce_model.specs.declared.entry.What.{What}
+use Rattle.ce_model.specs.declared.entry.What.TheVariants as entry
+use Rattle.ce_model.specs.Limits.{greatest_dim, greatest_nodes_lem, home_blocks}
+use Rattle.ce_model.specs.Blocks.{is_same_id}
+use Rattle.ce_model.specs.Parcels.{Item, mail, is_eligible}
+use Rattle.ce_model.specs.Process.{is_receiving, is_stopped}
+use Rattle.ce_model.specs.Answers.{answer, call_of}
+use Rattle.ce_model.specs.Hearing.{hears}
+use Rattle.ce_model.specs.Subcubes.{node_of, ones_of, extract, is_base}
+use Rattle.ce_model.proofs.AloneByEntries.{call_of-answer}
+use Rattle.ce_solo.proofs.Counting.{count-is}
+use Rattle.ce_solo.proofs.Projection.Numbers.{IsPlaced, out_no_host}
+use Rattle.ce_solo.proofs.Renaming.Grants.{few_nodes}
+use Rattle.ce_model.specs.Node.{Node, Call, process_at, blocks_of, ids_of}
+use Rattle.ce_model.specs.Saying.{says}
+use Rattle.ce_model.specs.Sound.{is_unborn}
+use Rattle.ce_model.specs.Renaming.{CubeGrant, entry_inward}
+use Rattle.ce_model.specs.Machine.{MachineParts, MachineState, IsMachine, IsLawful, Fits, held_by, in_cube, after, answered, HeldCube, nodes_of, standing_of, with_places_outward}
+use Rattle.ce_daemon.specs.declared.grant.Grant.{Grant}
+use Rattle.rk_mail.specs.declared.talk.Heard.{Heard}
+use Rattle.rk_mail.specs.declared.talk.Heard.TheVariants as heard
+use Rattle.rk_mail.specs.Items.{parcel_of}
+use Rattle.rk_mail.specs.Talk.{IsHeardIn, IsAnswerTo, call_said, heard_as}
+use Rattle.rk_node.specs.Boxes.{Box}
+use Rattle.rk_node.specs.declared.out.Out.TheVariants.{Nothing}
+use Rattle.rk_node.proofs.Names.{not_contained}
+use Rattle.rk_node.specs.Answering.{HasSaid, CanHear, IsWork}
+use Rattle.ce_host.specs.Hosts.{host_room}
+use Rattle.ce_machine.specs.declared.call.Reply.{Reply}
+use Rattle.ce_machine.specs.declared.call.Reply.TheVariants.{Heard as ReplyHeard}
+use Rattle.ce_machine.specs.Replies.{IsReplyTo, IsHeard, IfHeld, items_for, found_reply}
+use Rattle.ce_model.specs.declared.entry.Found.{Found}
+use Rattle.ce_model.specs.declared.entry.Found.TheVariants.{Quiet, Spent, Busy}
+use Rattle.ce_machine.specs.declared.call.Call.TheVariants.{Say as SaySaid}
+use Rattle.ce_machine.specs.Meanings.{MachineFacts, Stands}
+use Rattle.ce_lock.specs.declared.who.Who.{Who}
+use Rattle.rk_mail.specs.declared.talk.Say.{Say}
+use Rattle.rk_mail.specs.declared.talk.Say.TheVariants as say
+use Rattle.ce_model.specs.Trace.{Standing}
+use Rattle.ce_script.specs.Rounds.{asks_for_work}
+use Rattle.ce_cube.specs.Boxes.{IsSaidBy, IsMadeBy, node_now}
+use Rattle.ce_cube.specs.Hearable.{IsHearable, IsRightAnswer, calls_left}
+use Rattle.ce_cube.specs.Rounds.{is_work_heard}
+use Rattle.ce_cube.specs.Crews.{cube_grant}
+use Rattle.ce_cube.specs.Exchanges.{HasNode, HasCalled, HasExchanged}
+use Rattle.ce_cube.proofs.Held.{Seen, seen, by_cube}
+use Rattle.ce_cube.proofs.Seats.{node-said}
+use Rattle.ce_cube.proofs.Says.{boxes-say}
+use Rattle.ce_cube.proofs.Adds.{calls-add}
+use Rattle.ce_cube.proofs.Hears.{boxes-hear}
+use Rattle.ce_cube.proofs.CanHear.{boxes-can-hear, turns-end}
+use Rattle.ce_cube.proofs.Counts.{entries-count}
+
+-- ---- the reply
+
+of_nobody : {X : Type 0} (held : Option HeldCube) → IsSomeAnd held (λ cube. ⊥) → X
+of_nobody None is = absurd is
+of_nobody (Some cube) is = absurd is
+
+abbrev IsSameReply : {N : Type 0} → Reply N → Reply N → Type 0
+IsSameReply reply other = reply ≡ other
+
+heard-not_found : {N X : Type 0} (heard : Heard) (found : Found) → IsSameReply {N = N} (ReplyHeard heard) (found_reply found) → X
+heard-not_found heard Quiet is = absurd (cc)
+heard-not_found heard Spent is = absurd (cc)
+heard-not_found heard Busy is = absurd (cc)
+
+-- a machine that lets hear replies to a call of a cube, in what waited for its actor
+pub heard-reply : {N : Type 0} (home : N → ℕ) (clean : N → Type 0) (parts : MachineParts) (state : MachineState) (user actor : ℕ) (what : What) (heard : Heard)
+    → IsReplyTo home clean parts state user actor what (ReplyHeard heard)
+    → IfHeld state user (λ cube. IsHeardIn (items_for state cube actor) what heard)
+heard-reply home clean parts state user actor (entry.Getcube dim None) heard is = absurd (cc)
+heard-reply home clean parts state user actor (entry.Getcube dim (Some sub)) heard is = absurd is
+heard-reply home clean parts state user actor entry.Peek heard is = absurd (cc)
+heard-reply home clean parts state user actor entry.Drain heard is = of_nobody (held_by state user) is
+heard-reply home clean parts state user actor entry.Freecube heard is = absurd (cc)
+heard-reply home clean parts state user actor (entry.Arm count) heard is = absurd (cc)
+heard-reply home clean parts state user actor (entry.Look found) heard is = heard-not_found heard found is
+heard-reply home clean parts state user actor (entry.HostTake None) heard is = absurd (cc)
+heard-reply home clean parts state user actor (entry.HostTake (Some number)) heard is = of_nobody (held_by state user) is
+heard-reply home clean parts state user actor (entry.Send pid first to bytes) heard is = is
+heard-reply home clean parts state user actor (entry.Spawn pid image to fresh) heard is = is
+heard-reply home clean parts state user actor (entry.Kill pid to found) heard is = is
+heard-reply home clean parts state user actor (entry.Note pid word) heard is = is
+heard-reply home clean parts state user actor (entry.Take asking dead poller given) heard is = is
+
+room_is : host_room ≡ (2 ^ greatest_dim + 1) * home_blocks
+unfolding host_room
+room_is = refl
+
+-- to what was said the machine replies by letting hear
+heard-by : {N : Type 0} (held : Option HeldCube) (items : HeldCube → List Item) (what : What) (reply : Reply N)
+    → IsSomeAnd held (λ cube. IsHeard (items cube) what reply) → (heard : Heard) × (reply ≡ ReplyHeard heard)
+heard-by None items what reply is = absurd is
+heard-by (Some cube) items what (ReplyHeard heard) is = (heard, refl)
+heard-by (Some cube) items what other is = absurd is
+
+pub said-heard : {N : Type 0} (home : N → ℕ) (clean : N → Type 0) (parts : MachineParts) (state : MachineState) (user actor : ℕ) (nodes : List ℕ) (standing : Standing)
+    (grant : CubeGrant) (said : Say) (reply : Reply N) → IsReplyTo home clean parts state user actor (answer nodes standing actor (with_places_outward grant (call_said said))) reply
+    → (heard : Heard) × (reply ≡ ReplyHeard heard)
+unfolding answer
+said-heard home clean parts state user actor nodes standing grant (say.Take asking dead poller) reply is =
+    heard-by (held_by state user) (λ cube. items_for state cube actor) (answer nodes standing actor (with_places_outward grant (call_said (say.Take asking dead poller)))) reply is
+said-heard home clean parts state user actor nodes standing grant (say.Send pid batch) reply is =
+    heard-by (held_by state user) (λ cube. items_for state cube actor) (answer nodes standing actor (with_places_outward grant (call_said (say.Send pid batch)))) reply is
+said-heard home clean parts state user actor nodes standing grant (say.Spawn pid image to) reply is =
+    heard-by (held_by state user) (λ cube. items_for state cube actor) (answer nodes standing actor (with_places_outward grant (call_said (say.Spawn pid image to)))) reply is
+said-heard home clean parts state user actor nodes standing grant (say.Kill pid to) reply is =
+    heard-by (held_by state user) (λ cube. items_for state cube actor) (answer nodes standing actor (with_places_outward grant (call_said (say.Kill pid to)))) reply is
+said-heard home clean parts state user actor nodes standing grant (say.Note pid word) reply is =
+    heard-by (held_by state user) (λ cube. items_for state cube actor) (answer nodes standing actor (with_places_outward grant (call_said (say.Note pid word)))) reply is
+
+-- ---- what a box can hear
+
+unborn-is : (status : Status) → IsTrue (is_unborn status) → status ≡ Unborn
+unborn-is Unborn is = refl
+unborn-is Running is = absurd (cc)
+unborn-is Asking is = absurd (cc)
+unborn-is Polling is = absurd (cc)
+unborn-is (Stopped cause) is = absurd (cc)
+
+born-is : (status : Status) → is_unborn status ≡ false → ¬ (status ≡ Unborn)
+born-is status born e = absurd (both_ways (is_unborn status) born (ap is_unborn e))
+
+-- a box can hear what its node can
+can-work : (images : List ImageParts) (box : Box) (node : Node) (heard : Heard) → box.node ≡ node → (2 ^ greatest_dim + 1) * home_blocks ≤ box.room
+    → IsHearable images node (heard_as heard) → IsWork images box heard
+can-work images box node (heard.Start pid image) same room is =
+    (is.pid_within, ap (λ (node : Node). (process_at node pid).status) same ∙ unborn-is (process_at node pid).status is.unborn, is.image_within)
+can-work images box node (heard.Mail parcel) same room is = record {
+  eligible = subst (λ (node : Node). IsTrue (is_eligible (ids_of is_receiving node.processes) (ids_of is_stopped node.processes) (mail (parcel_of parcel)))) (sym same) is.eligible;
+  apart = subst (λ (node : Node). ¬ Contains (blocks_of node) parcel.block.id) (sym same) (not_contained parcel.block.id (blocks_of node) (sym (count-is parcel.block.id (blocks_of node)) ∙ is.new));
+  room = omega (arith, ap (λ (node : Node). length (blocks_of node)) same, is.room, room);
+}
+can-work images box node (heard.Kill pid) same room is =
+    (is.pid_within, λ e. born-is (process_at node pid).status is.born (sym (ap (λ (node : Node). (process_at node pid).status) same) ∙ e))
+can-work images box node (heard.Poll pid) same room is = ap (λ (node : Node). slice_get node.polling 0) same ∙ is.first
+can-work images box node heard.Idle same room is = tt
+can-work images box node heard.Spent same room is = tt
+can-work images box node (heard.Posted batch) same room is = tt
+can-work images box node heard.Spawned same room is = tt
+can-work images box node heard.Used same room is = tt
+can-work images box node heard.Killed same room is = tt
+can-work images box node heard.Unused same room is = tt
+can-work images box node heard.Already same room is = tt
+can-work images box node heard.Noted same room is = tt
+
+some-is : {X : Type 0} {x y : X} → Some x ≡ Some y → x ≡ y
+some-is e = cc
+
+facts-are : (m : MachineFacts) (parts : MachineParts) (history : List Entry) → parts ≡ m.parts → history ≡ m.history → record { parts = parts; history = history } ≡ m
+facts-are m parts history parts_is history_is = λ i. record { parts = parts_is i; history = history_is i }
+
+-- ---- an exchange
+
+-- the list of images that the program has, as the model has it, is just the machine's
+module _ (m : MachineFacts) (grant : Grant) (r : ℕ) (node : HasNode m grant r) (box box' : Box) (call : Call) (called : HasCalled m grant r box box' call) where
+  abbrev cg : CubeGrant
+  cg = cube_grant grant
+
+  held_seen : Seen m.parts m.history node.held.cube
+  held_seen =
+      seen m.parts m.history node.held.cube node.sound.within node.sound.lawful
+      (ap (λ (g : CubeGrant). held_by (after m.history) g.user) node.held.grant_is ∙ node.held.held) node.held.goes_on
+
+  pub placed : IsPlaced m.parts.dim cg
+  placed = subst (IsPlaced m.parts.dim) node.held.grant_is held_seen.placed
+
+  said : IsSaidBy m.parts m.history grant.number cg r box.node
+  said = boxes-say m.parts m.history grant.number cg node.sound.within node.sound.lawful node.held r box.node node.within called.before.stands
+
+  -- the call fits
+  pub call-fits : Fits m.parts m.history grant.user (node_of grant.sub r) (in_cube call)
+  call-fits = subst (λ call. Fits m.parts m.history grant.user (node_of grant.sub r) (in_cube call)) (sym called.call_is) said.fits
+
+  -- the box has as many images as the machine
+  pub images-are : box'.node.images ≡ length m.parts.images
+  images-are =
+      ap (λ (node : Node). node.images) (called.node ∙ said.at_rest)
+      ∙ by_cube (λ number grant. r < 2 ^ grant.dim → (says (node_now m.parts m.history number grant r)).node.images ≡ length m.parts.images) m.history grant.number cg
+      (λ cube holds goes below.
+      let now = seen m.parts m.history cube node.sound.within node.sound.lawful holds goes in
+      (node-said m.parts m.history cube now r below).became.images ∙ (now.stands.sound.nodes r below).images) node.held node.within
+
+  pub mask-small : grant.sub.mask < 2 ^ greatest_dim
+  mask-small = omega (arith, placed.sub.mask_within, few_nodes m.parts.dim placed.within, greatest_nodes_lem)
+
+  pub base-small : grant.sub.base < 2 ^ greatest_dim
+  base-small = omega (arith, placed.sub.base_within, few_nodes m.parts.dim placed.within, greatest_nodes_lem)
+
+  pub base-apart : IsTrue (is_base grant.sub.mask grant.sub.base)
+  base-apart = eq-eqb (extract grant.sub.base grant.sub.mask) 0 placed.sub.apart
+
+  pub number-small : (other : ℕ) → other < 2 ^ grant.dim → other < 2 ^ ones_of greatest_dim grant.sub.mask
+  number-small other within = rw placed.sub.dimension within
+
+  -- the machine's entry and its reply
+  module _ (what : What) (heard : Heard) (answered_so : answered m.parts (after m.history) grant.user (node_of grant.sub r) (in_cube call) ≡ Some what)
+      (reply : IfHeld (after m.history) grant.user (λ cube. IsHeardIn (items_for (after m.history) cube (node_of grant.sub r)) what heard)) where
+    abbrev pub made : Entry
+    made = record { user = grant.user; actor = node_of grant.sub r; what = what }
+
+    is-made : IsMadeBy m.parts m.history cg (node_of grant.sub r) (says box.node).call made
+    is-made = record {
+      user = refl;
+      actor_is = refl;
+      what = subst (λ call. answered m.parts (after m.history) grant.user (node_of grant.sub r) (in_cube call) ≡ Some what) called.call_is answered_so;
+    }
+
+    right : IsRightAnswer m.parts.images (says box.node) heard
+    right = boxes-can-hear m.parts m.history grant.number cg node.sound.within node.sound.lawful node.held r box.node made heard node.within called.before.stands is-made reply
+
+    pub can-hear : CanHear m.parts.images box' heard
+    can-hear = record {
+      call = call;
+      said = called.said;
+      answer = subst (λ call. IsAnswerTo call heard) (sym called.call_is) right.answers;
+      work = can-work m.parts.images box' (says box.node).node heard called.node (omega (arith, called.room, called.before.ready.room, room_is)) right.hearable;
+    }
+
+    -- what the exchange came to
+    pub exchanged : (m' : MachineFacts) (box'' : Box) → m'.parts ≡ m.parts → m'.history ≡ m.history ++ made ∷ [] → box''.node ≡ hears m.parts.images box'.node (heard_as heard)
+        → box''.room ≡ box'.room → box''.out ≡ Nothing → length m'.history < 2 ^ 63 → HasExchanged m m' grant r box box'' call (is_work_heard heard)
+    exchanged m' box'' same_parts grown heard_node room out few =
+        let one = calls-add m.parts m.history grant.number cg node.sound.within node.sound.lawful node.held (node_of grant.sub r) (says box.node).call made said.fits is-made in
+        let count = entries-count m.parts m.history grant.number cg node.sound.within node.sound.lawful node.held r box.node made heard node.within called.before.stands is-made reply in
+        let hear = boxes-hear m.parts m.history grant.number cg node.sound.within node.sound.lawful node.held r box.node made heard node.within called.before.stands is-made reply in
+        subst (λ m'. HasExchanged m m' grant r box box'' call (is_work_heard heard)) (facts-are m' m.parts (m.history ++ made ∷ []) (sym same_parts) (sym grown)) (record {
+          entry = made;
+          goes_on = record {
+            parts = refl;
+            history = refl;
+            calls = ((refl, is-call), tt);
+            trace = one.trace;
+            node = record { sound = record { within = node.sound.within; lawful = one.lawful }; held = one.held; within = node.within };
+            others = λ other within differs. one.others r other node.within refl (turned other differs);
+            store = one.store (out_no_host m.parts.dim cg placed r);
+            few = omega (arith, few, ap {B = ℕ} (λ (h : List Entry). length h) grown);
+          };
+          actor_is = count.actor_is;
+          take = count.take ∙ ap asks_for_work (sym called.call_is);
+          dispatch = count.dispatch;
+          left = count.left;
+          stands = record {
+            ready = record { idle = out; room = omega (arith, room, called.room, called.before.ready.room) };
+            stands = inl (heard_node ∙ ap (λ (node : Node). hears m.parts.images node (heard_as heard)) called.node ∙ hear);
+          };
+          calls = λ no_work.
+              subst (λ (node : Node). calls_left node < calls_left box.node) (sym (heard_node ∙ ap (λ (node : Node). hears m.parts.images node (heard_as heard)) called.node))
+              (turns-end m.parts m.history grant.number cg node.sound.within node.sound.lawful node.held r box.node made heard node.within called.before.stands is-made reply
+              (subst (λ call. IsFalse (asks_for_work call)) called.call_is no_work));
+        })
+      where
+        answer-is : (what : What) → answered m.parts (after m.history) grant.user (node_of grant.sub r) (in_cube call) ≡ Some what
+            → answer (nodes_of node.held.cube.grant) (standing_of (after m.history) node.held.cube) (node_of grant.sub r) (with_places_outward node.held.cube.grant call) ≡ what
+        answer-is what is = some-is (sym (ap (option_map (λ (cube : HeldCube). answer (nodes_of cube.grant) (standing_of (after m.history) cube) (node_of grant.sub r) (with_places_outward cube.grant call))) node.held.held) ∙ is)
+
+        is-call : IsTrue (is_some (call_of what))
+        is-call =
+            subst (λ found. IsTrue (is_some found))
+            (sym (call_of-answer (nodes_of node.held.cube.grant) (standing_of (after m.history) node.held.cube) (node_of grant.sub r) (with_places_outward node.held.cube.grant call))
+            ∙ ap call_of (answer-is what answered_so)) refl
+
+        turned : (other : ℕ) → (other == r) ≡ false → (r == other) ≡ false
+        turned other differs = ne_eqb r other (λ same. both_ways (other == r) differs (eq-eqb other r (sym same)))
+
+  -- the machine lets hear in reply to what was said
+  pub stands-heard : {N : Type 0} (home : N → ℕ) (clean : N → Type 0) (said : Say) → call ≡ call_said said → (entry : Entry) (actor : ℕ) (reply : Reply N)
+      → Stands home clean m.parts m.history entry (record { family = grant.user; actor = actor }) (SaySaid said) reply → (heard : Heard) × (reply ≡ ReplyHeard heard)
+  stands-heard home clean said is_said entry actor reply stands =
+      let cube = node.held.cube in
+      said-heard home clean m.parts (after m.history) grant.user actor (nodes_of cube.grant) (standing_of (after m.history) cube) cube.grant said reply
+      (subst (λ what. IsReplyTo home clean m.parts (after m.history) grant.user actor what reply)
+      (sym (some-is (sym (ap (option_map (λ (cube : HeldCube). answer (nodes_of cube.grant) (standing_of (after m.history) cube) actor
+      (with_places_outward cube.grant (call_said said)))) node.held.held) ∙ stands.answer))) stands.reply_is)
+
+  -- the same, of the entry that stands for the call
+  module _ {N : Type 0} (home : N → ℕ) (clean : N → Type 0) (said : Say) (is_said : call ≡ call_said said) (heard : Heard) (entry : Entry) (actor : ℕ) (at : actor ≡ node_of grant.sub r)
+      (stands : Stands {N = N} home clean m.parts m.history entry (record { family = grant.user; actor = actor }) (SaySaid said) (ReplyHeard heard)) where
+    answers : answered m.parts (after m.history) grant.user (node_of grant.sub r) (in_cube call) ≡ Some entry.what
+    answers =
+        subst (λ actor. answered m.parts (after m.history) grant.user actor (in_cube call) ≡ Some entry.what) at
+        (subst (λ call. answered m.parts (after m.history) grant.user actor (in_cube call) ≡ Some entry.what) (sym is_said) stands.answer)
+
+    reply : IfHeld (after m.history) grant.user (λ cube. IsHeardIn (items_for (after m.history) cube (node_of grant.sub r)) entry.what heard)
+    reply =
+        subst (λ actor. IfHeld (after m.history) grant.user (λ cube. IsHeardIn (items_for (after m.history) cube actor) entry.what heard)) at
+        (heard-reply {N = N} home clean m.parts (after m.history) grant.user actor entry.what heard stands.reply_is)
+
+    pub stands-hear : CanHear m.parts.images box' heard
+    stands-hear = can-hear entry.what heard answers reply
+
+    entry-is : entry ≡ made entry.what heard answers reply
+    entry-is = λ i. record { user = (stands.whose_is i).family; actor = ((ap (λ (who : Who). who.actor) stands.whose_is ∙ at) i); what = entry.what }
+
+    pub stands-exchanged : (m' : MachineFacts) (box'' : Box) → m'.parts ≡ m.parts → m'.history ≡ m.history ++ entry ∷ [] → box''.node ≡ hears m.parts.images box'.node (heard_as heard)
+        → box''.room ≡ box'.room → box''.out ≡ Nothing → length m'.history < 2 ^ 63 → HasExchanged m m' grant r box box'' call (is_work_heard heard)
+    stands-exchanged m' box'' same_parts grown = exchanged entry.what heard answers reply m' box'' same_parts (grown ∙ ap (λ e. m.history ++ e ∷ []) entry-is)

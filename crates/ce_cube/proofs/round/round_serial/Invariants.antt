@@ -1,0 +1,6 @@
+use Rattle.ce_cube.specs.Exchanges.{IsRoundUnderWay}
+use Rattle.ce_cube.proofs.round.round_serial.Given as goal
+
+-- the round is under way
+abbrev pub invariant-loop-r : goal.invariant-loop-r
+invariant-loop-r l = IsRoundUnderWay l.fn.machine l.machine l.fn.crew l.crew l.r l.work

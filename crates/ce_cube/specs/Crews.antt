@@ -1,0 +1,116 @@
+-- The crew of a cube that is held: the boxes of its nodes and the host of its user, in step with the machine's history.
+use Rattle.std.specs.Prelude.{◌≡◌, ℕ, ◌+◌, ◌^◌, ◌<◌, ◌≤◌, Bool, if◌then◌else◌, IsTrue, is_some, List, [], ◌++◌, length, map, flat_map, slice_index_or, Some, Option, None}
+use Rattle.std.specs.List.{AllByRecursion}
+use Rattle.ce_model.specs.declared.entry.Entry.{Entry}
+use Rattle.ce_model.specs.Limits.{greatest_dim, host_home}
+use Rattle.ce_model.specs.Blocks.{Block, blocks_of_home}
+use Rattle.ce_model.specs.Node.{blocks_of}
+use Rattle.ce_model.specs.Subcubes.{IsSubcube, node_of}
+use Rattle.ce_model.specs.Answers.{call_of}
+use Rattle.ce_model.specs.Cube.{Cube, node_numbers, opening, hoststore}
+use Rattle.ce_model.specs.Renaming.{CubeGrant, block_outward, entry_inward}
+use Rattle.ce_model.specs.Views.{view}
+use Rattle.ce_model.specs.Machine.{MachineParts, IsMachine, IsLawful, cube_of}
+use Rattle.xm_block.specs.Stores.{ids_of}
+use Rattle.ce_daemon.specs.declared.grant.Grant.{Grant}
+use Rattle.ce_daemon.specs.Boxes.{AreBoxes}
+use Rattle.ce_host.specs.Hosts.{host_room}
+use Rattle.ce_host.specs.declared.host.Host.{Host}
+use Rattle.rk_node.specs.Boxes.{Box, IsClean, fresh_at}
+use Rattle.rk_node.specs.declared.out.Out.TheVariants.{Nothing}
+use Rattle.ce_machine.specs.Meanings.{MachineFacts}
+use Rattle.ce_script.specs.Rounds.{IsSerialRound, has_work}
+use Rattle.ce_cube.specs.declared.crew.SerialCrew.{SerialCrew}
+use Rattle.ce_cube.specs.Boxes.{IsHeldAs, AreInStep}
+use Rattle.ce_cube.specs.Rehoming.{AreAllBlocks}
+use Rattle.ce_cube.specs.Rounds.{dispatches_left}
+
+-- the machine is within its limits, and what was asked of it so far is lawful
+pub record IsLawfulMachine (machine : MachineFacts) : Type 0 where
+  pub within : IsMachine machine.parts
+  pub lawful : IsLawful machine.parts machine.history
+
+-- a grant as the model has it, without its number
+abbrev pub cube_grant : Grant → CubeGrant
+cube_grant grant = record { user = grant.user; dim = grant.dim; sub = grant.sub }
+
+-- the cube of a grant
+abbrev pub cube_in : MachineParts → Grant → Cube
+cube_in parts grant = cube_of parts.images (cube_grant grant)
+
+-- the box of relative node r
+abbrev pub box_at : List Box → ℕ → Box
+box_at boxes r = slice_index_or boxes r (record { node = fresh_at 0 0 0 0; room = 0; out = Nothing })
+
+-- no call is out of a box, and it has room for all blocks of the greatest cube
+pub record IsReady (box : Box) : Type 0 where
+  pub idle : box.out ≡ Nothing
+  pub room : host_room ≤ box.room
+
+-- these are the boxes of the cube's nodes, all ready, and in step with the nodes
+pub record AreBoxesInStep (parts : MachineParts) (history : List Entry) (grant : Grant) (boxes : List Box) : Type 0 where
+  pub all : length boxes ≡ 2 ^ grant.dim
+  pub ready : (r : ℕ) → r < 2 ^ grant.dim → IsReady (box_at boxes r)
+  pub in_step : AreInStep parts history grant.number (cube_grant grant) (λ r. (box_at boxes r).node)
+
+-- the host has the blocks that the cube's trace leaves it, room for all of the cube, and its spare batch
+pub record IsHostInStep (parts : MachineParts) (history : List Entry) (grant : Grant) (host : Host) : Type 0 where
+  pub blocks : ids_of host.store.blocks ≡ map (block_outward (cube_grant grant)) (hoststore (opening (cube_in parts grant)) (view history grant.number))
+  pub room : host.store.spare + length host.store.blocks ≡ host_room
+  pub spare : host.spare ≡ Some []
+
+-- a host of a user that holds no cube has its own blocks, room for all of a cube, and its spare batch
+pub record IsHostAtHome (user : ℕ) (host : Host) : Type 0 where
+  pub blocks : ids_of host.store.blocks ≡ blocks_of_home (host_home + user)
+  pub room : host.store.spare + length host.store.blocks ≡ host_room
+  pub spare : host.spare ≡ Some []
+
+-- the crew of a cube that is held, and wasn't drained, is in step with the history
+pub record IsCrewInStep (parts : MachineParts) (history : List Entry) (crew : SerialCrew) : Type 0 where
+  pub held : IsHeldAs history crew.grant.number (cube_grant crew.grant)
+  pub boxes : AreBoxesInStep parts history crew.grant crew.nodes.items
+  pub host : IsHostInStep parts history crew.grant crew.host
+  pub entries : crew.entries ≡ length (view history crew.grant.number)
+
+-- these entries are calls of this user's cube
+abbrev pub AreCallsOf : ℕ → List Entry → Type 0
+AreCallsOf user made = AllByRecursion (λ entry. (entry.user ≡ user) × IsTrue (is_some (call_of entry.what))) made
+
+-- Calls of a crew's cube went on with the machine's history: these entries, which make the cube's trace longer. The crew is in step again.
+pub record HasGoneOn (before after : MachineFacts) (crew crew' : SerialCrew) (made : List Entry) : Type 0 where
+  pub parts : after.parts ≡ before.parts
+  pub history : after.history ≡ before.history ++ made
+  pub lawful : IsLawful after.parts after.history
+  pub calls : AreCallsOf crew.grant.user made
+  pub grant : crew'.grant ≡ crew.grant
+  pub trace : view after.history crew.grant.number ≡ view before.history crew.grant.number ++ map (entry_inward crew.grant.sub) made
+  pub in_step : IsCrewInStep after.parts after.history crew'
+
+-- A serial round went on, by which a node was given work or none was. Work takes one at least of the dispatches that are allowed; the host is
+-- what it was.
+pub record HasMadeRound (before after : MachineFacts) (crew crew' : SerialCrew) (work : Bool) : Type 0 where
+  pub round : List Entry
+  pub goes_on : HasGoneOn before after crew crew' round
+  pub is_round : IsSerialRound crew.grant.dim (map (entry_inward crew.grant.sub) round)
+  pub works : has_work (map (entry_inward crew.grant.sub) round) ≡ work
+  pub left : dispatches_left after.parts after.history crew.grant.number (cube_grant crew.grant) + (if work then 1 else 0)
+      ≤ dispatches_left before.parts before.history crew.grant.number (cube_grant crew.grant)
+  pub host : crew'.host ≡ crew.host
+
+-- ---- a cube that is given back
+
+-- the boxes and the host of a cube, a subcube of the machine, with the blocks that were drained, hold each block of the cube once, and no other; no
+-- call is out of a box
+pub record HoldAllBlocks (grant : CubeGrant) (boxes : List Box) (host : Host) (drained : List Block) : Type 0 where
+  pub sub : IsSubcube greatest_dim grant.dim grant.sub
+  pub all : length boxes ≡ 2 ^ grant.dim
+  pub ready : (r : ℕ) → r < 2 ^ grant.dim → IsReady (box_at boxes r)
+  pub homes : (r : ℕ) → r < 2 ^ grant.dim → (box_at boxes r).node.home ≡ node_of grant.sub r
+  pub blocks : AreAllBlocks grant (flat_map (λ r. blocks_of (box_at boxes r).node) (node_numbers grant.dim)
+      ++ (map (λ block. block.id) drained ++ ids_of host.store.blocks))
+  pub room : host.store.spare + length host.store.blocks ≡ host_room
+  pub spare : host.spare ≡ Some []
+
+-- all blocks of the cube are at home: the boxes are clean, and have their homes
+abbrev pub AreAllHome : CubeGrant → List Box → Host → Type 0
+AreAllHome grant boxes host = AreBoxes (λ box. box.node.home) IsClean (2 ^ grant.dim) (node_of grant.sub) boxes × IsHostAtHome grant.user host

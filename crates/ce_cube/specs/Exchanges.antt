@@ -1,0 +1,100 @@
+-- The calls of a node's box and their answers, while the node's turn runs.
+use Rattle.std.specs.Prelude.{◌≡◌, ◌==◌, ℕ, ◌+◌, ◌^◌, ◌<◌, ◌≤◌, Bool, false, if◌then◌else◌, IsFalse, List, [], ◌∷◌, ◌++◌, length, map}
+use Rattle.ce_model.specs.declared.entry.Entry.{Entry}
+use Rattle.ce_model.specs.declared.topology.BlockId.{BlockId}
+use Rattle.ce_model.specs.Node.{Node, Call}
+use Rattle.ce_model.specs.Saying.{says}
+use Rattle.ce_model.specs.Renaming.{entry_inward}
+use Rattle.ce_model.specs.Views.{view}
+use Rattle.ce_daemon.specs.declared.grant.Grant.{Grant}
+use Rattle.rk_node.specs.Boxes.{Box}
+use Rattle.rk_node.specs.Answering.{HasSaid}
+use Rattle.ce_machine.specs.Meanings.{MachineFacts}
+use Rattle.ce_script.specs.Rounds.{asks_for_work, is_take, is_dispatch, IsTurn, has_work}
+use Rattle.ce_cube.specs.Boxes.{IsHeldAs, StandsFor, node_now, store_now}
+use Rattle.ce_cube.specs.Hearable.{calls_left}
+use Rattle.ce_cube.specs.Rounds.{dispatches_left, IsPartOfRound}
+use Rattle.ce_cube.specs.declared.crew.SerialCrew.{SerialCrew}
+use Rattle.ce_cube.specs.Crews.{IsLawfulMachine, IsReady, AreCallsOf, HasGoneOn, cube_grant}
+
+-- node r of this cube after the machine's history
+abbrev pub node_in : MachineFacts → Grant → ℕ → Node
+node_in machine grant r = node_now machine.parts machine.history grant.number (cube_grant grant) r
+
+-- the blocks in its host's store
+abbrev pub store_in : MachineFacts → Grant → List BlockId
+store_in machine grant = store_now machine.parts machine.history grant.number (cube_grant grant)
+
+-- how many dispatches are still allowed in the cube
+abbrev pub left_in : MachineFacts → Grant → ℕ
+left_in machine grant = dispatches_left machine.parts machine.history grant.number (cube_grant grant)
+
+-- the machine is lawful, this cube is held, and r is one of its nodes
+pub record HasNode (machine : MachineFacts) (grant : Grant) (r : ℕ) : Type 0 where
+  pub sound : IsLawfulMachine machine
+  pub held : IsHeldAs machine.history grant.number (cube_grant grant)
+  pub within : r < 2 ^ grant.dim
+
+-- the box stands for node r, and no call of it is out
+pub record IsBoxOf (machine : MachineFacts) (grant : Grant) (r : ℕ) (box : Box) : Type 0 where
+  pub ready : IsReady box
+  pub stands : StandsFor (cube_grant grant) (node_in machine grant r) box.node
+
+-- the box, which was this one and stood for node r, has said this call
+pub record HasCalled (machine : MachineFacts) (grant : Grant) (r : ℕ) (box box' : Box) (call : Call) : Type 0 where
+  pub before : IsBoxOf machine grant r box
+  pub node : box'.node ≡ (says box.node).node
+  pub call_is : call ≡ (says box.node).call
+  pub said : HasSaid box' call
+  pub room : box'.room ≡ box.room
+
+-- the machine goes on by these calls of node r: the others and the host's store are what they were, and so is the cube's trace before them
+pub record GoesOnAt (before after : MachineFacts) (grant : Grant) (r : ℕ) (made : List Entry) : Type 0 where
+  pub parts : after.parts ≡ before.parts
+  pub history : after.history ≡ before.history ++ made
+  pub calls : AreCallsOf grant.user made
+  pub trace : view after.history grant.number ≡ view before.history grant.number ++ map (entry_inward grant.sub) made
+  pub node : HasNode after grant r
+  pub others : (other : ℕ) → other < 2 ^ grant.dim → (other == r) ≡ false → node_in after grant other ≡ node_in before grant other
+  pub store : store_in after grant ≡ store_in before grant
+  pub few : length after.history < 2 ^ 63
+
+-- The call of a box that stood for node r was answered: the machine has one entry more, a Take where the call asked for work, and a dispatch where
+-- it gave work, and the box stands for the node behind it. A turn has fewer calls left by each call that asks for no work.
+pub record HasExchanged (before after : MachineFacts) (grant : Grant) (r : ℕ) (box box' : Box) (call : Call) (work : Bool) : Type 0 where
+  pub entry : Entry
+  pub goes_on : GoesOnAt before after grant r (entry ∷ [])
+  pub actor_is : (entry_inward grant.sub entry).actor ≡ r
+  pub take : is_take (entry_inward grant.sub entry) ≡ asks_for_work call
+  pub dispatch : is_dispatch (entry_inward grant.sub entry) ≡ work
+  pub left : left_in after grant + (if work then 1 else 0) ≡ left_in before grant
+  pub stands : IsBoxOf after grant r box'
+  pub calls : IsFalse (asks_for_work call) → calls_left box'.node < calls_left box.node
+
+-- A turn of node r is under way: these many entries so far, the first a Take that gave work or none, and the box stands for the node.
+pub record IsTurning (before now : MachineFacts) (grant : Grant) (r : ℕ) (box : Box) (work : Bool) (count : ℕ) : Type 0 where
+  pub made : List Entry
+  pub goes_on : GoesOnAt before now grant r made
+  pub turn : IsTurn r (map (entry_inward grant.sub) made)
+  pub works : has_work (map (entry_inward grant.sub) made) ≡ work
+  pub left : left_in now grant + (if work then 1 else 0) ≡ left_in before grant
+  pub stands : IsBoxOf now grant r box
+  pub count_is : count ≡ length made
+
+-- a turn of node r of the crew went on, with work or none: its box is in step again, the others are what they were, and so is the host
+pub record HasTakenTurn (before after : MachineFacts) (crew crew' : SerialCrew) (r : ℕ) (work : Bool) : Type 0 where
+  pub turn : List Entry
+  pub goes_on : HasGoneOn before after crew crew' turn
+  pub is_turn : IsTurn r (map (entry_inward crew.grant.sub) turn)
+  pub works : has_work (map (entry_inward crew.grant.sub) turn) ≡ work
+  pub left : left_in after crew.grant + (if work then 1 else 0) ≡ left_in before crew.grant
+  pub host : crew'.host ≡ crew.host
+
+-- a round of the crew is under way: the first nodes, so many, have taken their turns, by which a node was given work or none was
+pub record IsRoundUnderWay (before now : MachineFacts) (crew crew' : SerialCrew) (count : ℕ) (work : Bool) : Type 0 where
+  pub made : List Entry
+  pub goes_on : HasGoneOn before now crew crew' made
+  pub part : IsPartOfRound count (map (entry_inward crew.grant.sub) made)
+  pub works : has_work (map (entry_inward crew.grant.sub) made) ≡ work
+  pub left : left_in now crew.grant + (if work then 1 else 0) ≤ left_in before crew.grant
+  pub host : crew'.host ≡ crew.host

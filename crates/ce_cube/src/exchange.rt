@@ -1,0 +1,71 @@
+//! One call of a node's box and its answer.
+ghost use Rattle.std.specs.Prelude.{◌≡◌, IfOk};
+ghost use Rattle.rk_mail.specs.Talk.{call_said};
+ghost use Rattle.rk_node.specs.Boxes.{Box};
+ghost use Rattle.ce_machine.specs.declared.call.Reply.TheVariants.{Heard as ReplyHeard};
+ghost use Rattle.rk_mail.specs.declared.talk.Heard.{Heard};
+ghost use Rattle.ce_cube.specs.Exchanges.{HasCalled, HasExchanged, HasNode};
+ghost use Rattle.ce_cube.specs.Rounds.{is_work_heard};
+
+use ce_daemon::Grant;
+use ce_lock::{Kept, Who};
+use ce_machine::{Call, Machine, Reply};
+use ce_model::NoMemory;
+use ce_set::node_of;
+use rk_mail::{Heard, Say};
+use rk_node::NodeBox;
+use rv_image::Image;
+use std::alloc::Global;
+
+/// Has the machine answer what the box of node r of the cube has said, and the box hear it. Whether that gives the node
+/// work.
+pub(crate) fn exchange(
+    alloc: Global,
+    machine: &mut Machine<NodeBox>,
+    grant: &Grant,
+    r: u32,
+    node: &mut NodeBox,
+    images: &[Image],
+    said: Say,
+) -> Result<bool, NoMemory>
+    requires node { HasNode machine.old grant.now r }
+    requires said { (box : Box) × HasCalled machine.old grant.now r box node.old (call_said said) }
+    requires images { images.now ≡ machine.old.parts.images }
+    ensures { IfOk result (λ work. (box : Box)
+        → HasCalled machine.old grant.now r box node.old (call_said said)
+        → HasExchanged machine.old machine.new grant.now r box node.new (call_said said) work) }
+{
+    let who = Who {
+        family: grant.user,
+        actor: node_of(&grant.sub, r),
+    };
+    let reply = match machine.act(alloc, who, Call::Say(said)) {
+        Ok(reply) => reply,
+        Err((_, fault)) => return Err(fault),
+    };
+    let heard = heard_in(reply);
+    let work = is_work(&heard);
+    node.hears(images, heard);
+    Ok(work)
+}
+
+/// What a machine's reply lets a node hear; it lets it hear something.
+fn heard_in(reply: Reply<NodeBox>) -> Heard
+    requires { (heard : Heard) × (reply ≡ ReplyHeard heard) }
+    ensures { reply ≡ ReplyHeard result }
+{
+    match reply {
+        Reply::Heard(heard) => heard,
+        _ => unreachable!(),
+    }
+}
+
+/// Whether a node is given work by this answer.
+fn is_work(heard: &Heard) -> bool
+    ensures { result ≡ is_work_heard heard.now }
+{
+    matches!(
+        heard,
+        Heard::Start { .. } | Heard::Mail(_) | Heard::Kill { .. } | Heard::Poll { .. }
+    )
+}

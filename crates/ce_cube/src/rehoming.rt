@@ -1,0 +1,132 @@
+//! Where the blocks of a cube begin and where they go back.
+ghost use Rattle.std.specs.Prelude.{◌≡◌, ◌≤◌, ◌<◌, ◌+◌, ◌^◌, ℕ, List, [], length, map, drop, slice_index_or, All};
+ghost use Rattle.ce_model.specs.declared.entry.Entry.{Entry};
+ghost use Rattle.ce_model.specs.Limits.{greatest_dim, greatest_images, home_blocks};
+ghost use Rattle.ce_model.specs.Machine.{MachineParts, IsMachine};
+ghost use Rattle.ce_model.specs.Blocks.{blocks_of_home, put_all};
+ghost use Rattle.ce_model.specs.Renaming.{CubeGrant};
+ghost use Rattle.ce_model.specs.Views.{view};
+ghost use Rattle.xm_block.specs.Rising.{IsRising};
+ghost use Rattle.xm_block.specs.Stores.{ids_of, is_before};
+ghost use Rattle.ce_daemon.specs.Boxes.{AreBoxesOf};
+ghost use Rattle.rk_node.specs.Boxes.{Box, IsClean};
+ghost use Rattle.rk_node.specs.Hearings.{AreApartFrom};
+ghost use Rattle.ce_cube.specs.Boxes.{IsHeldAs};
+ghost use Rattle.ce_cube.specs.Crews.{AreAllHome, HoldAllBlocks, IsCrewInStep, IsHostAtHome, cube_grant};
+ghost use Rattle.ce_cube.specs.Homecoming.{BeginsWith, IsEmptied, IsIdle, emptied, entered, names_at_home, names_in_boxes, refilled};
+
+use crate::SerialCrew;
+use ce_daemon::Grant;
+use ce_host::Host;
+use ce_model::HOME_BLOCKS;
+use rk_node::NodeBox;
+use xm_block::{Block, Store};
+
+impl SerialCrew {
+    /// The crew of a cube that was just granted: its clean boxes become its nodes, for so many images. The cube's dimension
+    /// is 6 at most.
+    pub fn new(grant: Grant, mut nodes: Vec<NodeBox>, host: Host, images: u32) -> SerialCrew
+        requires boxes { AreBoxesOf (λ box. box.node.home) IsClean grant nodes.items }
+        requires host { IsHostAtHome grant.user host }
+        requires dim { grant.dim ≤ greatest_dim }
+        requires images { images ≤ greatest_images }
+        ensures grant { result.grant ≡ grant }
+        ensures in_step { (parts : MachineParts) (history : List Entry) → IsMachine parts
+            → length parts.images ≡ images
+            → IsHeldAs history grant.number (cube_grant grant) → view history grant.number ≡ []
+            → IsCrewInStep parts history result }
+    {
+        enter_all(nodes.as_mut_slice(), grant.dim, images);
+        SerialCrew {
+            grant,
+            nodes,
+            host,
+            entries: 0,
+        }
+    }
+}
+
+/// Makes each clean box the node of its place in a cube of this dimension, for so many images.
+fn enter_all(nodes: &mut [NodeBox], dim: u32, images: u32)
+    requires clean { All IsClean nodes.old }
+    requires all { length nodes.old ≡ 2 ^ dim }
+    requires dim { dim ≤ greatest_dim }
+    requires images { images ≤ greatest_images }
+    ensures { (r : ℕ) (other : Box) → r < length nodes.old
+        → slice_index_or nodes.new r other ≡ entered dim images r (slice_index_or nodes.old r other) }
+{
+    for (relative, node) in nodes.iter_mut().enumerate() {
+        node.enter(relative as u32, dim, images);
+    }
+}
+
+/// Moves every block of a cube that is given back to its home: those in the boxes, those in the host's store, and those
+/// that were drained. The boxes are clean then, and the host has its own blocks. Nothing can fail.
+pub fn rehome(nodes: &mut [NodeBox], host: &mut Host, drained: Vec<Block>)
+    requires all { (grant : CubeGrant) × HoldAllBlocks grant nodes.old host.old drained.items }
+    ensures home { (grant : CubeGrant) → HoldAllBlocks grant nodes.old host.old drained.items
+        → AreAllHome grant nodes.new host.new }
+{
+    scrub_all(nodes, &mut host.store);
+    give_all(drained, &mut host.store);
+    send_all_home(nodes, &mut host.store);
+}
+
+/// Moves every block of the boxes to the store, which has room for them; all these names differ.
+fn scrub_all(nodes: &mut [NodeBox], store: &mut Store)
+    requires idle { All IsIdle nodes.old }
+    requires room { length (names_in_boxes nodes.old) ≤ store.old.spare }
+    requires apart { AreApartFrom (names_in_boxes nodes.old) store.old }
+    ensures boxes { nodes.new ≡ map emptied nodes.old }
+    ensures moved { ids_of store.new.blocks ≡ put_all (names_in_boxes nodes.old) (ids_of store.old.blocks) }
+    ensures spare { store.new.spare + length (names_in_boxes nodes.old) ≡ store.old.spare }
+{
+    for node in nodes.iter_mut() {
+        node.scrub(store);
+    }
+}
+
+/// Gives these blocks to the store, which has room for them; all these names differ. The store is in order then.
+fn give_all(blocks: Vec<Block>, store: &mut Store)
+    requires room { length blocks.items ≤ store.old.spare }
+    requires apart { AreApartFrom (ids_of blocks.items) store.old }
+    ensures moved { ids_of store.new.blocks ≡ put_all (ids_of blocks.items) (ids_of store.old.blocks) }
+    ensures spare { store.new.spare + length blocks.items ≡ store.old.spare }
+    ensures rising { IsRising is_before store.new.blocks }
+{
+    for block in blocks {
+        store.give(block);
+    }
+    // A store is in order, which `count` tells.
+    let _count = store.count();
+}
+
+/// Gives each of these empty boxes the blocks of its home, which are the store's least, box by box.
+fn send_all_home(nodes: &mut [NodeBox], store: &mut Store)
+    requires emptied { All IsEmptied nodes.old }
+    requires least { BeginsWith (names_at_home nodes.old) (ids_of store.old.blocks) }
+    ensures boxes { nodes.new ≡ map refilled nodes.old }
+    ensures rest { ids_of store.new.blocks
+        ≡ drop (length (names_at_home nodes.old)) (ids_of store.old.blocks) }
+    ensures spare { store.new.spare ≡ store.old.spare + length (names_at_home nodes.old) }
+{
+    for node in nodes.iter_mut() {
+        send_home(node, store);
+    }
+}
+
+/// Gives an empty box the blocks of its home, which are the store's least.
+fn send_home(node: &mut NodeBox, store: &mut Store)
+    requires emptied { IsEmptied node.old }
+    requires least { BeginsWith (blocks_of_home node.old.node.home) (ids_of store.old.blocks) }
+    ensures after { node.new ≡ refilled node.old }
+    ensures rest { ids_of store.new.blocks ≡ drop home_blocks (ids_of store.old.blocks) }
+    ensures spare { store.new.spare ≡ store.old.spare + home_blocks }
+{
+    for _ in 0..HOME_BLOCKS {
+        let Some(block) = store.take_least() else {
+            unreachable!()
+        };
+        node.put_home(block);
+    }
+}

@@ -1,0 +1,54 @@
+//! A round on one thread: each node of a cube takes a turn.
+ghost use Rattle.std.specs.Prelude.{◌≡◌, ◌^◌, ◌<◌, IfOk};
+ghost use Rattle.ce_cube.specs.Crews.{HasMadeRound, IsCrewInStep, IsLawfulMachine};
+ghost use Rattle.ce_cube.specs.Exchanges.{HasTakenTurn};
+
+use crate::SerialCrew;
+use crate::turn::take_turn;
+use ce_machine::Machine;
+use ce_model::NoMemory;
+use rk_node::NodeBox;
+use rv_image::Image;
+use std::alloc::Global;
+
+/// One round: each node of the cube, in relative order, asks for work once and runs that turn to its end. Whether one of
+/// them was given work. The crew is in step with the machine, and the list has the machine's images. `NoMemory` may come
+/// at any time; the crew isn't used again then.
+pub fn round_serial(
+    alloc: Global,
+    machine: &mut Machine<NodeBox>,
+    crew: &mut SerialCrew,
+    images: &[Image],
+) -> Result<bool, NoMemory>
+    requires machine { IsLawfulMachine machine.old }
+    requires crew { IsCrewInStep machine.old.parts machine.old.history crew.old }
+    requires images { images.now ≡ machine.old.parts.images }
+    ensures { IfOk result (HasMadeRound machine.old machine.new crew.old crew.new) }
+{
+    let count = crew.nodes.len() as u32;
+    let mut work = false;
+    for r in 0..count {
+        work |= turn_of(alloc, machine, crew, r, images)?;
+    }
+    Ok(work)
+}
+
+/// A turn of node r of the crew. Whether it was given work.
+fn turn_of(
+    alloc: Global,
+    machine: &mut Machine<NodeBox>,
+    crew: &mut SerialCrew,
+    r: u32,
+    images: &[Image],
+) -> Result<bool, NoMemory>
+    requires machine { IsLawfulMachine machine.old }
+    requires crew { IsCrewInStep machine.old.parts machine.old.history crew.old }
+    requires node { r < 2 ^ crew.old.grant.dim }
+    requires images { images.now ≡ machine.old.parts.images }
+    ensures { IfOk result (HasTakenTurn machine.old machine.new crew.old crew.new r) }
+{
+    let node = &mut crew.nodes[r as usize];
+    let turn = take_turn(alloc, machine, &crew.grant, r, node, images)?;
+    crew.entries += turn.entries;
+    Ok(turn.work)
+}

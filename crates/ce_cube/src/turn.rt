@@ -1,0 +1,73 @@
+//! One turn of a node.
+ghost use Rattle.std.specs.Prelude.{◌≡◌, IfOk, IfSome, IfNone, true, false};
+ghost use Rattle.ce_model.specs.Saying.{says};
+ghost use Rattle.rk_mail.specs.Talk.{call_said};
+ghost use Rattle.rk_node.specs.Answering.{HasSaid};
+ghost use Rattle.rk_node.specs.declared.out.Out.TheVariants.{Nothing};
+ghost use Rattle.ce_script.specs.Rounds.{asks_for_work};
+ghost use Rattle.ce_cube.specs.Boxes.{IsInStep};
+ghost use Rattle.ce_cube.specs.Crews.{IsReady, cube_grant};
+ghost use Rattle.ce_cube.specs.Exchanges.{HasNode, IsTurning, node_in};
+
+use crate::exchange::exchange;
+use ce_daemon::Grant;
+use ce_machine::Machine;
+use ce_model::NoMemory;
+use rk_mail::Say;
+use rk_node::NodeBox;
+use rv_image::Image;
+use std::alloc::Global;
+
+/// What a turn came to.
+#[derive(Clone, Copy, Debug, PartialEq, Eq)]
+pub(crate) struct Turn {
+    /// The node was given work.
+    pub work: bool,
+    /// How many entries it made.
+    pub entries: u64,
+}
+
+/// A turn of node r of the cube, whose box is in step: it asks for work once, and runs on until it would ask again.
+pub(crate) fn take_turn(
+    alloc: Global,
+    machine: &mut Machine<NodeBox>,
+    grant: &Grant,
+    r: u32,
+    node: &mut NodeBox,
+    images: &[Image],
+) -> Result<Turn, NoMemory>
+    requires node { HasNode machine.old grant.now r }
+    requires ready { IsReady node.old }
+    requires in_step { IsInStep (cube_grant grant.now) (node_in machine.old grant.now r) node.old.node }
+    requires images { images.now ≡ machine.old.parts.images }
+    ensures turn { IfOk result (λ turn. IsTurning machine.old machine.new grant.now r node.new
+        turn.work turn.entries) }
+    ensures in_step { IfOk result (λ _. IsInStep (cube_grant grant.now)
+        (node_in machine.new grant.now r) node.new.node) }
+{
+    let take = node.says();
+    let work = exchange(alloc, machine, grant, r, node, images, take)?;
+    let mut entries = 1;
+    while let Some(said) = next_call(node) {
+        exchange(alloc, machine, grant, r, node, images, said)?;
+        entries += 1;
+    }
+    Ok(Turn { work, entries })
+}
+
+/// What the box says next, unless it asks for work: its turn is over then.
+fn next_call(node: &mut NodeBox) -> Option<Say>
+    requires idle { node.old.out ≡ Nothing }
+    ensures node { node.new.node ≡ (says node.old.node).node }
+    ensures room { node.new.room ≡ node.old.room }
+    ensures call { IfSome result (λ said. call_said said ≡ (says node.old.node).call) }
+    ensures goes_on { IfSome result (λ said. asks_for_work (call_said said) ≡ false) }
+    ensures said { IfSome result (λ said. HasSaid node.new (call_said said)) }
+    ensures over { IfNone result (asks_for_work (says node.old.node).call ≡ true) }
+    ensures idle { IfNone result (node.new.out ≡ Nothing) }
+{
+    match node.says() {
+        Say::Take { .. } => None,
+        said => Some(said),
+    }
+}

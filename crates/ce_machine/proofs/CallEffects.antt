@@ -1,0 +1,438 @@
+-- What each kind of call makes of what is kept for a node and of how its cube stands, and how a message comes to its places one by one.
+use Rattle.std.proofs.Common.{◌≡◌, ℕ, zero, suc, ◌+◌, ◌<◌, ◌≤◌, Bool, true, false, ◌==◌, if◌then◌else◌, List, [], ◌∷◌, ◌++◌, map, filter, take, length, get_or, Option, Some, None, refl, ap, sym, ◌∙◌, subst, inl, inr, arith, append-nil, length-append}
+use Rattle.std.specs.List.{AllByRecursion}
+use Rattle.std.proofs.lemmas.Bool.{cases_Bool, cond_both, both_ways, eq-eqb, ne_eqb, eqb-true}
+use Rattle.std.proofs.lemmas.List.{map-append, length-map, length-take}
+use Rattle.std.proofs.lemmas.List.Elements.{filter-append}
+use Rattle.std.proofs.Math.Seq.{take-suc}
+use Rattle.ce_model.specs.declared.topology.TheConstants.{HOST}
+use Rattle.ce_model.specs.declared.topology.Place.{Place}
+use Rattle.ce_model.specs.declared.topology.BlockId.{BlockId}
+use Rattle.ce_model.specs.declared.topology.Subcube.{Subcube}
+use Rattle.ce_model.specs.declared.entry.Entry.{Entry}
+use Rattle.ce_model.specs.declared.entry.What.{What}
+use Rattle.ce_model.specs.declared.entry.What.TheVariants.{Arm, Look, HostTake, Send, Spawn, Kill, Note, Take}
+use Rattle.ce_model.specs.declared.entry.Found.{Found}
+use Rattle.ce_model.specs.declared.entry.Given.{Given}
+use Rattle.ce_model.specs.declared.entry.Given.TheVariants.{Mail}
+use Rattle.ce_model.specs.declared.entry.KillFound.{KillFound}
+use Rattle.ce_model.specs.declared.entry.KillFound.TheVariants.{Killed, Unused, Already}
+use Rattle.ce_model.specs.Lists.{without_first}
+use Rattle.ce_model.specs.Parcels.{Parcel, Item, start, mail, kill, is_named_by, parcels_from}
+use Rattle.ce_model.specs.Node.{Call, takes, sends, spawns, kills, notes, arms, looks, takes_mail}
+use Rattle.ce_model.specs.Trace.{NodeRecord, Standing, taken_in, is_work, is_idle}
+use Rattle.ce_model.specs.Answers.{answer, call_of, is_quiet, is_used_up, found_where}
+use Rattle.ce_model.specs.Subcubes.{is_inside, relative}
+use Rattle.ce_model.specs.Renaming.{CubeGrant, place_outward, number_outward, targets_renamed}
+use Rattle.ce_model.specs.Machine.{MachineParts, IsMachine, HeldCube, held_by, nodes_of, standing_of, item_inward, without_taken, record_by, held_by_entry, after, with_places_outward, IsCallOf, IsLawful}
+use Rattle.ce_model.proofs.Subcubes.{is_inside-node_of}
+use Rattle.ce_model.proofs.AloneByEntries.{call_of-answer}
+use Rattle.ce_solo.proofs.Sending.{place_parts}
+use Rattle.ce_solo.proofs.Projection.Numbers.{IsPlaced, IsNumber, out_node, place_in_out}
+use Rattle.ce_solo.proofs.Projection.Kinds.{entry_of}
+use Rattle.ce_machine.proofs.Changes.{next}
+use Rattle.ce_machine.proofs.Called.{IsTarget, target-number, HasPlacesOf, placed-now, call-places}
+use Rattle.ce_machine.proofs.Answered.{send-answer}
+use Rattle.ce_machine.proofs.QueueRoom.{few-parcels, mail_room, queue_room, node-limits, cube-limits}
+use Rattle.ce_machine.proofs.Effects.{call-own, call-inside, call-outside}
+
+-- ---- what a message brings
+
+-- the parcel to one place of a message, as its cube knows it
+abbrev pub sent_parcel : Place → ℕ → List ℕ → Place × BlockId → Parcel
+sent_parcel from number bytes target = record { from = from; to = target.0; number = number; block = record { id = target.1; bytes = bytes } }
+
+-- what the entry of a message to these places of the cube brings to a number of the machine, which may be the host's
+abbrev pub mails_at : Subcube → Place → ℕ → List ℕ → ℕ → List (Place × BlockId) → List Item
+mails_at sub from first bytes node to =
+    map (item_inward sub) (map mail (filter (λ parcel. parcel.to.node == node) (parcels_from from first bytes (targets_renamed (place_outward sub) (λ id. id) to))))
+
+parcels-append : (from : Place) (first : ℕ) (bytes : List ℕ) (front behind : List (Place × BlockId))
+    → parcels_from from first bytes (front ++ behind) ≡ parcels_from from first bytes front ++ parcels_from from (first + length front) bytes behind
+parcels-append from first bytes [] behind = ap (λ n. parcels_from from n bytes behind) (omega arith)
+parcels-append from first bytes (target ∷ front) behind =
+    ap (λ ps. sent_parcel from first bytes target ∷ ps)
+    (parcels-append from (first + 1) bytes front behind ∙ ap (λ n. parcels_from from (first + 1) bytes front ++ parcels_from from n bytes behind) (omega arith))
+
+-- where none of the targets is, nothing comes
+pub mails-none : (sub : Subcube) (from : Place) (first : ℕ) (bytes : List ℕ) (node : ℕ) (to : List (Place × BlockId))
+    → AllByRecursion (λ target. (number_outward sub target.0.node == node) ≡ false) to → mails_at sub from first bytes node to ≡ []
+mails-none sub from first bytes node [] all = refl
+mails-none sub from first bytes node (target ∷ to) all = rw all.0 (mails-none sub from (first + 1) bytes node to all.1)
+
+-- no less comes with more targets
+pub mails-front : (sub : Subcube) (from : Place) (first : ℕ) (bytes : List ℕ) (node k : ℕ) (to : List (Place × BlockId))
+    → length (mails_at sub from first bytes node (take k to)) ≤ length (mails_at sub from first bytes node to)
+mails-front sub from first bytes node zero to = omega arith
+mails-front sub from first bytes node (suc k) [] = omega arith
+mails-front sub from first bytes node (suc k) (target ∷ to) =
+    elim (cases_Bool (number_outward sub target.0.node == node)) [
+      | inl t ↦ rw t (omega (arith, mails-front sub from (first + 1) bytes node k to))
+      | inr f ↦ rw f (mails-front sub from (first + 1) bytes node k to)
+    ]
+
+-- who sent it, as the cube knows the place
+abbrev pub sender : Subcube → Place → Place
+sender sub from = record { node = relative sub from.node; pid = from.pid }
+
+-- what one target brings to a number of the machine, with this number for its parcel
+abbrev pub posted : Subcube → Place → List ℕ → ℕ → ℕ → Place × BlockId → List Item
+posted sub from bytes node number target = if number_outward sub target.0.node == node then mail (sent_parcel (sender sub from) number bytes target) ∷ [] else []
+
+module _ (dim : ℕ) (grant : CubeGrant) (placed : IsPlaced dim grant) (from : Place) (bytes : List ℕ) (node : ℕ) where
+  abbrev sub : Subcube
+  sub = grant.sub
+
+  -- the first target brings its parcel, with the first number
+  pub mails-first : (first : ℕ) (target : Place × BlockId) (to : List (Place × BlockId)) → IsNumber grant.dim target.0.node
+      → mails_at grant.sub from first bytes node (target ∷ to) ≡ posted sub from bytes node first target ++ mails_at grant.sub from (first + 1) bytes node to
+  mails-first first target to is =
+      let inward : List Parcel → List Item = λ ps. map (item_inward sub) (map mail ps) in
+      let here : Parcel → Bool = λ parcel. parcel.to.node == node in
+      let out = sent_parcel from first bytes (place_outward sub target.0, target.1) in
+      let rest = parcels_from from (first + 1) bytes (targets_renamed (place_outward sub) (λ id. id) to) in
+      elim (cases_Bool (number_outward sub target.0.node == node)) [
+        | inl t ↦ rw t (ap (λ to. mail (sent_parcel (sender sub from) first bytes (to, target.1)) ∷ inward (filter here rest)) (place_in_out dim grant placed target.0 is))
+        | inr f ↦ rw f refl
+      ]
+
+  -- a target more brings its parcel, with the next number
+  pub mails-more : (first : ℕ) (front : List (Place × BlockId)) (target : Place × BlockId) → IsNumber grant.dim target.0.node
+      → mails_at grant.sub from first bytes node (front ++ target ∷ []) ≡ mails_at grant.sub from first bytes node front ++ posted sub from bytes node (first + length front) target
+  mails-more first front target is =
+      let out : List (Place × BlockId) → List (Place × BlockId) = targets_renamed (place_outward sub) (λ id. id) in
+      let here : Parcel → Bool = λ parcel. parcel.to.node == node in
+      let inward : List Parcel → List Item = λ ps. map (item_inward sub) (map mail ps) in
+      let number : first + length (out front) ≡ first + length front = omega (arith, length-map {B = Place × BlockId} front (λ target. (place_outward sub target.0, target.1))) in
+      ap (λ ps. inward (filter here ps))
+      (ap (λ to. parcels_from from first bytes to) (map-append (λ (target : Place × BlockId). (place_outward sub target.0, target.1)) front (target ∷ []))
+      ∙ parcels-append from first bytes (out front) (out (target ∷ []))
+      ∙ ap (λ n. parcels_from from first bytes (out front) ++ parcels_from from n bytes (out (target ∷ []))) number)
+      ∙ ap inward (filter-append here (parcels_from from first bytes (out front)) (parcels_from from (first + length front) bytes (out (target ∷ []))))
+      ∙ ap (map (item_inward sub)) (map-append mail (filter here (parcels_from from first bytes (out front))) (filter here (parcels_from from (first + length front) bytes (out (target ∷ [])))))
+      ∙ map-append (item_inward sub) (map mail (filter here (parcels_from from first bytes (out front)))) (map mail (filter here (parcels_from from (first + length front) bytes (out (target ∷ [])))))
+      ∙ ap (λ items. mails_at sub from first bytes node front ++ items) (mails-first (first + length front) target [] is ∙ append-nil (posted sub from bytes node (first + length front) target))
+
+  -- the same for a loop over the targets, which has come to number k
+  pub mails-next : (first : ℕ) (to : List (Place × BlockId)) (k : ℕ) (other : Place × BlockId) → k < length to → IsNumber grant.dim (get_or to k other).0.node
+      → mails_at grant.sub from first bytes node (take (suc k) to) ≡ mails_at grant.sub from first bytes node (take k to) ++ posted sub from bytes node (first + k) (get_or to k other)
+  mails-next first to k other below is =
+      let long : length (take k to) ≡ k = omega (arith, below, length-take k to) in
+      ap (mails_at grant.sub from first bytes node) (take-suc to k other below)
+      ∙ mails-more first (take k to) (get_or to k other) is
+      ∙ ap (λ n. mails_at grant.sub from first bytes node (take k to) ++ posted sub from bytes node (first + n) (get_or to k other)) long
+
+-- ---- what is kept for a node
+
+-- what is kept for a node, once an actor has made an entry that is no take
+abbrev pub busy : ℕ → ℕ → NodeRecord → NodeRecord
+busy actor node kept = record kept { mark = if actor == node then record kept.mark { idle = false } else kept.mark }
+
+pub busy-other : (actor node : ℕ) (kept : NodeRecord) → (actor == node) ≡ false → busy actor node kept ≡ kept
+busy-other actor node kept differ = rw differ refl
+
+-- nothing is taken, and nothing is sent
+stays : (b : Bool) (items : List Item) → (if b then items else items) ++ [] ≡ items
+stays b items = append-nil (if b then items else items) ∙ same b items
+  where
+    same : (b : Bool) (items : List Item) → (if b then items else items) ≡ items
+    same true items = refl
+    same false items = refl
+
+comes : (b : Bool) (items more : List Item) → (if b then items else items) ++ more ≡ items ++ more
+comes true items more = refl
+comes false items more = refl
+
+-- that is, its mark changes where it is the actor
+pub busy-if : (actor node : ℕ) (kept : NodeRecord) → busy actor node kept ≡ (if actor == node then record kept { mark = record kept.mark { idle = false } } else kept)
+busy-if actor node kept = by_test (actor == node)
+  where
+    by_test : (b : Bool) → record kept { mark = if b then record kept.mark { idle = false } else kept.mark } ≡ (if b then record kept { mark = record kept.mark { idle = false } } else kept)
+    by_test true = refl
+    by_test false = refl
+
+module _ (sub : Subcube) (user actor node : ℕ) (kept : NodeRecord) where
+  -- what is kept once this entry is made
+  abbrev pub by : What → NodeRecord
+  by what = record_by sub (entry_of user actor what) node kept
+
+  pub note-record : (pid word : ℕ) → by (Note pid word) ≡ busy actor node kept
+  note-record pid word = λ i. record {
+    waiting = stays (actor == node) kept.waiting i;
+    spawned = append-nil kept.spawned i;
+    killed = append-nil kept.killed i;
+    mark = if actor == node then record kept.mark { idle = false } else kept.mark;
+  }
+
+  -- a spawn, of an id that is new
+  pub spawn-here : (pid image : ℕ) (to : Place) → (to.node == node) ≡ true
+      → by (Spawn pid image to true) ≡ record (busy actor node kept) { waiting = kept.waiting ++ start to.pid image ∷ []; spawned = kept.spawned ++ to.pid ∷ [] }
+  spawn-here pid image to here = rw here (λ i. record {
+    waiting = comes (actor == node) kept.waiting (start to.pid image ∷ []) i;
+    spawned = kept.spawned ++ to.pid ∷ [];
+    killed = append-nil kept.killed i;
+    mark = if actor == node then record kept.mark { idle = false } else kept.mark;
+  })
+
+  pub spawn-away : (pid image : ℕ) (to : Place) (fresh : Bool) → (to.node == node) ≡ false → by (Spawn pid image to fresh) ≡ busy actor node kept
+  spawn-away pid image to true away = rw away (note-record pid image)
+  spawn-away pid image to false away = note-record pid image
+
+  -- and of one that isn't
+  pub spawn-used : (pid image : ℕ) (to : Place) → by (Spawn pid image to false) ≡ busy actor node kept
+  spawn-used pid image to = note-record pid image
+
+  -- a kill that is accepted
+  pub kill-here : (pid : ℕ) (to : Place) → (to.node == node) ≡ true
+      → by (Kill pid to Killed) ≡ record (busy actor node kept) { waiting = kept.waiting ++ kill to.pid ∷ []; killed = kept.killed ++ to.pid ∷ [] }
+  kill-here pid to here = rw here (λ i. record {
+    waiting = comes (actor == node) kept.waiting (kill to.pid ∷ []) i;
+    spawned = append-nil kept.spawned i;
+    killed = kept.killed ++ to.pid ∷ [];
+    mark = if actor == node then record kept.mark { idle = false } else kept.mark;
+  })
+
+  pub kill-away : (pid : ℕ) (to : Place) (found : KillFound) → (to.node == node) ≡ false → by (Kill pid to found) ≡ busy actor node kept
+  kill-away pid to Killed away = rw away (note-record pid 0)
+  kill-away pid to Unused away = note-record pid 0
+  kill-away pid to Already away = note-record pid 0
+
+  -- and one that isn't
+  pub kill-unused : (pid : ℕ) (to : Place) → by (Kill pid to Unused) ≡ busy actor node kept
+  kill-unused pid to = note-record pid 0
+
+  pub kill-already : (pid : ℕ) (to : Place) → by (Kill pid to Already) ≡ busy actor node kept
+  kill-already pid to = note-record pid 0
+
+  -- a message to places of the cube
+  pub send-record : (pid first : ℕ) (to : List (Place × BlockId)) (bytes : List ℕ)
+      → by (Send pid first (targets_renamed (place_outward sub) (λ id. id) to) bytes)
+      ≡ record (busy actor node kept) { waiting = kept.waiting ++ mails_at sub (record { node = actor; pid = pid }) first bytes node to }
+  send-record pid first to bytes = λ i. record {
+    waiting = comes (actor == node) kept.waiting (mails_at sub (record { node = actor; pid = pid }) first bytes node to) i;
+    spawned = append-nil kept.spawned i;
+    killed = append-nil kept.killed i;
+    mark = if actor == node then record kept.mark { idle = false } else kept.mark;
+  }
+
+  -- what a node takes
+  pub take-own : (asking dead : ℕ) (poller : Option ℕ) (given : Given) → (actor == node) ≡ true → by (Take asking dead poller given)
+      ≡ record kept { waiting = without_taken (taken_in (Take asking dead poller given)) kept.waiting; mark = record { idle = is_idle given; asking = asking; dead = dead } }
+  take-own asking dead poller given own = rw own (λ i. record {
+    waiting = append-nil (without_taken (taken_in (Take asking dead poller given)) kept.waiting) i;
+    spawned = append-nil kept.spawned i;
+    killed = append-nil kept.killed i;
+    mark = record { idle = is_idle given; asking = asking; dead = dead };
+  })
+
+  -- what the calls of others leave
+  module _ (other : (actor == node) ≡ false) where
+    quiet : record { waiting = kept.waiting ++ []; spawned = kept.spawned ++ []; killed = kept.killed ++ []; mark = kept.mark } ≡ kept
+    quiet = λ i. record { waiting = append-nil kept.waiting i; spawned = append-nil kept.spawned i; killed = append-nil kept.killed i; mark = kept.mark }
+
+    pub take-other : (asking dead : ℕ) (poller : Option ℕ) (given : Given) → by (Take asking dead poller given) ≡ kept
+    take-other asking dead poller given = rw other quiet
+
+    pub arm-record : (count : ℕ) → by (Arm count) ≡ kept
+    arm-record count = rw other quiet
+
+    pub look-record : (found : Found) → by (Look found) ≡ kept
+    look-record found = rw other quiet
+
+    pub take_mail-record : (number : Option ℕ) → by (HostTake number) ≡ kept
+    take_mail-record number = rw other quiet
+
+-- ---- how the cube stands
+
+module _ (user actor : ℕ) (cube : HeldCube) where
+  -- how the cube stands once this entry is made
+  abbrev pub cube_by : What → HeldCube
+  cube_by what = held_by_entry (entry_of user actor what) cube
+
+  pub note-cube : (pid word : ℕ) → cube_by (Note pid word) ≡ cube
+  note-cube pid word = λ i. record cube { parcel_count = none i; mail = stays (actor == HOST) cube.mail i }
+    where
+      none : cube.parcel_count + 0 ≡ cube.parcel_count
+      none = omega arith
+
+  pub arm-cube : (count : ℕ) → cube_by (Arm count) ≡ record cube { armed = count; dispatched = 0 }
+  arm-cube count = λ i. let was = note-cube 0 0 i in record was { armed = count; dispatched = 0 }
+
+  pub look-cube : (found : Found) → cube_by (Look found) ≡ cube
+  look-cube found = note-cube 0 0
+
+  pub spawn-cube : (pid image : ℕ) (to : Place) (fresh : Bool) → (to.node == HOST) ≡ false → cube_by (Spawn pid image to fresh) ≡ cube
+  spawn-cube pid image to true node = rw node (note-cube 0 0)
+  spawn-cube pid image to false node = note-cube 0 0
+
+  pub kill-cube : (pid : ℕ) (to : Place) (found : KillFound) → (to.node == HOST) ≡ false → cube_by (Kill pid to found) ≡ cube
+  kill-cube pid to Killed node = rw node (note-cube 0 0)
+  kill-cube pid to Unused node = note-cube 0 0
+  kill-cube pid to Already node = note-cube 0 0
+
+  pub take-cube : (asking dead : ℕ) (poller : Option ℕ) (given : Given) → (actor == HOST) ≡ false
+      → cube_by (Take asking dead poller given) ≡ record cube { dispatched = if is_work given then cube.dispatched + 1 else cube.dispatched }
+  take-cube asking dead poller given node =
+      rw node (λ i. record cube { dispatched = if is_work given then cube.dispatched + 1 else cube.dispatched; parcel_count = none i; mail = append-nil cube.mail i })
+    where
+      none : cube.parcel_count + 0 ≡ cube.parcel_count
+      none = omega arith
+
+  pub no_mail-cube : cube_by (HostTake None) ≡ cube
+  no_mail-cube = note-cube 0 0
+
+  -- a host takes its first message
+  pub mail-cube : (parcel : Parcel) (rest : List Item) → (actor == HOST) ≡ true → cube.mail ≡ mail parcel ∷ rest
+      → cube_by (HostTake (Some parcel.number)) ≡ record cube { mail = rest }
+  mail-cube parcel rest host first = rw host (λ i. record cube { parcel_count = none i; mail = without i })
+    where
+      none : cube.parcel_count + 0 ≡ cube.parcel_count
+      none = omega arith
+
+      without : without_first (is_named_by (Mail 0 parcel.number)) cube.mail ++ [] ≡ rest
+      without =
+          append-nil (without_first (is_named_by (Mail 0 parcel.number)) cube.mail)
+          ∙ ap (without_first (is_named_by (Mail 0 parcel.number))) first
+          ∙ ap (λ b. if b then rest else mail parcel ∷ without_first (is_named_by (Mail 0 parcel.number)) rest) (eq-eqb parcel.number parcel.number refl)
+
+  pub send-cube : (pid first : ℕ) (to : List (Place × BlockId)) (bytes : List ℕ)
+      → cube_by (Send pid first (targets_renamed (place_outward cube.grant.sub) (λ id. id) to) bytes) ≡ record cube {
+        parcel_count = cube.parcel_count + length to;
+        mail = cube.mail ++ mails_at cube.grant.sub (record { node = actor; pid = pid }) first bytes HOST to;
+      }
+  send-cube pid first to bytes = λ i. record cube {
+    parcel_count = cube.parcel_count + count i;
+    mail = comes (actor == HOST) cube.mail (mails_at cube.grant.sub (record { node = actor; pid = pid }) first bytes HOST to) i;
+  }
+    where
+      count : length (parcels_from (record { node = actor; pid = pid }) first bytes (targets_renamed (place_outward cube.grant.sub) (λ id. id) to)) ≡ length to
+      count = few-parcels (record { node = actor; pid = pid }) first bytes _ ∙ length-map {B = Place × BlockId} to (λ target. (place_outward cube.grant.sub target.0, target.1))
+
+-- ---- each node of the machine
+
+-- an entry whose actor and places are elsewhere leaves what is kept for a node
+outside-quiet : (d : ℕ) (grant : CubeGrant) (user actor node : ℕ) (kept : NodeRecord) (nodes : List ℕ) (s : Standing) (call : Call) → HasPlacesOf d call
+    → (actor == node) ≡ false → ((n : ℕ) → IsNumber d n → (number_outward grant.sub n == node) ≡ false)
+    → record_by grant.sub (entry_of user actor (answer nodes s actor (with_places_outward grant call))) node kept ≡ kept
+unfolding answer
+outside-quiet d grant user actor node kept nodes s (takes asking dead poller) is other apart = take-other grant.sub user actor node kept other asking dead poller _
+outside-quiet d grant user actor node kept nodes s (sends pid to bytes) is other apart =
+    send-record grant.sub user actor node kept pid s.parcel_count to bytes
+    ∙ rw (mails-none grant.sub (record { node = actor; pid = pid }) s.parcel_count bytes node to (away to is), other) (λ i. record kept { waiting = append-nil kept.waiting i })
+  where
+    away : (to : List (Place × BlockId)) → AllByRecursion (λ target. IsTarget d target.0) to
+        → AllByRecursion (λ target. (number_outward grant.sub target.0.node == node) ≡ false) to
+    away [] all = tt
+    away (target ∷ to) all = (apart target.0.node (target-number d target.0 all.0), away to all.1)
+outside-quiet d grant user actor node kept nodes s (spawns pid image to) is other apart =
+    spawn-away grant.sub user actor node kept pid image (place_outward grant.sub to) _ (apart to.node (inl (place_parts d to is).0)) ∙ busy-other actor node kept other
+outside-quiet d grant user actor node kept nodes s (kills pid to) is other apart =
+    kill-away grant.sub user actor node kept pid (place_outward grant.sub to) _ (apart to.node (inl (place_parts d to is).0)) ∙ busy-other actor node kept other
+outside-quiet d grant user actor node kept nodes s (notes pid word) is other apart = note-record grant.sub user actor node kept pid word ∙ busy-other actor node kept other
+outside-quiet d grant user actor node kept nodes s (arms count) is other apart = arm-record grant.sub user actor node kept other count
+outside-quiet d grant user actor node kept nodes s looks is other apart = look-record grant.sub user actor node kept other (found_where (is_quiet nodes s) (is_used_up s))
+outside-quiet d grant user actor node kept nodes s takes_mail is other apart = take_mail-record grant.sub user actor node kept other _
+
+module _ (parts : MachineParts) (machine : IsMachine parts) (h : List Entry) (lawful : IsLawful parts h) (user : ℕ) (cube : HeldCube) (holds : held_by (after h) user ≡ Some cube)
+    (actor : ℕ) (call : Call) (fits : IsCallOf parts h actor call cube) where
+  abbrev placed : IsPlaced parts.dim cube.grant
+  placed = placed-now parts machine h lawful user cube holds
+
+  module _ (what : What) (answered : answer (nodes_of cube.grant) (standing_of (after h) cube) actor (with_places_outward cube.grant call) ≡ what) where
+    abbrev entry : Entry
+    entry = entry_of user actor what
+
+    is_called : call_of what ≡ Some (with_places_outward cube.grant call)
+    is_called = ap call_of (sym answered) ∙ call_of-answer (nodes_of cube.grant) (standing_of (after h) cube) actor (with_places_outward cube.grant call)
+
+    -- a call that fits changes what is kept for each node of the machine as it does for one of the cube
+    pub call-each : (node : ℕ) → (node == HOST) ≡ false
+        → (next h (entry_of user actor what)).node_record node ≡ record_by cube.grant.sub (entry_of user actor what) node ((after h).node_record node)
+    call-each node no_host =
+        elim (cases_Bool (is_inside cube.grant.sub node)) [
+          | inl inside ↦ call-inside h entry (with_places_outward cube.grant call) is_called cube node holds inside
+          | inr outside ↦
+              call-outside h entry (with_places_outward cube.grant call) is_called cube node holds outside
+              ∙ sym (ap (λ what. record_by cube.grant.sub (entry_of user actor what) node ((after h).node_record node)) (sym answered)
+              ∙ outside-quiet cube.grant.dim cube.grant user actor node ((after h).node_record node) (nodes_of cube.grant) (standing_of (after h) cube) call
+              (call-places parts machine h lawful user cube holds actor call fits) (elsewhere outside) (apart outside))
+        ]
+      where
+        elsewhere : is_inside cube.grant.sub node ≡ false → (actor == node) ≡ false
+        elsewhere outside =
+            elim fits.inside [
+              | inl host ↦ ne_eqb actor node (λ e. both_ways _ no_host (eq-eqb node HOST (sym e ∙ eqb-true actor HOST host)))
+              | inr inside ↦ ne_eqb actor node (λ e. both_ways _ outside (subst (λ n. is_inside cube.grant.sub n ≡ true) e inside))
+            ]
+
+        apart : is_inside cube.grant.sub node ≡ false → (n : ℕ) → IsNumber cube.grant.dim n → (number_outward cube.grant.sub n == node) ≡ false
+        apart outside n (inl below) =
+            ne_eqb _ node (λ e. both_ways _ outside (subst (λ m. is_inside cube.grant.sub m ≡ true) (sym (out_node parts.dim cube.grant placed n below) ∙ e)
+            (is_inside-node_of cube.grant.sub n placed.sub.apart (rw placed.sub.dimension below))))
+        apart outside n (inr host) =
+            ne_eqb _ node (λ e. both_ways _ no_host (eq-eqb node HOST (sym e ∙ ap (number_outward cube.grant.sub) host)))
+
+    -- and the cube itself
+    pub call-cube : held_by (next h (entry_of user actor what)) user ≡ Some (held_by_entry (entry_of user actor what) cube)
+    call-cube = call-own h entry (with_places_outward cube.grant call) is_called cube holds
+
+-- ---- room for a message
+
+module _ (parts : MachineParts) (machine : IsMachine parts) (h : List Entry) (lawful : IsLawful parts h) (user : ℕ) (cube : HeldCube) (holds : held_by (after h) user ≡ Some cube)
+    (actor pid : ℕ) (to : List (Place × BlockId)) (bytes : List ℕ) (fits : IsCallOf parts h actor (sends pid to bytes) cube) where
+  abbrev sending : What
+  sending = Send pid cube.parcel_count (targets_renamed (place_outward cube.grant.sub) (λ id. id) to) bytes
+
+  abbrev arrived : ℕ → List (Place × BlockId) → List Item
+  arrived node to = mails_at cube.grant.sub (record { node = actor; pid = pid }) cube.parcel_count bytes node to
+
+  -- what a message that fits brings to a node of the machine, and to the host
+  pub sent-each : (node : ℕ) → (node == HOST) ≡ false → (next h (entry_of user actor sending)).node_record node
+      ≡ record (busy actor node ((after h).node_record node)) { waiting = ((after h).node_record node).waiting ++ arrived node to }
+  sent-each node no_host =
+      call-each parts machine h lawful user cube holds actor (sends pid to bytes) fits sending (send-answer (after h) cube actor pid to bytes) node no_host
+      ∙ send-record cube.grant.sub user actor node ((after h).node_record node) pid cube.parcel_count to bytes
+
+  pub sent-cube : held_by (next h (entry_of user actor sending)) user
+      ≡ Some (record cube { parcel_count = cube.parcel_count + length to; mail = cube.mail ++ arrived HOST to })
+  sent-cube =
+      call-cube parts machine h lawful user cube holds actor (sends pid to bytes) fits sending (send-answer (after h) cube actor pid to bytes)
+      ∙ ap Some (send-cube user actor cube pid cube.parcel_count to bytes)
+
+  module _ (lawful' : IsLawful parts (h ++ entry_of user actor sending ∷ [])) where
+    -- there is room for all that comes
+    pub sent-room : (node : ℕ) → (node == HOST) ≡ false → length ((after h).node_record node).waiting + length (arrived node to) ≤ queue_room
+    sent-room node no_host =
+        omega (
+          arith,
+          (node-limits parts (h ++ entry_of user actor sending ∷ []) machine lawful' node).waiting,
+          ap (λ (kept : NodeRecord). length kept.waiting) (sent-each node no_host),
+          length-append ((after h).node_record node).waiting (arrived node to),
+        )
+
+    pub sent-mail_room : length cube.mail + length (arrived HOST to) ≤ mail_room
+    sent-mail_room =
+        omega (
+          arith,
+          (cube-limits parts (h ++ entry_of user actor sending ∷ []) machine lawful' user _ sent-cube).mail,
+          length-append cube.mail (arrived HOST to),
+        )
+
+    -- and for what comes with the targets so far
+    pub send-room : (node k : ℕ) → (node == HOST) ≡ false → length (((after h).node_record node).waiting ++ arrived node (take k to)) ≤ queue_room
+    send-room node k no_host =
+        omega (
+          arith,
+          sent-room node no_host,
+          length-append ((after h).node_record node).waiting (arrived node (take k to)),
+          mails-front cube.grant.sub (record { node = actor; pid = pid }) cube.parcel_count bytes node k to,
+        )
+
+    pub send-mail_room : (k : ℕ) → length (cube.mail ++ arrived HOST (take k to)) ≤ mail_room
+    send-mail_room k =
+        omega (
+          arith,
+          sent-mail_room,
+          length-append cube.mail (arrived HOST (take k to)),
+          mails-front cube.grant.sub (record { node = actor; pid = pid }) cube.parcel_count bytes HOST k to,
+        )

@@ -1,0 +1,154 @@
+-- What one entry more makes of the machine's state, point by point: which cubes are held, how each stands, and what is kept for each node.
+use Rattle.std.proofs.Common.{◌≡◌, ℕ, ◌+◌, Bool, true, false, not, ◌==◌, if◌then◌else◌, List, [], ◌∷◌, ◌++◌, map, filter, find, Some, None, option_map, refl, ap, sym, ◌∙◌, subst, inl, inr}
+use Rattle.std.proofs.lemmas.Bool.{cases_Bool, cond_both}
+use Rattle.std.proofs.lemmas.List.{map-append}
+use Rattle.ce_model.specs.declared.topology.Subcube.{Subcube}
+use Rattle.ce_model.specs.declared.entry.Entry.{Entry}
+use Rattle.ce_model.specs.declared.entry.What.{What}
+use Rattle.ce_model.specs.declared.entry.What.TheVariants.{Getcube, Peek, Drain, Freecube}
+use Rattle.ce_model.specs.Node.{Call}
+use Rattle.ce_model.specs.Trace.{NodeRecord, blank_record}
+use Rattle.ce_model.specs.Answers.{call_of}
+use Rattle.ce_model.specs.Subcubes.{is_inside}
+use Rattle.ce_model.specs.Renaming.{CubeGrant}
+use Rattle.ce_model.specs.Machine.{HeldCube, MachineState, is_held_by, held_by, held_grants, record_by, held_by_entry, with_cube, with_grant, with_drained, without_cube, changed_by, changed_by_call, after}
+use Rattle.ce_solo.proofs.Projection.Held.{held-own, held-other, record-own, record-other, granted-own, granted-other, left-own, left-other}
+use Rattle.ce_solo.proofs.Projection.Kinds.{entry_of}
+use Rattle.ce_solo.proofs.Projection.Law.{after-more}
+pub use Rattle.ce_machine.specs.Keeping.{grant_of, grants-kept, grant-found, grants-stay}
+use Rattle.ce_machine.proofs.Changes.{grant_to, next}
+
+-- ---- the grants that are held
+
+grants-filtered : (user : ℕ) (cubes : List HeldCube) → map grant_of (filter (λ cube. not (is_held_by user cube)) cubes)
+    ≡ filter (λ (grant : ℕ × CubeGrant). not (grant.1.user == user)) (map grant_of cubes)
+grants-filtered user [] = refl
+grants-filtered user (cube ∷ cubes) =
+    elim (cases_Bool (is_held_by user cube)) [
+      | inl t ↦ rw t (grants-filtered user cubes)
+      | inr f ↦ rw f (ap (λ grants. grant_of cube ∷ grants) (grants-filtered user cubes))
+    ]
+
+-- ---- an entry of a call
+
+module _ (h : List Entry) (entry : Entry) (call : Call) (called : call_of entry.what ≡ Some call) where
+  abbrev change : HeldCube → HeldCube
+  change cube = held_by_entry entry cube
+
+  abbrev change_record : HeldCube → ℕ → NodeRecord → NodeRecord
+  change_record cube = record_by cube.grant.sub entry
+
+  pub call-state : next h entry ≡ with_cube entry.user change change_record (after h)
+  call-state = after-more h entry ∙ ap (λ call. changed_by_call call entry (after h)) called
+
+  pub call-count : (next h entry).grant_count ≡ (after h).grant_count
+  call-count = ap (λ (s : MachineState). s.grant_count) call-state
+
+  pub call-grants : held_grants (next h entry) ≡ held_grants (after h)
+  call-grants = ap held_grants call-state ∙ grants-kept (is_held_by entry.user) change (after h).held (λ cube. refl)
+
+  pub call-own : (cube : HeldCube) → held_by (after h) entry.user ≡ Some cube → held_by (next h entry) entry.user ≡ Some (held_by_entry entry cube)
+  call-own cube holds = ap (λ s. held_by s entry.user) call-state ∙ held-own entry.user change (λ cube. refl) change_record (after h) cube holds
+
+  pub call-other : (user : ℕ) → (entry.user == user) ≡ false → held_by (next h entry) user ≡ held_by (after h) user
+  call-other user other = ap (λ s. held_by s user) call-state ∙ held-other entry.user change (λ cube. refl) change_record (after h) user other
+
+  pub call-inside : (cube : HeldCube) (node : ℕ) → held_by (after h) entry.user ≡ Some cube → is_inside cube.grant.sub node ≡ true
+      → (next h entry).node_record node ≡ record_by cube.grant.sub entry node ((after h).node_record node)
+  call-inside cube node holds inside =
+      ap (λ (s : MachineState). s.node_record node) call-state
+      ∙ record-own change_record node ((after h).node_record node) (held_by (after h) entry.user) cube holds inside
+
+  pub call-outside : (cube : HeldCube) (node : ℕ) → held_by (after h) entry.user ≡ Some cube → is_inside cube.grant.sub node ≡ false
+      → (next h entry).node_record node ≡ (after h).node_record node
+  call-outside cube node holds outside =
+      ap (λ (s : MachineState). s.node_record node) call-state
+      ∙ record-other change_record node ((after h).node_record node) (held_by (after h) entry.user)
+      (λ other held. let same : Some cube ≡ Some other = sym holds ∙ held in
+      let is : cube ≡ other = cc in subst (λ (c : HeldCube). is_inside c.grant.sub node ≡ false) is outside)
+
+-- ---- entries that are none of a call
+
+module _ (h : List Entry) (user actor : ℕ) where
+  -- a peek, and a getcube for which none was free, change nothing
+  pub peek-state : next h (entry_of user actor Peek) ≡ after h
+  peek-state = after-more h (entry_of user actor Peek)
+
+  pub none_free-state : (dim : ℕ) → next h (entry_of user actor (Getcube dim None)) ≡ after h
+  none_free-state dim = after-more h (entry_of user actor (Getcube dim None))
+
+  -- a cube is granted
+  module _ (dim : ℕ) (sub : Subcube) where
+    abbrev getcube : Entry
+    getcube = entry_of user actor (Getcube dim (Some sub))
+
+    pub grant-state : next h getcube ≡ with_grant (grant_to user dim sub) (after h)
+    grant-state = after-more h getcube
+
+    pub grant-count : (next h getcube).grant_count ≡ (after h).grant_count + 1
+    grant-count = ap (λ (s : MachineState). s.grant_count) grant-state
+
+    pub grant-grants : held_grants (next h getcube) ≡ held_grants (after h) ++ ((after h).grant_count, grant_to user dim sub) ∷ []
+    grant-grants = ap held_grants grant-state ∙ map-append grant_of (after h).held _
+
+    pub grant-own : held_by (after h) user ≡ None → held_by (next h getcube) user
+        ≡ Some (record { number = (after h).grant_count; grant = grant_to user dim sub; drained = false; armed = 0; dispatched = 0; parcel_count = 0; mail = [] })
+    grant-own none = ap (λ s. held_by s user) grant-state ∙ granted-own (grant_to user dim sub) (after h) none
+
+    pub grant-other : (other : ℕ) → (user == other) ≡ false → held_by (next h getcube) other ≡ held_by (after h) other
+    grant-other other differ = ap (λ s. held_by s other) grant-state ∙ granted-other (grant_to user dim sub) (after h) other differ
+
+    pub grant-records : (next h getcube).node_record ≡ (after h).node_record
+    grant-records = ap (λ (s : MachineState). s.node_record) grant-state
+
+  -- a cube is drained
+  abbrev draining : Entry
+  draining = entry_of user actor Drain
+
+  abbrev drained_cube : HeldCube → HeldCube
+  drained_cube cube = record cube { drained = true; mail = [] }
+
+  abbrev drained_record : HeldCube → ℕ → NodeRecord → NodeRecord
+  drained_record cube node kept = record kept { waiting = [] }
+
+  pub drain-state : next h draining ≡ with_drained user (after h)
+  drain-state = after-more h draining
+
+  pub drain-count : (next h draining).grant_count ≡ (after h).grant_count
+  drain-count = ap (λ (s : MachineState). s.grant_count) drain-state
+
+  pub drain-grants : held_grants (next h draining) ≡ held_grants (after h)
+  drain-grants = ap held_grants drain-state ∙ grants-kept (is_held_by user) drained_cube (after h).held (λ cube. refl)
+
+  pub drain-own : (cube : HeldCube) → held_by (after h) user ≡ Some cube → held_by (next h draining) user ≡ Some (record cube { drained = true; mail = [] })
+  drain-own cube holds = ap (λ s. held_by s user) drain-state ∙ held-own user drained_cube (λ cube. refl) drained_record (after h) cube holds
+
+  pub drain-other : (other : ℕ) → (user == other) ≡ false → held_by (next h draining) other ≡ held_by (after h) other
+  drain-other other differ = ap (λ s. held_by s other) drain-state ∙ held-other user drained_cube (λ cube. refl) drained_record (after h) other differ
+
+  pub drain-record : (cube : HeldCube) (node : ℕ) → held_by (after h) user ≡ Some cube
+      → (next h draining).node_record node ≡ (if is_inside cube.grant.sub node then record ((after h).node_record node) { waiting = [] } else (after h).node_record node)
+  drain-record cube node holds = ap (λ (s : MachineState). s.node_record node) drain-state ∙ rw holds refl
+
+  -- a cube is given back
+  abbrev freeing : Entry
+  freeing = entry_of user actor Freecube
+
+  pub free-state : next h freeing ≡ without_cube user (after h)
+  free-state = after-more h freeing
+
+  pub free-count : (next h freeing).grant_count ≡ (after h).grant_count
+  free-count = ap (λ (s : MachineState). s.grant_count) free-state
+
+  pub free-grants : held_grants (next h freeing) ≡ filter (λ (grant : ℕ × CubeGrant). not (grant.1.user == user)) (held_grants (after h))
+  free-grants = ap held_grants free-state ∙ grants-filtered user (after h).held
+
+  pub free-own : held_by (next h freeing) user ≡ None
+  free-own = ap (λ s. held_by s user) free-state ∙ left-own user (after h)
+
+  pub free-other : (other : ℕ) → (user == other) ≡ false → held_by (next h freeing) other ≡ held_by (after h) other
+  free-other other differ = ap (λ s. held_by s other) free-state ∙ left-other user other (after h) differ
+
+  pub free-record : (cube : HeldCube) (node : ℕ) → held_by (after h) user ≡ Some cube
+      → (next h freeing).node_record node ≡ (if is_inside cube.grant.sub node then blank_record else (after h).node_record node)
+  free-record cube node holds = ap (λ (s : MachineState). s.node_record node) free-state ∙ rw holds refl

@@ -1,0 +1,94 @@
+-- The daemon's holding is the machine's: the grants that are held, the nodes that are free, and how an entry changes both.
+use Rattle.std.proofs.Common.{◌≡◌, ℕ, ◌+◌, ◌^◌, ◌<◌, ◌≤◌, true, not, ◌||◌, List, [], ◌∷◌, ◌++◌, map, filter, find, option_map, refl, ap, ◌∙◌, subst, inl, inr, arith, pow_mono}
+use Rattle.std.specs.List.{list_any}
+use Rattle.std.proofs.lemmas.Bool.{cases_Bool}
+use Rattle.std.proofs.lemmas.List.{map-append}
+use Rattle.ce_model.specs.declared.topology.Subcube.{Subcube}
+use Rattle.ce_model.specs.Limits.{greatest_dim}
+use Rattle.ce_model.specs.Subcubes.{extract, node_of, is_inside, IsSubcube}
+use Rattle.ce_model.specs.Renaming.{CubeGrant}
+use Rattle.ce_model.specs.Machine.{HeldCube, MachineState, held_by, is_held_by, held_grants, is_free, with_grant, without_cube}
+use Rattle.ce_model.proofs.Subcubes.{node_of-within, node_of-extract, ones_of-bound}
+use Rattle.ce_solo.proofs.Projection.Numbers.{IsPlaced}
+use Rattle.ce_daemon.specs.declared.grant.Grant.{Grant}
+use Rattle.ce_daemon.specs.Holding as daemon
+use Rattle.ce_daemon.specs.Peeks.{numbered}
+use Rattle.ce_machine.specs.Replies.{next_grant}
+use Rattle.ce_machine.proofs.Changes.{grant_to}
+use Rattle.ce_machine.proofs.Effects.{grant_of}
+
+-- the grants that are held, by number
+abbrev pub grants_in : MachineState → List Grant
+grants_in state = map numbered (held_grants state)
+
+-- what the daemon of a machine of this dimension holds
+abbrev pub holding_of : ℕ → MachineState → daemon.Holding
+holding_of dim state = record { dim = dim; count = state.grant_count; held = grants_in state }
+
+-- the grant of a cube
+abbrev pub grant_held : HeldCube → Grant
+grant_held cube = numbered (grant_of cube)
+
+-- the daemon has the grant of the cube that a user holds
+pub held-same : (dim : ℕ) (state : MachineState) (user : ℕ) → daemon.held_by (holding_of dim state) user ≡ option_map grant_held (held_by state user)
+held-same dim state user = by_cubes state.held
+  where
+    by_cubes : (cubes : List HeldCube) → find (daemon.is_user user) (map numbered (map grant_of cubes)) ≡ option_map grant_held (find (is_held_by user) cubes)
+    by_cubes [] = refl
+    by_cubes (cube ∷ cubes) = elim (cases_Bool (is_held_by user cube)) [ inl t ↦ rw t refl | inr f ↦ rw f (by_cubes cubes) ]
+
+-- a node is free for the daemon where it is for the machine
+pub free-same : (dim : ℕ) (state : MachineState) → daemon.is_free (holding_of dim state) ≡ is_free state
+free-same dim state = λ i node. not (by_cubes node state.held i)
+  where
+    by_cubes : (node : ℕ) (cubes : List HeldCube) → list_any (daemon.is_granted node) (map numbered (map grant_of cubes)) ≡ list_any (λ (cube : HeldCube). is_inside cube.grant.sub node) cubes
+    by_cubes node [] = refl
+    by_cubes node (cube ∷ cubes) = ap (λ b. is_inside cube.grant.sub node || b) (by_cubes node cubes)
+
+-- a cube is granted, and one is given back
+pub grant-holding : (dim : ℕ) (state : MachineState) (user d : ℕ) (sub : Subcube)
+    → holding_of dim (with_grant (grant_to user d sub) state) ≡ daemon.with_grant (next_grant state user d sub) (holding_of dim state)
+grant-holding dim state user d sub = λ i. record { dim = dim; count = state.grant_count + 1; held = grants i }
+  where
+    grants : grants_in (with_grant (grant_to user d sub) state) ≡ grants_in state ++ next_grant state user d sub ∷ []
+    grants = ap (map numbered) (map-append grant_of state.held _) ∙ map-append numbered (held_grants state) _
+
+pub free-holding : (dim : ℕ) (state : MachineState) (user : ℕ) → holding_of dim (without_cube user state) ≡ daemon.without_user user (holding_of dim state)
+free-holding dim state user = λ i. record { dim = dim; count = state.grant_count; held = by_cubes state.held i }
+  where
+    by_cubes : (cubes : List HeldCube) → map numbered (map grant_of (filter (λ cube. not (is_held_by user cube)) cubes))
+        ≡ filter (λ grant. not (daemon.is_user user grant)) (map numbered (map grant_of cubes))
+    by_cubes [] = refl
+    by_cubes (cube ∷ cubes) =
+        elim (cases_Bool (is_held_by user cube)) [
+          | inl t ↦ rw t (by_cubes cubes)
+          | inr f ↦ rw f (ap (λ grants. grant_held cube ∷ grants) (by_cubes cubes))
+        ]
+
+-- where the grants stay and their count does, the holding stays
+pub same-holding : (dim : ℕ) (state state' : MachineState) → state'.grant_count ≡ state.grant_count → held_grants state' ≡ held_grants state → holding_of dim state' ≡ holding_of dim state
+same-holding dim state state' count grants = λ i. record { dim = dim; count = count i; held = map numbered (grants i) }
+
+-- ---- a grant of a machine of this dimension
+
+module _ (dim : ℕ) (grant : CubeGrant) (placed : IsPlaced dim grant) where
+  pub placed-small : grant.dim ≤ greatest_dim
+  placed-small = rw (← placed.sub.dimension) (ones_of-bound greatest_dim grant.sub.mask)
+
+  -- its subcube is one of the largest machine too
+  pub placed-wide : IsSubcube greatest_dim grant.dim grant.sub
+  placed-wide =
+      let wide : 2 ^ dim ≤ 2 ^ greatest_dim = pow_mono placed.within in
+      record {
+        mask_within = omega (arith, placed.sub.mask_within);
+        base_within = omega (arith, placed.sub.base_within);
+        dimension = placed.sub.dimension;
+        apart = placed.sub.apart;
+      }
+
+  -- its nodes are the machine's
+  pub placed-node : (r : ℕ) → node_of grant.sub r < 2 ^ dim
+  placed-node r = node_of-within dim r grant.sub placed.sub.base_within placed.sub.mask_within placed.sub.apart
+
+  pub placed-inside : (node : ℕ) → is_inside grant.sub node ≡ true → node < 2 ^ dim
+  placed-inside node inside = subst (λ n. n < 2 ^ dim) (node_of-extract grant.sub node inside) (placed-node (extract node grant.sub.mask))

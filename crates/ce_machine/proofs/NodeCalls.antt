@@ -1,0 +1,221 @@
+-- The calls that nodes and hosts make: a node never arms, looks or takes a host's mail, a host never takes or notes, and one message goes to
+-- so many places at most.
+use Rattle.std.proofs.Common.{◌≡◌, ℕ, zero, suc, ◌+◌, ◌-◌, ◌≤◌, true, not, ◌&&◌, ◌||◌, ◌==◌, nat_lt, List, [], ◌∷◌, length, take, drop, zip, slice_get, Option, Some, None, Result, Ok, Err, IfOk, option_map, option_and_then, refl, subst, arith}
+use Rattle.std.specs.List.{AllByRecursion, list_all}
+use Rattle.std.proofs.lemmas.Bool.{cond_both, ltb-false, and_parts}
+use Rattle.rv_model.specs.declared.stop.Stop.{Stop}
+use Rattle.rv_model.specs.Word.{wrapping_sum}
+use Rattle.rv_model.specs.Exec.{Outcome, went, called, stopped}
+use Rattle.ce_model.specs.declared.topology.Place.{Place}
+use Rattle.ce_model.specs.declared.topology.BlockId.{BlockId}
+use Rattle.ce_model.specs.Limits.{block_room, greatest_targets, greatest_targets_lem, turn_calls}
+use Rattle.ce_model.specs.Blocks.{Block}
+use Rattle.ce_model.specs.Space.{Space, has_unused_window, block_named, result_map, and_then, places_at, place_at}
+use Rattle.ce_model.specs.Process.{Process, argument, call_number, moved}
+use Rattle.ce_model.specs.Node.{Turn, Node, process_at, is_place, Call, takes, sends, spawns, kills, notes, arms, looks, takes_mail}
+use Rattle.ce_model.specs.Kernel.{Did, goes_on, leaves, turn_ends, returns, says_call, reading, gives_up, with_store, maps_least, xmalloc, frees, xfree, xlength, is_target, place_named, sends_block, xsend, sends_copies, xmsend_block, xmsend, spawn, ckill, KernelCall, kernel_calls, counted_does, kernel_does, kernel}
+use Rattle.ce_model.specs.Saying.{Saying, after_call, after_instruction, instruction, runs, says_in, says}
+use Rattle.ce_model.specs.Cube.{Cube, HostCall, send_bytes, start_image, end_process, allow, look_round, take_message, host_call}
+
+-- ---- nodes
+
+-- a call that a node can make
+abbrev pub IsNodeCall : Call → Type 0
+IsNodeCall (sends pid to bytes) = length to ≤ greatest_targets
+IsNodeCall (arms count) = ⊥
+IsNodeCall looks = ⊥
+IsNodeCall takes_mail = ⊥
+IsNodeCall other = Unit {0}
+
+abbrev IsGood : Did → Type 0
+IsGood (goes_on node turn) = Unit {0}
+IsGood (leaves node call) = IsNodeCall call
+IsGood (turn_ends node) = Unit {0}
+
+reading-good : {X : Type 0} (node : Node) (turn : Turn) (p : Process) (read : Result X Stop) (P : X → Type 0) (onward : X → Did) → IfOk read P
+    → ((x : X) → P x → IsGood (onward x)) → IsGood (reading node turn p read onward)
+reading-good node turn p (Ok x) P onward is good = good x is
+reading-good node turn p (Err cause) P onward is good = tt
+
+any_ok : {X : Type 0} (read : Result X Stop) → IfOk read (λ x. Unit {0})
+any_ok (Ok x) = tt
+any_ok (Err cause) = tt
+
+-- as many places are read as were asked for
+places-more : (place : Place) (count : ℕ) (read : Result (List Place) Stop) → IfOk read (λ places. length places ≡ count)
+    → IfOk (result_map (λ places. place ∷ places) read) (λ places. length places ≡ suc count)
+places-more place count (Ok places) e = omega (arith, e)
+places-more place count (Err cause) e = tt
+
+places-then : (count : ℕ) (first : Result Place Stop) (read : Result (List Place) Stop) → IfOk read (λ places. length places ≡ count)
+    → IfOk (and_then first (λ place. result_map (λ places. place ∷ places) read)) (λ places. length places ≡ suc count)
+places-then count (Ok place) read e = places-more place count read e
+places-then count (Err cause) read e = tt
+
+places-count : (space : Space) (a count : ℕ) → IfOk (places_at space a count) (λ places. length places ≡ count)
+places-count space a zero = refl
+places-count space a (suc count) = places-then count (place_at space a) (places_at space (wrapping_sum a 8) count) (places-count space (wrapping_sum a 8) count)
+
+zip-most : {X Y : Type 0} (xs : List X) (ys : List Y) → length (zip xs ys) ≤ length xs
+zip-most [] ys = omega arith
+zip-most (x ∷ xs) [] = omega arith
+zip-most (x ∷ xs) (y ∷ ys) = omega (arith, zip-most xs ys)
+
+module _ (node : Node) (turn : Turn) (p : Process) where
+  xmalloc-good : IsGood (xmalloc node turn p)
+  xmalloc-good =
+      cond_both (nat_lt block_room (argument p 0) || not (has_unused_window p.space)) (returns node turn p 0) (maps_least node turn p (argument p 0) node.store) IsGood
+      (λ t. tt) (λ f. by_store node.store)
+    where
+      by_store : (store : List BlockId) → IsGood (maps_least node turn p (argument p 0) store)
+      by_store [] = tt
+      by_store (id ∷ store) = tt
+
+  xfree-good : IsGood (xfree node turn p)
+  xfree-good =
+      reading-good node turn p (block_named p.space (argument p 0)) (λ x. Unit {0}) (frees node turn p) (any_ok (block_named p.space (argument p 0))) (λ x u. tt)
+
+  xlength-good : IsGood (xlength node turn p)
+  xlength-good =
+      reading-good node turn p (block_named p.space (argument p 0)) (λ x. Unit {0}) _ (any_ok (block_named p.space (argument p 0))) (λ x u. tt)
+
+  xsend-good : IsGood (xsend node turn p)
+  xsend-good =
+      reading-good node turn p (block_named p.space (argument p 0)) (λ x. Unit {0}) (sends_block node turn p) (any_ok (block_named p.space (argument p 0)))
+      (λ found u. cond_both (is_target node (place_named p 1)) _ (returns node turn p 1) IsGood (λ t. omega (arith, greatest_targets_lem)) (λ f. tt))
+
+  sends_copies-good : (found : ℕ × Block) (places : List Place) → length places ≤ greatest_targets → IsGood (sends_copies node turn p found places)
+  sends_copies-good found [] few = tt
+  sends_copies-good found (to ∷ others) few =
+      cond_both (not (list_all (is_target node) (to ∷ others))) (returns node turn p 1) _ IsGood (λ t. tt)
+      (λ all. cond_both (nat_lt (length node.store) (length others)) (returns node turn p 2)
+      (says_call (with_store (drop (length others) node.store) node) turn (gives_up found.0 p)
+      (sends turn.pid (zip (to ∷ others) (found.1.id ∷ take (length others) node.store)) found.1.bytes)) IsGood (λ t. tt)
+      (λ enough. omega (arith, few, zip-most (to ∷ others) (found.1.id ∷ take (length others) node.store))))
+
+  xmsend-good : IsGood (xmsend node turn p)
+  xmsend-good =
+      reading-good node turn p (block_named p.space (argument p 0)) (λ x. Unit {0}) (xmsend_block node turn p) (any_ok (block_named p.space (argument p 0)))
+      (λ found u. cond_both (nat_lt greatest_targets (argument p 1)) (returns node turn p 3) _ IsGood (λ t. tt)
+      (λ few. reading-good node turn p (places_at p.space (argument p 2) (argument p 1)) (λ places. length places ≡ argument p 1) (sends_copies node turn p found)
+      (places-count p.space (argument p 2) (argument p 1)) (λ places e. sends_copies-good found places (omega (arith, e, ltb-false _ _ few)))))
+
+  spawn-good : IsGood (spawn node turn p)
+  spawn-good =
+      cond_both (not (is_place node.dim (place_named p 1))) (returns node turn p 1) _ IsGood (λ t. tt)
+      (λ at. cond_both (nat_lt (argument p 0) node.images) (says_call node turn p (spawns turn.pid (argument p 0) (place_named p 1))) (returns node turn p 3) IsGood (λ t. tt) (λ f. tt))
+
+  ckill-good : IsGood (ckill node turn p)
+  ckill-good = cond_both (is_place node.dim (place_named p 0)) (says_call node turn p (kills turn.pid (place_named p 0))) (returns node turn p 1) IsGood (λ t. tt) (λ f. tt)
+
+abbrev IsGoodCall : KernelCall → Type 0
+IsGoodCall call = (node : Node) (turn : Turn) (p : Process) → IsGood (call.does node turn p)
+
+calls-good : AllByRecursion IsGoodCall kernel_calls
+unfolding kernel_calls
+calls-good = (
+  xmalloc-good,
+  (
+    xfree-good,
+    (
+      xlength-good,
+      (
+        xsend-good,
+        (
+          xmsend-good,
+          (
+            (λ node turn p. tt),
+            (
+              (λ node turn p. tt),
+              (
+                spawn-good,
+                (
+                  ckill-good,
+                  ((λ node turn p. tt), ((λ node turn p. tt), ((λ node turn p. tt), ((λ node turn p. tt), ((λ node turn p. tt), tt))))),
+                ),
+              ),
+            ),
+          ),
+        ),
+      ),
+    ),
+  ),
+)
+
+found-good : (calls : List KernelCall) (k : ℕ) → AllByRecursion IsGoodCall calls → (node : Node) (turn : Turn) (p : Process) → IsGood (kernel_does (slice_get calls k) node turn p)
+found-good [] k all node turn p = tt
+found-good (call ∷ calls) zero all node turn p =
+    cond_both call.is_counted (counted_does call node turn p) (call.does node turn p) IsGood
+    (λ t. cond_both (nat_lt turn.calls turn_calls) _ _ IsGood (λ t. all.0 node (record turn { calls = turn.calls + 1 }) p) (λ f. tt)) (λ f. all.0 node turn p)
+found-good (call ∷ calls) (suc k) all node turn p = found-good calls k all.1 node turn p
+
+kernel-good : (node : Node) (turn : Turn) (p : Process) → IsGood (kernel node turn p)
+unfolding kernel
+kernel-good node turn p =
+    cond_both (call_number p == 0) None (slice_get kernel_calls (call_number p - 1)) (λ found. IsGood (kernel_does found node turn p))
+    (λ t. tt) (λ f. found-good kernel_calls (call_number p - 1) calls-good node turn p)
+
+did-good : (onward : Node → Turn → Saying) (did : Did) → ((node : Node) (turn : Turn) → IsNodeCall (onward node turn).call) → IsGood did
+    → IsNodeCall (after_call onward did).call
+did-good onward (goes_on node turn) good is = good node turn
+did-good onward (leaves node call) good is = is
+did-good onward (turn_ends node) good is = tt
+
+instruction-good : (onward : Node → Turn → Saying) (left : ℕ) (node : Node) (turn : Turn) (p : Process) (outcome : Outcome Space)
+    → ((node : Node) (turn : Turn) → IsNodeCall (onward node turn).call) → IsNodeCall (after_instruction onward left node turn p outcome).call
+instruction-good onward left node turn p (went regs pc space) good = good _ turn
+instruction-good onward left node turn p (called regs pc space) good =
+    let turn' = record turn { left = left } in
+    did-good onward (kernel node turn' (moved p regs pc space)) good (kernel-good node turn' (moved p regs pc space))
+instruction-good onward left node turn p (stopped cause) good = tt
+
+runs-good : (left : ℕ) (node : Node) (turn : Turn) → IsNodeCall (runs left node turn).call
+unfolding runs
+runs-good zero node turn = tt
+runs-good (suc left) node turn =
+    instruction-good (runs left) left node turn (process_at node turn.pid) (instruction (process_at node turn.pid)) (runs-good left)
+
+-- what a node says is a call that a node can make
+pub says-node_call : (node : Node) → IsNodeCall (says node).call
+unfolding says
+says-node_call node = by_turn node.turn
+  where
+    by_turn : (turn : Option Turn) → IsNodeCall (says_in node turn).call
+    by_turn None = tt
+    by_turn (Some turn) = runs-good turn.left node turn
+
+-- ---- hosts
+
+-- a call that a host of a cube of this dimension can make
+abbrev pub IsHostCall : ℕ → Call → Type 0
+IsHostCall d (sends pid to bytes) = (length to ≤ greatest_targets) × AllByRecursion (λ target. is_place d target.0 ≡ true) to
+IsHostCall d (spawns pid image to) = is_place d to ≡ true
+IsHostCall d (kills pid to) = is_place d to ≡ true
+IsHostCall d (takes asking dead poller) = ⊥
+IsHostCall d (notes pid word) = ⊥
+IsHostCall d other = Unit {0}
+
+abbrev IfHostCall : ℕ → Option Call → Type 0
+IfHostCall d None = Unit {0}
+IfHostCall d (Some call) = IsHostCall d call
+
+host-good : (cube : Cube) (store : List BlockId) (asked : Option HostCall) → IfHostCall cube.dim (option_and_then (host_call cube store) asked)
+host-good cube store None = tt
+host-good cube store (Some (send_bytes to bytes)) =
+    cond_both (is_place cube.dim to) (option_map (λ id. sends 0 ((to, id) ∷ []) bytes) (slice_get store 0)) None (IfHostCall cube.dim) (λ t. by_block (slice_get store 0) t) (λ f. tt)
+  where
+    by_block : (least : Option BlockId) → is_place cube.dim to ≡ true → IfHostCall cube.dim (option_map (λ id. sends 0 ((to, id) ∷ []) bytes) least)
+    by_block None place = tt
+    by_block (Some id) place = (omega (arith, greatest_targets_lem), (place, tt))
+host-good cube store (Some (start_image image to)) =
+    cond_both (is_place cube.dim to && nat_lt image (length cube.images)) (Some (spawns 0 image to)) None (IfHostCall cube.dim)
+    (λ t. (and_parts (is_place cube.dim to) (nat_lt image (length cube.images)) t).0) (λ f. tt)
+host-good cube store (Some (end_process to)) = cond_both (is_place cube.dim to) (Some (kills 0 to)) None (IfHostCall cube.dim) (λ t. t) (λ f. tt)
+host-good cube store (Some (allow count)) = tt
+host-good cube store (Some look_round) = tt
+host-good cube store (Some take_message) = tt
+
+-- what a host makes of what its user asks is a call that a host can make
+pub asked-host_call : (cube : Cube) (store : List BlockId) (asked : Option HostCall) (call : Call) → option_and_then (host_call cube store) asked ≡ Some call
+    → IsHostCall cube.dim call
+asked-host_call cube store asked call e = subst (IfHostCall cube.dim) e (host-good cube store asked)

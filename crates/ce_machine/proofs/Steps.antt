@@ -1,0 +1,261 @@
+-- What the machine's tables show once an entry is made, and that the call is then answered.
+use Rattle.std.proofs.Common.{◌≡◌, ◌≢◌, ◌⊎◌, ℕ, ◌+◌, ◌^◌, ◌<◌, ◌≤◌, Bool, true, false, ◌==◌, List, [], ◌∷◌, ◌++◌, length, map, get_or, set, Option, Some, None, IsSome, IsSomeAnd, option_map, refl, ap, sym, ◌∙◌, subst, arith, inl, inr}
+use Rattle.std.specs.List.{AllByRecursion}
+use Rattle.std.proofs.lemmas.Bool.{both_ways, eq-eqb, eqb-true, ne_eqb, cases_Bool}
+use Rattle.std.proofs.lemmas.List.{get_or-set_same, get_or-set_other, get_or_read, length-set, length-append}
+use Rattle.ce_model.specs.declared.topology.TheConstants.{HOST}
+use Rattle.ce_model.specs.declared.entry.Entry.{Entry}
+use Rattle.ce_model.specs.declared.entry.What.{What}
+use Rattle.ce_model.specs.Limits.{greatest_dim, greatest_dim_lem}
+use Rattle.ce_model.specs.Node as node
+use Rattle.ce_model.specs.Trace.{NodeRecord, blank_record}
+use Rattle.ce_model.specs.Answers.{call_of}
+use Rattle.ce_model.specs.Subcubes.{extract, node_of, is_inside}
+use Rattle.ce_model.proofs.Subcubes.{node_of-within, node_of-extract}
+use Rattle.ce_model.specs.Machine.{MachineParts, IsMachine, MachineState, HeldCube, held_by, held_grants, after, answered, IsCallOf, HoldsCube, IsLawful}
+use Rattle.ce_model.specs.Renaming.{CubeGrant}
+use Rattle.ce_solo.proofs.Renaming.Grants.{few_nodes}
+use Rattle.ce_solo.proofs.Projection.Numbers.{IsPlaced}
+use Rattle.ce_solo.proofs.Projection.Kinds.{entry_of}
+use Rattle.ce_solo.proofs.Projection.Law.{projected}
+use Rattle.ce_lock.specs.declared.who.Who.{Who}
+use Rattle.ce_daemon.specs.declared.grant.Grant.{Grant}
+use Rattle.ce_daemon.specs.Holding.{Holding}
+use Rattle.ce_daemon.specs.Holding as daemon
+use Rattle.ce_daemon.specs.Peeks.{numbered}
+use Rattle.ce_machine.specs.declared.call.Call.{Call}
+use Rattle.ce_machine.specs.declared.call.Reply.{Reply}
+use Rattle.ce_machine.specs.Rooms.{greatest_history, greatest_history_lem}
+use Rattle.ce_machine.specs.Requests.{request_of, FitsBehind}
+use Rattle.ce_machine.specs.Replies.{IsReplyTo, IfHeld}
+use Rattle.ce_machine.specs.Meanings.{MachineFacts, Stands}
+use Rattle.ce_machine.specs.Tables.{HostRecord, blank_host, host_of, desk_at, host_at, holding_of, AreTables, IsSoundMachine}
+use Rattle.ce_machine.specs.Desks.{AreChanged, IsOnDesks}
+use Rattle.ce_machine.proofs.Holdings.{grant_held, held-same, placed-small, placed-wide, placed-node}
+use Rattle.ce_machine.specs.Answering.{HasAnswered}
+use Rattle.ce_machine.proofs.Changes.{next}
+use Rattle.ce_machine.proofs.Effects.{call-count, call-grants, call-other}
+use Rattle.ce_machine.proofs.KeptLaws.{more_is_lawful}
+
+-- ---- reading and writing a table
+
+-- the desk or the host that code has at hand
+pub host-read : (hosts : List HostRecord) (user : ℕ) (host : HostRecord) → user < length hosts → host ≡ get_or hosts user host → host ≡ host_at hosts user
+host-read hosts user host below is = get_or_read hosts user host below is blank_host
+
+pub desk-read : (desks : List NodeRecord) (n : ℕ) (desk : NodeRecord) → n < length desks → desk ≡ get_or desks n desk → desk ≡ desk_at desks n
+desk-read desks n desk below is = get_or_read desks n desk below is blank_record
+
+pub differs : (a b : ℕ) → (a == b) ≡ false → b ≢ a
+differs a b other = λ e. both_ways _ other (eq-eqb a b (sym e))
+
+-- one host's table changes
+pub record IsSet (hosts hosts' : List HostRecord) (user : ℕ) (host : HostRecord) : Type 0 where
+  pub count : length hosts' ≡ length hosts
+  pub own : host_at hosts' user ≡ host
+  pub others : (other : ℕ) → (user == other) ≡ false → host_at hosts' other ≡ host_at hosts other
+
+pub host-set : (hosts : List HostRecord) (user : ℕ) (host host' : HostRecord) → user < length hosts → host ≡ host' → IsSet hosts (set hosts user host) user host'
+host-set hosts user host host' below is = record {
+  count = length-set hosts user host;
+  own = get_or-set_same hosts user host blank_host below ∙ is;
+  others = λ other differ. get_or-set_other hosts user other host blank_host (differs user other differ);
+}
+
+-- none does
+pub host-same : (hosts : List HostRecord) (user : ℕ) → IsSet hosts hosts user (host_at hosts user)
+host-same hosts user = record { count = refl; own = refl; others = λ other differ. refl }
+
+-- ---- a cube that is held
+
+-- the cube that a user holds, of which this holds
+pub record IsIn (h : List Entry) (user : ℕ) (P : HeldCube → Type 0) : Type 0 where
+  pub cube : HeldCube
+  pub holds : held_by (after h) user ≡ Some cube
+  pub is : P cube
+
+is_in_by : (h : List Entry) (user : ℕ) (P : HeldCube → Type 0) (held : Option HeldCube) → held_by (after h) user ≡ held → IsSomeAnd held P → IsIn h user P
+is_in_by h user P None e some = absurd some
+is_in_by h user P (Some cube) e some = record { cube = cube; holds = e; is = some }
+
+pub is-in : (h : List Entry) (user : ℕ) (P : HeldCube → Type 0) → HoldsCube h user P → IsIn h user P
+is-in h user P some = is_in_by h user P (held_by (after h) user) refl some
+
+pub if-held : (state : MachineState) (user : ℕ) (P : HeldCube → Type 0) (cube : HeldCube) → held_by state user ≡ Some cube → P cube → IfHeld state user P
+if-held state user P cube holds is = subst (λ (held : Option HeldCube). IsSomeAnd held P) (sym holds) is
+
+-- ---- a machine
+
+module _ (parts : MachineParts) (h : List Entry) (holding : Holding) (desks : List NodeRecord) (hosts : List HostRecord) (sound : IsSoundMachine parts h holding desks hosts) where
+  pub node-below : (node : ℕ) → node < 2 ^ parts.dim → (node == HOST) ≡ false
+  node-below node below = ne_eqb node HOST (λ e. omega (arith, few_nodes parts.dim sound.machine.dim))
+
+  pub user-below : (user : ℕ) → user < parts.users → user < length hosts
+  user-below user below = omega (arith, sound.tables.host_count)
+
+  -- what is kept for the host of a user that holds this cube
+  pub host-held : (user : ℕ) (cube : HeldCube) → user < parts.users → held_by (after h) user ≡ Some cube → host_at hosts user ≡ host_of (Some cube)
+  host-held user cube below holds = sound.tables.host_is user below ∙ ap host_of holds
+
+  same_count : (state' : MachineState) → state'.grant_count ≡ (after h).grant_count → held_grants state' ≡ held_grants (after h) → holding ≡ holding_of parts state'
+  same_count state' count grants =
+      sound.tables.holding_is ∙ sym (λ i. record { dim = parts.dim; count = count i; held = map numbered (grants i) })
+
+  pub few-desks : length desks ≤ 64
+  few-desks = omega (arith, sound.tables.desk_count, few_nodes parts.dim sound.machine.dim)
+
+  -- a cube that is held is one of the machine's
+  pub placed : (user : ℕ) (cube : HeldCube) → held_by (after h) user ≡ Some cube → IsPlaced parts.dim cube.grant
+  placed user cube holds = ((projected parts h sound.machine sound.lawful).held user cube holds).placed
+
+  -- a node of a cube has a desk
+  pub inside-below : (user : ℕ) (cube : HeldCube) (node : ℕ) → held_by (after h) user ≡ Some cube → is_inside cube.grant.sub node ≡ true → node < 2 ^ parts.dim
+  inside-below user cube node holds inside =
+      let is = (placed user cube holds).sub in
+      omega (arith, node_of-within parts.dim (extract node cube.grant.sub.mask) cube.grant.sub is.base_within is.mask_within is.apart, node_of-extract cube.grant.sub node inside)
+
+  -- who makes a call is a host, or a node that has a desk
+  pub actor-known : (user actor : ℕ) (call : node.Call) (cube : HeldCube) → held_by (after h) user ≡ Some cube → IsCallOf parts h actor call cube
+      → (actor ≡ HOST) ⊎ (actor < length desks)
+  actor-known user actor call cube holds is =
+      elim is.inside [
+        | inl host ↦ inl (eqb-true actor HOST host)
+        | inr inside ↦ inr (omega (arith, sound.tables.desk_count, inside-below user cube actor holds inside))
+      ]
+
+  -- the grant of a cube that a user holds
+  pub grant-known : (user : ℕ) (cube : HeldCube) → held_by (after h) user ≡ Some cube → daemon.held_by holding user ≡ Some (grant_held cube)
+  grant-known user cube holds =
+      ap (λ held. daemon.held_by held user) sound.tables.holding_is ∙ held-same parts.dim (after h) user ∙ ap (option_map grant_held) holds
+
+  pub grant-is : (user : ℕ) (cube : HeldCube) (grant : Grant) → held_by (after h) user ≡ Some cube → daemon.held_by holding user ≡ Some grant → grant ≡ grant_held cube
+  grant-is user cube grant holds found = let same : Some grant ≡ Some (grant_held cube) = sym found ∙ grant-known user cube holds in cc
+
+  pub has-grant : (user : ℕ) (cube : HeldCube) → held_by (after h) user ≡ Some cube → IsSome (daemon.held_by holding user)
+  has-grant user cube holds = subst IsSome (sym (grant-known user cube holds)) refl
+
+  -- its nodes have desks
+  pub on-desks : (user : ℕ) (cube : HeldCube) (grant : Grant) → held_by (after h) user ≡ Some cube → grant ≡ grant_held cube → IsOnDesks (length desks) grant.dim grant.sub
+  on-desks user cube grant holds is =
+      let at = placed user cube holds in
+      subst (λ (g : Grant). IsOnDesks (length desks) g.dim g.sub) (sym is) (record {
+        sub_is = placed-wide parts.dim cube.grant at;
+        small = placed-small parts.dim cube.grant at;
+        within = λ r below. omega (arith, sound.tables.desk_count, placed-node parts.dim cube.grant at r);
+        few = few-desks;
+      })
+
+  -- at the nodes of a cube the desks show the state
+  pub agree-on : {X : Type 0} (f : NodeRecord → X) (grant : CubeGrant) → IsPlaced parts.dim grant → (rs : List ℕ)
+      → AllByRecursion (λ node. f (desk_at desks node) ≡ f ((after h).node_record node)) (map (node_of grant.sub) rs)
+  agree-on f grant at [] = tt
+  agree-on f grant at (r ∷ rs) = (ap f (sound.tables.desk_is (node_of grant.sub r) (placed-node parts.dim grant at r)), agree-on f grant at rs)
+
+  -- the tables once the cube of one user changed
+  pub tables-user : (state' : MachineState) (holding' : Holding) (desks' : List NodeRecord) (hosts' : List HostRecord) (user : ℕ) (host' : HostRecord)
+      → holding' ≡ holding_of parts state' → length desks' ≡ length desks
+      → ((node : ℕ) → node < 2 ^ parts.dim → (node == HOST) ≡ false → desk_at desks' node ≡ state'.node_record node)
+      → IsSet hosts hosts' user host' → host' ≡ host_of (held_by state' user)
+      → ((other : ℕ) → (user == other) ≡ false → held_by state' other ≡ held_by (after h) other) → AreTables parts state' holding' desks' hosts'
+  tables-user state' holding' desks' hosts' user host' holding_now count each is host_is others = record {
+    holding_is = holding_now;
+    desk_count = count ∙ sound.tables.desk_count;
+    desk_is = λ node below. each node below (node-below node below);
+    host_count = is.count ∙ sound.tables.host_count;
+    host_is = λ other below. elim (cases_Bool (user == other)) [
+      | inl same ↦ subst (λ u. host_at hosts' u ≡ host_of (held_by state' u)) (eqb-true user other same) (is.own ∙ host_is)
+      | inr differ ↦ is.others other differ ∙ sound.tables.host_is other below ∙ ap host_of (sym (others other differ))
+    ];
+  }
+
+  -- an entry of a call of a cube
+  pub tables-call : (user actor : ℕ) (what : What) (call : node.Call) → call_of what ≡ Some call → (desks' : List NodeRecord) (hosts' : List HostRecord) (cube' : HeldCube)
+      (host' : HostRecord) → length desks' ≡ length desks
+      → ((node : ℕ) → node < 2 ^ parts.dim → (node == HOST) ≡ false → desk_at desks' node ≡ (next h (entry_of user actor what)).node_record node)
+      → IsSet hosts hosts' user host' → held_by (next h (entry_of user actor what)) user ≡ Some cube' → host' ≡ host_of (Some cube')
+      → AreTables parts (next h (entry_of user actor what)) holding desks' hosts'
+  tables-call user actor what call called desks' hosts' cube' host' count each is held host_is =
+      let entry = entry_of user actor what in
+      tables-user (next h entry) holding desks' hosts' user host' (same_count (next h entry) (call-count h entry call called) (call-grants h entry call called)) count each is
+      (host_is ∙ ap host_of (sym held)) (λ other differ. call-other h entry call called other differ)
+
+  -- the desks that stay show what the entry leaves, where it changes no node
+  pub desks-same : (state' : MachineState) → ((node : ℕ) → (node == HOST) ≡ false → state'.node_record node ≡ (after h).node_record node)
+      → (node : ℕ) → node < 2 ^ parts.dim → (node == HOST) ≡ false → desk_at desks node ≡ state'.node_record node
+  desks-same state' each node below apart = sound.tables.desk_is node below ∙ sym (each node apart)
+
+  -- the desks that changed so show it where it changes each node so
+  pub desks-changed : (state' : MachineState) (desks' : List NodeRecord) (change : ℕ → NodeRecord → NodeRecord) → AreChanged desks desks' change
+      → ((node : ℕ) → (node == HOST) ≡ false → state'.node_record node ≡ change node ((after h).node_record node))
+      → (node : ℕ) → node < 2 ^ parts.dim → (node == HOST) ≡ false → desk_at desks' node ≡ state'.node_record node
+  desks-changed state' desks' change changed each node below apart =
+      changed.each node (omega (arith, sound.tables.desk_count)) ∙ ap (change node) (sound.tables.desk_is node below) ∙ sym (each node apart)
+
+  -- ---- a call is answered
+
+  module _ {N : Type 0} (home : N → ℕ) (clean : N → Type 0) (who : Who) (call : Call N) (fits : FitsBehind home clean parts h who call) (few : length h < greatest_history)
+      (what : What) (answer : answered parts (after h) who.family who.actor (request_of call) ≡ Some what) where
+    abbrev made : Entry
+    made = entry_of who.family who.actor what
+
+    pub more-lawful : IsLawful parts (h ++ entry_of who.family who.actor what ∷ [])
+    more-lawful = more_is_lawful home clean parts h made who call sound.lawful fits answer refl
+
+    module _ (h' : List Entry) (is : h' ≡ h ++ entry_of who.family who.actor what ∷ []) where
+      pub sound-more : (holding' : Holding) (desks' : List NodeRecord) (hosts' : List HostRecord) → AreTables parts (next h (entry_of who.family who.actor what)) holding' desks' hosts'
+          → IsSoundMachine parts h' holding' desks' hosts'
+      sound-more holding' desks' hosts' tables = record {
+        machine = sound.machine;
+        lawful = subst (IsLawful parts) (sym is) more-lawful;
+        tables = subst (λ l. AreTables parts (after l) holding' desks' hosts') (sym is) tables;
+      }
+
+      pub has-answered : (reply : Reply N) → IsReplyTo home clean parts (after h) who.family who.actor what reply
+          → HasAnswered home clean (record { parts = parts; history = h }) (record { parts = parts; history = h' }) who call reply
+      has-answered reply reply_is = record {
+        parts = refl;
+        entry = made;
+        grows = is;
+        stands = record { whose_is = refl; answer = answer; reply_is = reply_is };
+        lawful = subst (IsLawful parts) (sym is) more-lawful;
+        few = omega (arith, few, greatest_history_lem, ap length is, length-append h (made ∷ []));
+      }
+
+-- the machine is sound, and has answered the call
+pub record IsDone {N : Type 0} (home : N → ℕ) (clean : N → Type 0) (parts : MachineParts) (h h' : List Entry) (holding' : Holding) (desks' : List NodeRecord)
+    (hosts' : List HostRecord) (who : Who) (call : Call N) (reply : Reply N) : Type 0 where
+  pub sound : IsSoundMachine parts h' holding' desks' hosts'
+  pub answered : HasAnswered home clean (record { parts = parts; history = h }) (record { parts = parts; history = h' }) who call reply
+
+module _ {N : Type 0} (home : N → ℕ) (clean : N → Type 0) (parts : MachineParts) (h : List Entry) (holding : Holding) (desks : List NodeRecord) (hosts : List HostRecord)
+    (sound : IsSoundMachine parts h holding desks hosts) (few : length h < greatest_history) (who : Who) (h' : List Entry) where
+  pub done-with : (call : Call N) (reply : Reply N) (what : What) → FitsBehind home clean parts h who call → answered parts (after h) who.family who.actor (request_of call) ≡ Some what
+      → IsReplyTo home clean parts (after h) who.family who.actor what reply → h' ≡ h ++ entry_of who.family who.actor what ∷ []
+      → (holding' : Holding) (desks' : List NodeRecord) (hosts' : List HostRecord) → AreTables parts (next h (entry_of who.family who.actor what)) holding' desks' hosts'
+      → IsDone home clean parts h h' holding' desks' hosts' who call reply
+  done-with call reply what fits answer reply_is is holding' desks' hosts' tables = record {
+    sound = sound-more parts h holding desks hosts sound home clean who call fits few what answer h' is holding' desks' hosts' tables;
+    answered = has-answered parts h holding desks hosts sound home clean who call fits few what answer h' is reply reply_is;
+  }
+
+-- ---- what the code has at hand
+
+pub history-is : (h h1 h2 : List Entry) (e e' : Entry) → h2 ≡ h1 ++ e ∷ [] → h1 ≡ h → e ≡ e' → h2 ≡ h ++ e' ∷ []
+history-is h h1 h2 e e' pushed same made = pushed ∙ (λ i. same i ++ made i ∷ [])
+
+-- blocks behind others, of which there were none
+pub blocks-joined : {X : Type 0} (none one two a b : List X) → none ≡ [] → one ≡ none ++ a → two ≡ one ++ b → two ≡ a ++ b
+blocks-joined none one two a b none_is one_is two_is = two_is ∙ ap (λ l. l ++ b) (one_is ∙ ap (λ l. l ++ a) none_is)
+
+pub joined-none : {X : Type 0} (none all a : List X) → none ≡ [] → all ≡ none ++ a → all ≡ a
+joined-none none all a none_is is = is ∙ ap (λ l. l ++ a) none_is
+
+pub few-now : (h h1 : List Entry) → h1 ≡ h → length h1 < greatest_history → length h < greatest_history
+few-now h h1 same few = omega (arith, few, ap length same)
+
+module _ {N : Type 0} (home : N → ℕ) (clean : N → Type 0) (m m' : MachineFacts) (same : m ≡ m') (who : Who) (call : Call N) where
+  pub fits-inside : FitsBehind home clean m'.parts m'.history who call → FitsBehind home clean m.parts m.history who call
+  fits-inside fits = subst (λ (m : MachineFacts). FitsBehind home clean m.parts m.history who call) (sym same) fits
+
+  pub answered-outside : (new : MachineFacts) (reply : Reply N) → HasAnswered home clean m new who call reply → HasAnswered home clean m' new who call reply
+  answered-outside new reply is = subst (λ (m : MachineFacts). HasAnswered home clean m new who call reply) same is

@@ -1,0 +1,49 @@
+use Rattle.std.proofs.Common.{◌≡◌, ℕ, ◌+◌, ◌<◌, ◌^◌, List, [], get_or, length, set, sym, ap, ◌∙◌, subst, arith}
+use Rattle.ce_model.specs.Trace.{NodeRecord, blank_record}
+use Rattle.ce_model.specs.Subcubes.{node_of}
+use Rattle.ce_machine.specs.Tables.{desk_at}
+use Rattle.ce_machine.specs.Desks.{AreChanged}
+use Rattle.ce_machine.proofs.Loops.{at_first, first-none, first-next, first-more, first-all}
+use Rattle.ce_machine.proofs.Steps.{desk-read}
+use Rattle.ce_machine.proofs.desks.clear_nodes.Goals as goal
+
+abbrev clear : NodeRecord → NodeRecord
+clear kept = blank_record
+
+pub loop-r-init : goal.loop-r-init
+loop-r-init c = first-none c.args.grant.now.sub clear c.args.desks.now.items
+
+pub clear-requires : goal.clear-requires
+clear-requires c =
+    let sub = c.args.grant.now.sub in
+    let d = c.args.grant.now.dim in
+    let r = c.loop-r.r in
+    let old = c.args.desks.now.items in
+    let now = c.loop-r.desks.items in
+    let below : r < 2 ^ d = omega (arith, c.loop-r-test.true, c.node_count-r-end.ensures) in
+    let has : node_of sub r < length old = c.requires.sub.within r below in
+    let read : c.index_mut-desk.result.now ≡ get_or now (node_of sub r) c.index_mut-desk.result.now =
+    subst (λ n. c.index_mut-desk.result.now ≡ get_or now n c.index_mut-desk.result.now) c.node_at.ensures c.index_mut-desk.ensures.value in
+    ap (λ (kept : NodeRecord). kept.waiting)
+    (desk-read now (node_of sub r) c.index_mut-desk.result.now (omega (arith, has, c.loop-r.invariant.count)) read ∙ first-next sub d r c.requires.sub.sub_is below clear old now has c.loop-r.invariant)
+    ∙ c.requires.empty r below
+
+pub loop-r-preserved : goal.loop-r-preserved
+loop-r-preserved c =
+    let sub = c.args.grant.now.sub in
+    let d = c.args.grant.now.dim in
+    let r = c.loop-r.r in
+    let old = c.args.desks.now.items in
+    let now = c.loop-r.desks.items in
+    let below : r < 2 ^ d = omega (arith, c.loop-r-test.true, c.node_count-r-end.ensures) in
+    let has : node_of sub r < length old = c.requires.sub.within r below in
+    subst (λ n. AreChanged old (set now n c.clear.new.self) (at_first sub (r + 1) clear)) (sym c.node_at.ensures)
+    (first-more sub d r c.requires.sub.sub_is below clear old now c.clear.new.self has c.loop-r.invariant c.clear.ensures)
+
+pub returns : goal.returns
+returns c =
+    let sub = c.args.grant.now.sub in
+    let d = c.args.grant.now.dim in
+    let end : c.loop-r.r ≡ 2 ^ d = omega (arith, c.loop-r-test.false, c.loop-r.auto.r-end, c.node_count-r-end.ensures) in
+    first-all sub d clear c.args.desks.now.items c.loop-r.desks.items c.requires.sub.sub_is
+    (subst (λ n. AreChanged c.args.desks.now.items c.loop-r.desks.items (at_first sub n clear)) end c.loop-r.invariant)

@@ -1,0 +1,85 @@
+-- What changes on the desks of nodes.
+use Rattle.std.specs.Prelude.{◌≡◌, ◌⊎◌, ℕ, ◌+◌, ◌^◌, ◌<◌, ◌≤◌, ◌==◌, if◌then◌else◌, false, List, [], ◌∷◌, ◌++◌, length}
+use Rattle.std.specs.List.{AllByRecursion}
+use Rattle.ce_model.specs.declared.topology.TheConstants.{HOST}
+use Rattle.ce_model.specs.declared.topology.Place.{Place}
+use Rattle.ce_model.specs.declared.topology.Subcube.{Subcube}
+use Rattle.ce_model.specs.declared.entry.KillFound.{KillFound}
+use Rattle.ce_model.specs.declared.entry.KillFound.TheVariants.{Killed}
+use Rattle.ce_model.specs.Limits.{greatest_dim, process_count}
+use Rattle.ce_model.specs.Blocks.{Block}
+use Rattle.ce_model.specs.Parcels.{Parcel, Item, start, mail, kill}
+use Rattle.ce_model.specs.Trace.{NodeRecord}
+use Rattle.ce_model.specs.Renaming.{number_outward}
+use Rattle.ce_model.specs.Subcubes.{node_of, is_inside, IsSubcube}
+use Rattle.ce_machine.specs.Rooms.{node_room, mail_room}
+use Rattle.ce_machine.specs.Tables.{HostRecord, desk_at}
+
+-- each desk changed so, by its number
+pub record AreChanged (old new : List NodeRecord) (change : ℕ → NodeRecord → NodeRecord) : Type 0 where
+  pub count : length new ≡ length old
+  pub each : (node : ℕ) → node < length old → desk_at new node ≡ change node (desk_at old node)
+
+-- one desk changes
+abbrev pub at_node : ℕ → (NodeRecord → NodeRecord) → ℕ → NodeRecord → NodeRecord
+at_node r change node kept = if r == node then change kept else kept
+
+-- the desks of a subcube change
+abbrev pub at_nodes : Subcube → (NodeRecord → NodeRecord) → ℕ → NodeRecord → NodeRecord
+at_nodes sub change node kept = if is_inside sub node then change kept else kept
+
+-- a node has made an entry that isn't a Take
+abbrev pub busy : NodeRecord → NodeRecord
+busy kept = record kept { mark = record kept.mark { idle = false } }
+
+-- an item waits from now on
+abbrev pub with_items : List Item → NodeRecord → NodeRecord
+with_items items kept = record kept { waiting = kept.waiting ++ items }
+
+-- nothing waits any longer
+abbrev pub without_items : NodeRecord → NodeRecord
+without_items kept = record kept { waiting = [] }
+
+-- the start of a process waits from now on, and its id is used
+abbrev pub started : (pid image : ℕ) → NodeRecord → NodeRecord
+started pid image kept = record kept { waiting = kept.waiting ++ start pid image ∷ []; spawned = kept.spawned ++ pid ∷ [] }
+
+-- so does the end of a process, where a kill found it
+abbrev pub killed_by : KillFound → ℕ → NodeRecord → NodeRecord
+killed_by Killed pid kept = record kept { waiting = kept.waiting ++ kill pid ∷ []; killed = kept.killed ++ pid ∷ [] }
+killed_by other pid kept = kept
+
+-- there is room for the start of a process, and for the end of one
+abbrev pub HasStartRoom : NodeRecord → Type 0
+HasStartRoom kept = (length kept.waiting < node_room) × (length kept.spawned < process_count)
+
+abbrev pub HasKillRoom : NodeRecord → Type 0
+HasKillRoom kept = (length kept.waiting < node_room) × (length kept.killed < process_count)
+
+-- a subcube of a machine with so many nodes
+pub record IsOnDesks (count dim : ℕ) (sub : Subcube) : Type 0 where
+  pub sub_is : IsSubcube greatest_dim dim sub
+  pub small : dim ≤ greatest_dim
+  pub within : (r : ℕ) → r < 2 ^ dim → node_of sub r < count
+  pub few : count ≤ 64
+
+-- ---- messages
+
+-- the message for the first of these places, from this place, with this number
+abbrev pub letter : Place → ℕ → Place × Block → Item
+letter from number target = mail (record { from = from; to = target.0; number = number; block = target.1 })
+
+-- of a message to these places what comes to a node, which the machine knows by this number; or to the host
+abbrev pub letters : Subcube → Place → ℕ → List (Place × Block) → ℕ → List Item
+letters sub from number [] node = []
+letters sub from number (target ∷ targets) node =
+    (if number_outward sub target.0.node == node then letter from number target ∷ [] else []) ++ letters sub from (number + 1) targets node
+
+-- a place of a cube, or its host's, by the cube's numbers
+abbrev pub IsInCube : ℕ → Place → Type 0
+IsInCube dim to = ((to.node < 2 ^ dim) ⊎ (to.node ≡ HOST)) × (to.pid < process_count)
+
+-- there is room at the desks and at the host's for a message to these places
+pub record HaveRoom (sub : Subcube) (from : Place) (number : ℕ) (targets : List (Place × Block)) (desks : List NodeRecord) (host : HostRecord) : Type 0 where
+  pub nodes : (node : ℕ) → node < length desks → length (desk_at desks node).waiting + length (letters sub from number targets node) ≤ node_room
+  pub mail : length host.mail + length (letters sub from number targets HOST) ≤ mail_room

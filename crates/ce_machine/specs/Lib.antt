@@ -1,0 +1,9 @@
+pub mod Requests
+pub mod Replies
+pub mod Meanings
+pub mod Rooms
+pub mod Tables
+pub mod Desks
+pub mod Answering
+pub mod Gives
+pub mod Keeping

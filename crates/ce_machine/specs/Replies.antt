@@ -1,0 +1,73 @@
+-- The reply that a call of the machine gets, in full, by the state before it and by the entry that it makes.
+use Rattle.std.specs.Prelude.{◌≡◌, ℕ, List, map, Option, Some, None, IsSomeAnd}
+use Rattle.ce_model.specs.declared.topology.Subcube.{Subcube}
+use Rattle.ce_model.specs.declared.entry.Entry.{Entry}
+use Rattle.ce_model.specs.declared.entry.What.{What}
+use Rattle.ce_model.specs.declared.entry.What.TheVariants as entry
+use Rattle.ce_model.specs.declared.entry.Found.{Found}
+use Rattle.ce_model.specs.declared.entry.Found.TheVariants as found
+use Rattle.ce_model.specs.Parcels.{Item, Parcel}
+use Rattle.ce_model.specs.Cube.{parcel_numbered}
+use Rattle.ce_model.specs.Machine.{MachineParts, MachineState, HeldCube, held_by, standing_of, all_parcels}
+use Rattle.ce_daemon.specs.declared.grant.Grant.{Grant}
+use Rattle.ce_daemon.specs.Boxes.{AreBoxesOf}
+use Rattle.ce_daemon.specs.Peeks.{peeked}
+use Rattle.rk_mail.specs.Items.{parcel_of}
+use Rattle.rk_mail.specs.Talk.{IsHeardIn}
+use Rattle.ce_machine.specs.declared.call.Reply.{Reply}
+use Rattle.ce_machine.specs.declared.call.Reply.TheVariants.{Granted, NoneFree, Peeked, Drained, Freed, Armed, Quiet, Spent, Busy, Mail, NoMail, Heard}
+
+-- the grant of this subcube that a user gets next
+abbrev pub next_grant : MachineState → (user dim : ℕ) → Subcube → Grant
+next_grant state user dim sub = record { number = state.grant_count; user = user; dim = dim; sub = sub }
+
+-- what a getcube is answered that grants this
+abbrev pub IsGranted : {N : Type 0} → (N → ℕ) → (N → Type 0) → Grant → Reply N → Type 0
+IsGranted home clean grant (Granted given boxes) = (given ≡ grant) × AreBoxesOf home clean grant boxes.items
+IsGranted home clean grant other = ⊥
+
+-- the answer to a getcube by the subcube that its entry grants: the next grant, with its clean boxes, or none
+abbrev pub IsGrantReply : {N : Type 0} → (N → ℕ) → (N → Type 0) → MachineState → (user dim : ℕ) → Option Subcube → Reply N → Type 0
+IsGrantReply home clean state user dim None reply = reply ≡ NoneFree
+IsGrantReply home clean state user dim (Some sub) reply = IsGranted home clean (next_grant state user dim sub) reply
+
+-- the answer to a drain: the blocks of these parcels
+abbrev pub IsDrained : {N : Type 0} → List Parcel → Reply N → Type 0
+IsDrained parcels (Drained blocks) = blocks.items ≡ map (λ parcel. parcel.block) parcels
+IsDrained parcels other = ⊥
+
+-- the answer to a look by what it found
+abbrev pub found_reply : {N : Type 0} → Found → Reply N
+found_reply found.Quiet = Quiet
+found_reply found.Spent = Spent
+found_reply found.Busy = Busy
+
+-- the answer to a host that takes its message of this number, of those that wait
+abbrev pub IsMail : {N : Type 0} → ℕ → List Item → Reply N → Type 0
+IsMail number items (Mail parcel) = parcel_numbered number items ≡ Some (parcel_of parcel)
+IsMail number items other = ⊥
+
+-- the answer to what was said, with these items waiting for who said it
+abbrev pub IsHeard : {N : Type 0} → List Item → What → Reply N → Type 0
+IsHeard items what (Heard heard) = IsHeardIn items what heard
+IsHeard items what other = ⊥
+
+-- what waits for an actor of a cube
+abbrev pub items_for : MachineState → HeldCube → ℕ → List Item
+items_for state cube actor = ((standing_of state cube).node_record actor).waiting
+
+-- the user holds a cube, of which this holds
+abbrev pub IfHeld : MachineState → ℕ → (HeldCube → Type 0) → Type 0
+IfHeld state user P = IsSomeAnd (held_by state user) P
+
+-- the reply that a call gets in this state whose entry, of this user and this actor, is this
+abbrev pub IsReplyTo : {N : Type 0} → (N → ℕ) → (N → Type 0) → MachineParts → MachineState → (user actor : ℕ) → What → Reply N → Type 0
+IsReplyTo home clean parts state user actor (entry.Getcube dim sub) reply = IsGrantReply home clean state user dim sub reply
+IsReplyTo home clean parts state user actor entry.Peek reply = reply ≡ Peeked (peeked parts state)
+IsReplyTo home clean parts state user actor entry.Drain reply = IfHeld state user (λ cube. IsDrained (all_parcels state cube) reply)
+IsReplyTo home clean parts state user actor entry.Freecube reply = reply ≡ Freed
+IsReplyTo home clean parts state user actor (entry.Arm count) reply = reply ≡ Armed
+IsReplyTo home clean parts state user actor (entry.Look found) reply = reply ≡ found_reply found
+IsReplyTo home clean parts state user actor (entry.HostTake None) reply = reply ≡ NoMail
+IsReplyTo home clean parts state user actor (entry.HostTake (Some number)) reply = IfHeld state user (λ cube. IsMail number cube.mail reply)
+IsReplyTo home clean parts state user actor what reply = IfHeld state user (λ cube. IsHeard (items_for state cube actor) what reply)

@@ -1,0 +1,34 @@
+-- What a call of the machine asks for, and when it fits.
+use Rattle.std.specs.Prelude.{ℕ, List}
+use Rattle.ce_model.specs.declared.entry.Entry.{Entry}
+use Rattle.ce_model.specs.Node.{arms, looks, takes_mail}
+use Rattle.ce_model.specs.Machine.{MachineParts, IsMachine, Request, getcube, peek, drain, freecube, in_cube, Fits, HoldsCube}
+use Rattle.ce_daemon.specs.Boxes.{AreBoxesOf}
+use Rattle.ce_daemon.specs.Peeks.{numbered}
+use Rattle.ce_lock.specs.declared.who.Who.{Who}
+use Rattle.rk_mail.specs.Talk.{call_said}
+use Rattle.ce_machine.specs.declared.call.Call.{Call}
+use Rattle.ce_machine.specs.declared.call.Call.TheVariants.{Getcube, Peek, Drain, Freecube, Arm, Look, HostTake, Say}
+
+-- what a call asks for
+abbrev pub request_of : {N : Type 0} → Call N → Request
+request_of (Getcube dim) = getcube dim
+request_of Peek = peek
+request_of Drain = drain
+request_of (Freecube boxes) = freecube
+request_of (Arm count) = in_cube (arms count)
+request_of Look = in_cube looks
+request_of HostTake = in_cube takes_mail
+request_of (Say said) = in_cube (call_said said)
+
+-- who gives a cube back brings the clean boxes of its nodes
+abbrev pub BringsBoxes : {N : Type 0} → (N → ℕ) → (N → Type 0) → List Entry → ℕ → Call N → Type 0
+BringsBoxes home clean history user (Freecube boxes) =
+    HoldsCube history user (λ cube. AreBoxesOf home clean (numbered (cube.number, cube.grant)) boxes.items)
+BringsBoxes home clean history user other = Unit {0}
+
+-- a call of an actor of a family, which is a user of the machine, fits the history before it; the machine is within its limits
+pub record FitsBehind {N : Type 0} (home : N → ℕ) (clean : N → Type 0) (parts : MachineParts) (history : List Entry) (who : Who) (call : Call N) : Type 0 where
+  pub machine : IsMachine parts
+  pub fits : Fits parts history who.family who.actor (request_of call)
+  pub boxes : BringsBoxes home clean history who.family call

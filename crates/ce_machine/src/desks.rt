@@ -1,0 +1,270 @@
+ghost use Rattle.std.specs.Prelude.{◌≡◌, ◌⊎◌, ℕ, ◌+◌, ◌^◌, ◌<◌, ◌≤◌, ◌==◌, if◌then◌else◌, Bool, true, false, not, List, [], ◌∷◌, ◌++◌, length, map, flat_map, vec_capacity, IfOk};
+ghost use Rattle.std.specs.List.{list_all, AllByRecursion, range_with_len};
+ghost use Rattle.ce_model.specs.declared.topology.TheConstants.{HOST};
+ghost use Rattle.ce_model.specs.Limits.{greatest_dim, process_count};
+ghost use Rattle.ce_model.specs.Parcels.{mail, parcels_among};
+ghost use Rattle.ce_model.specs.Trace.{NodeRecord, blank_record};
+ghost use Rattle.ce_model.specs.Answers.{is_quiet_node, is_among, kill_found};
+ghost use Rattle.ce_model.specs.Renaming.{number_outward, place_outward, targets_renamed};
+ghost use Rattle.ce_model.specs.Subcubes.{node_of, relative, IsSubcube};
+ghost use Rattle.rk_mail.specs.Items.{parcel_of};
+ghost use Rattle.rk_mail.specs.Targets.{targets_of};
+ghost use Rattle.ce_machine.specs.Rooms.{node_room, mail_room};
+ghost use Rattle.ce_machine.specs.Tables.{HostRecord, blank_host, desk_at, host_at};
+ghost use Rattle.ce_machine.specs.Desks.{AreChanged, at_node, at_nodes, busy, with_items, without_items, IsOnDesks, letters, IsInCube, HaveRoom, HasStartRoom, HasKillRoom, started, killed_by};
+
+use crate::desk::Desk;
+use crate::host_desk::HostDesk;
+use ce_daemon::Grant;
+use ce_model::{BlockId, HOST, KillFound, NoMemory, Place, Subcube};
+use ce_set::{extract, node_of};
+use rk_mail::{Batch, Parcel};
+use std::alloc::Global;
+use xm_block::Block;
+
+// The desks of so many nodes of which nothing is known.
+pub(crate) fn blank_desks(alloc: Global, count: u32) -> Result<Vec<Desk>, NoMemory>
+    ensures count { IfOk result (λ desks. length desks.items ≡ count) }
+    ensures each { IfOk result (λ desks. (node : ℕ) → desk_at desks.items node ≡ blank_record) }
+{
+    let mut desks = Vec::with_capacity(alloc, count as usize)?;
+    for _ in 0..count {
+        desks.push_reserved(Desk::new(alloc)?);
+    }
+    Ok(desks)
+}
+
+// The desks of the hosts of so many users, none of whom has a cube.
+pub(crate) fn blank_hosts(alloc: Global, count: u32) -> Result<Vec<HostDesk>, NoMemory>
+    ensures count { IfOk result (λ hosts. length hosts.items ≡ count) }
+    ensures each { IfOk result (λ hosts. (user : ℕ) → host_at hosts.items user ≡ blank_host) }
+{
+    let mut hosts = Vec::with_capacity(alloc, count as usize)?;
+    for _ in 0..count {
+        hosts.push_reserved(HostDesk::new(alloc)?);
+    }
+    Ok(hosts)
+}
+
+// A node has made an entry that isn't a Take; a host is no node.
+pub(crate) fn mark_busy(desks: &mut Vec<Desk>, actor: u32)
+    requires actor { (actor ≡ HOST) ⊎ (actor < length desks.old.items) }
+    requires few { length desks.old.items ≤ 64 }
+    ensures { AreChanged desks.old.items desks.new.items (at_node actor busy) }
+{
+    if actor != HOST {
+        let desk = &mut desks[actor as usize];
+        desk.mark_busy();
+    }
+}
+
+// Has a process of a node started, at this place of the machine, unless its id was used before; whether it wasn't.
+pub(crate) fn start(desks: &mut Vec<Desk>, at: Place, image: u32) -> bool
+    requires node { at.node < length desks.old.items }
+    requires process { at.pid < process_count }
+    requires room { not (is_among at.pid (desk_at desks.old.items at.node).spawned) ≡ true
+        → HasStartRoom (desk_at desks.old.items at.node) }
+    ensures fresh { result ≡ not (is_among at.pid (desk_at desks.old.items at.node).spawned) }
+    ensures desks { AreChanged desks.old.items desks.new.items
+        (at_node at.node (λ kept. if result then started at.pid image kept else kept)) }
+{
+    let desk = &mut desks[at.node as usize];
+    let fresh = !desk.was_spawned(at.pid);
+    if fresh {
+        desk.start(at.pid, image);
+    }
+    fresh
+}
+
+// Has a process of a node ended, at this place of the machine, if it was started and its end wasn't asked for before; which it is.
+pub(crate) fn kill(desks: &mut Vec<Desk>, at: Place) -> KillFound
+    requires node { at.node < length desks.old.items }
+    requires process { at.pid < process_count }
+    requires room { kill_found (desk_at desks.old.items at.node) at.pid ≡ KillFound.Killed
+        → HasKillRoom (desk_at desks.old.items at.node) }
+    ensures found { result ≡ kill_found (desk_at desks.old.items at.node) at.pid }
+    ensures desks { AreChanged desks.old.items desks.new.items
+        (at_node at.node (λ kept. killed_by result at.pid kept)) }
+{
+    let desk = &mut desks[at.node as usize];
+    let found = desk.kill_found(at.pid);
+    match found {
+        KillFound::Killed => desk.kill(at.pid),
+        KillFound::Unused | KillFound::Already => {}
+    }
+    found
+}
+
+// Whether all nodes of a cube are quiet.
+pub(crate) fn is_quiet(desks: &Vec<Desk>, grant: &Grant) -> bool
+    requires { IsOnDesks (length desks.now.items) grant.now.dim grant.now.sub }
+    ensures { result ≡ list_all (λ node. is_quiet_node (desk_at desks.now.items node))
+        (map (node_of grant.now.sub) (range_with_len 0 (2 ^ grant.now.dim))) }
+{
+    for r in 0..node_count(grant) {
+        let desk = &desks[node_at(grant, r)];
+        if !desk.is_quiet() {
+            return false;
+        }
+    }
+    true
+}
+
+// How many items wait at the nodes of a cube.
+pub(crate) fn waiting_count(desks: &Vec<Desk>, grant: &Grant) -> usize
+    requires { IsOnDesks (length desks.now.items) grant.now.dim grant.now.sub }
+    ensures count { result ≡ length (flat_map (λ node. (desk_at desks.now.items node).waiting)
+        (map (node_of grant.now.sub) (range_with_len 0 (2 ^ grant.now.dim)))) }
+    ensures within { result < 2 ^ 32 }
+{
+    let mut count = 0;
+    for r in 0..node_count(grant) {
+        let desk = &desks[node_at(grant, r)];
+        count += desk.count() as usize;
+    }
+    count
+}
+
+// Takes all that waits at the nodes of a cube out, in relative order, and puts the blocks of the messages behind one another.
+pub(crate) fn drain_nodes(desks: &mut Vec<Desk>, grant: &Grant, blocks: &mut Vec<Block>)
+    requires sub { IsOnDesks (length desks.old.items) grant.now.dim grant.now.sub }
+    requires room { length blocks.old.items
+        + length (flat_map (λ node. (desk_at desks.old.items node).waiting)
+        (map (node_of grant.now.sub) (range_with_len 0 (2 ^ grant.now.dim))))
+        ≤ vec_capacity blocks.old }
+    ensures desks { AreChanged desks.old.items desks.new.items
+        (at_nodes grant.now.sub without_items) }
+    ensures blocks { blocks.new.items ≡ blocks.old.items ++ map (λ parcel. parcel.block)
+        (parcels_among (flat_map (λ node. (desk_at desks.old.items node).waiting)
+        (map (node_of grant.now.sub) (range_with_len 0 (2 ^ grant.now.dim))))) }
+    ensures capacity { vec_capacity blocks.new ≡ vec_capacity blocks.old }
+{
+    for r in 0..node_count(grant) {
+        let desk = &mut desks[node_at(grant, r)];
+        desk.drain(blocks);
+    }
+}
+
+// Nothing is known any longer of the nodes of a cube. Nothing waits there.
+pub(crate) fn clear_nodes(desks: &mut Vec<Desk>, grant: &Grant)
+    requires sub { IsOnDesks (length desks.old.items) grant.now.dim grant.now.sub }
+    requires empty { (r : ℕ) → r < 2 ^ grant.now.dim
+        → (desk_at desks.old.items (node_of grant.now.sub r)).waiting ≡ [] }
+    ensures { AreChanged desks.old.items desks.new.items
+        (at_nodes grant.now.sub (λ kept. blank_record)) }
+{
+    for r in 0..node_count(grant) {
+        let desk = &mut desks[node_at(grant, r)];
+        desk.clear();
+    }
+}
+
+// Posts a message to its place of the cube.
+fn post(desks: &mut Vec<Desk>, host: &mut HostDesk, grant: &Grant, parcel: Parcel)
+    requires sub { IsOnDesks (length desks.old.items) grant.now.dim grant.now.sub }
+    requires place { IsInCube grant.now.dim parcel.to }
+    requires at_node { parcel.to.node < 2 ^ grant.now.dim
+        → length (desk_at desks.old.items (node_of grant.now.sub parcel.to.node)).waiting
+        < node_room }
+    requires at_host { parcel.to.node ≡ HOST → length host.old.mail < mail_room }
+    ensures desks { AreChanged desks.old.items desks.new.items
+        (at_node (number_outward grant.now.sub parcel.to.node)
+        (with_items (mail (parcel_of parcel) ∷ []))) }
+    ensures host { host.new ≡ record host.old {
+      mail = host.old.mail
+          ++ (if parcel.to.node == HOST then mail (parcel_of parcel) ∷ [] else []);
+    } }
+{
+    if parcel.to.node == HOST {
+        host.post(parcel);
+    } else {
+        let desk = &mut desks[node_at(grant, parcel.to.node)];
+        desk.post(parcel);
+    }
+}
+
+// Posts a message to each of its places, in order, with numbers from `first` on; the emptied batch. The places and the names of the
+// blocks go behind `targets`, by the machine's numbers.
+pub(crate) fn post_all(
+    desks: &mut Vec<Desk>,
+    host: &mut HostDesk,
+    grant: &Grant,
+    from: Place,
+    first: u64,
+    mut batch: Batch,
+    targets: &mut Vec<(Place, BlockId)>,
+) -> Batch
+    requires sub { IsOnDesks (length desks.old.items) grant.now.dim grant.now.sub }
+    requires places { AllByRecursion (λ target. IsInCube grant.now.dim target.0) batch }
+    requires room { HaveRoom grant.now.sub from first batch desks.old.items host.old }
+    requires numbers { first + length batch < 2 ^ 64 }
+    requires targets { length targets.old.items + length batch ≤ vec_capacity targets.old }
+    ensures desks { AreChanged desks.old.items desks.new.items
+        (λ node. with_items (letters grant.now.sub from first batch node)) }
+    ensures host { host.new
+        ≡ record host.old { mail = host.old.mail ++ letters grant.now.sub from first batch HOST } }
+    ensures targets { targets.new.items
+        ≡ targets.old.items
+        ++ targets_renamed (place_outward grant.now.sub) (λ id. id) (targets_of batch) }
+    ensures empty { result ≡ [] }
+{
+    let mut number = first;
+    while let Some((to, block)) = batch.take_first() {
+        targets.push_reserved((outward(grant, to), block.id()));
+        let parcel = Parcel {
+            from,
+            to,
+            number,
+            block,
+        };
+        post(desks, host, grant, parcel);
+        number += 1;
+    }
+    batch
+}
+
+// A place of the cube, by the machine's number for its node.
+pub(crate) fn outward(grant: &Grant, to: Place) -> Place
+    requires sub { IsSubcube greatest_dim grant.now.dim grant.now.sub }
+    requires place { (to.node < 2 ^ grant.now.dim) ⊎ (to.node ≡ HOST) }
+    ensures { result ≡ place_outward grant.now.sub to }
+{
+    if to.node == HOST {
+        return to;
+    }
+    Place {
+        node: node_of(&grant.sub, to.node),
+        pid: to.pid,
+    }
+}
+
+// The number by which a cube knows an actor.
+#[tactic(auto, unfolding(ce_model::specs::Subcubes::relative))]
+pub(crate) fn relative(sub: &Subcube, actor: u32) -> u32
+    requires { sub.now.mask < 2 ^ greatest_dim }
+    ensures { result ≡ relative sub.now actor }
+{
+    if actor == HOST {
+        HOST
+    } else {
+        extract(actor, sub.mask)
+    }
+}
+
+// How many nodes a cube has.
+#[tactic(auto, using(ce_model::specs::Limits::greatest_dim_lem))]
+fn node_count(grant: &Grant) -> u32
+    requires { grant.now.dim ≤ greatest_dim }
+    ensures { result ≡ 2 ^ grant.now.dim }
+{
+    1 << grant.dim
+}
+
+// The place of the desk of a cube's node.
+fn node_at(grant: &Grant, r: u32) -> usize
+    requires sub { IsSubcube greatest_dim grant.now.dim grant.now.sub }
+    requires node { r < 2 ^ grant.now.dim }
+    ensures { result ≡ node_of grant.now.sub r }
+{
+    node_of(&grant.sub, r) as usize
+}

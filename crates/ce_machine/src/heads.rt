@@ -1,0 +1,182 @@
+//! What hosts ask of the machine.
+ghost use Rattle.std.specs.Prelude.{◌≡◌, IfOk, IfErr, OnErr};
+ghost use Rattle.ce_model.specs.Answers.{found_where};
+ghost use Rattle.ce_machine.specs.Replies.{found_reply};
+ghost use Rattle.ce_machine.specs.Requests.{FitsBehind};
+ghost use Rattle.ce_machine.specs.Answering.{HasAnswered};
+
+use crate::desks::{clear_nodes, drain_nodes, is_quiet, waiting_count};
+use crate::machine::{entry, grant_of, make_room};
+use crate::{Call, Machine, Reply};
+use ce_daemon::Homed;
+use ce_lock::Who;
+use ce_model::{Found, NoMemory, What};
+use rk_mail::Item;
+use std::alloc::Global;
+
+impl<N: Homed> Machine<N> {
+    // The host asks for a cube.
+    pub(crate) fn getcube(
+        &mut self,
+        alloc: Global,
+        who: Who,
+        dim: u32,
+    ) -> Result<Reply<N>, NoMemory>
+        requires { FitsBehind N.home N.clean self.old.parts self.old.history who
+            (Call.Getcube dim) }
+        ensures answered { IfOk result (λ reply.
+            HasAnswered N.home N.clean self.old self.new who (Call.Getcube dim) reply) }
+        ensures refused { OnErr result (self.new ≡ self.old) }
+    {
+        make_room(&mut self.history)?;
+        match self.daemon.getcube(alloc, who.family, dim)? {
+            Some((grant, boxes)) => {
+                let sub = Some(grant.sub);
+                self.history
+                    .push_reserved(entry(who, What::Getcube { dim, sub }));
+                Ok(Reply::Granted { grant, boxes })
+            }
+            None => {
+                let sub = None;
+                self.history
+                    .push_reserved(entry(who, What::Getcube { dim, sub }));
+                Ok(Reply::NoneFree)
+            }
+        }
+    }
+
+    // The host asks which cubes are held.
+    pub(crate) fn peek(&mut self, alloc: Global, who: Who) -> Result<Reply<N>, NoMemory>
+        requires { FitsBehind N.home N.clean self.old.parts self.old.history who Call.Peek }
+        ensures answered { IfOk result (λ reply.
+            HasAnswered N.home N.clean self.old self.new who Call.Peek reply) }
+        ensures refused { OnErr result (self.new ≡ self.old) }
+    {
+        make_room(&mut self.history)?;
+        let peeked = self.daemon.peek(alloc)?;
+        self.history.push_reserved(entry(who, What::Peek));
+        Ok(Reply::Peeked(peeked))
+    }
+
+    // The host takes all messages that wait in its cube.
+    pub(crate) fn drain(&mut self, alloc: Global, who: Who) -> Result<Reply<N>, NoMemory>
+        requires { FitsBehind N.home N.clean self.old.parts self.old.history who Call.Drain }
+        ensures answered { IfOk result (λ reply.
+            HasAnswered N.home N.clean self.old self.new who Call.Drain reply) }
+        ensures refused { OnErr result (self.new ≡ self.old) }
+    {
+        make_room(&mut self.history)?;
+        let grant = grant_of(&self.daemon, who.family);
+        let host = &mut self.hosts[who.family as usize];
+        let count = waiting_count(&self.desks, &grant) + host.count() as usize;
+        let mut blocks = Vec::with_capacity(alloc, count)?;
+        drain_nodes(&mut self.desks, &grant, &mut blocks);
+        host.drain(&mut blocks);
+        self.history.push_reserved(entry(who, What::Drain));
+        Ok(Reply::Drained(blocks))
+    }
+
+    // The host gives its drained cube back, with the clean boxes of its nodes.
+    pub(crate) fn freecube(
+        &mut self,
+        who: Who,
+        boxes: Vec<N>,
+    ) -> Result<Reply<N>, (Vec<N>, NoMemory)>
+        requires { FitsBehind N.home N.clean self.old.parts self.old.history who
+            (Call.Freecube boxes) }
+        ensures answered { IfOk result (λ reply.
+            HasAnswered N.home N.clean self.old self.new who (Call.Freecube boxes) reply) }
+        ensures refused { IfErr result (λ back. (self.new ≡ self.old) × (back.0 ≡ boxes)) }
+    {
+        let Ok(()) = make_room(&mut self.history) else {
+            return Err((boxes, NoMemory));
+        };
+        let grant = grant_of(&self.daemon, who.family);
+        self.daemon.freecube(who.family, boxes);
+        clear_nodes(&mut self.desks, &grant);
+        let host = &mut self.hosts[who.family as usize];
+        host.clear();
+        self.history.push_reserved(entry(who, What::Freecube));
+        Ok(Reply::Freed)
+    }
+
+    // The host allows so many dispatches.
+    pub(crate) fn arm(&mut self, who: Who, count: u32) -> Result<Reply<N>, NoMemory>
+        requires { FitsBehind N.home N.clean self.old.parts self.old.history who (Call.Arm count) }
+        ensures answered { IfOk result (λ reply.
+            HasAnswered N.home N.clean self.old self.new who (Call.Arm count) reply) }
+        ensures refused { OnErr result (self.new ≡ self.old) }
+    {
+        make_room(&mut self.history)?;
+        let host = &mut self.hosts[who.family as usize];
+        host.arm(count);
+        self.history.push_reserved(entry(who, What::Arm { count }));
+        Ok(Reply::Armed)
+    }
+
+    // The host looks whether its cube is quiet.
+    pub(crate) fn look(&mut self, who: Who) -> Result<Reply<N>, NoMemory>
+        requires { FitsBehind N.home N.clean self.old.parts self.old.history who Call.Look }
+        ensures answered { IfOk result (λ reply.
+            HasAnswered N.home N.clean self.old self.new who Call.Look reply) }
+        ensures refused { OnErr result (self.new ≡ self.old) }
+    {
+        make_room(&mut self.history)?;
+        let grant = grant_of(&self.daemon, who.family);
+        let host = &self.hosts[who.family as usize];
+        let found = found_where(is_quiet(&self.desks, &grant), host.is_used_up());
+        self.history.push_reserved(entry(who, What::Look { found }));
+        Ok(found_reply(found))
+    }
+
+    // The host takes its next message.
+    pub(crate) fn host_take(&mut self, who: Who) -> Result<Reply<N>, NoMemory>
+        requires { FitsBehind N.home N.clean self.old.parts self.old.history who Call.HostTake }
+        ensures answered { IfOk result (λ reply.
+            HasAnswered N.home N.clean self.old self.new who Call.HostTake reply) }
+        ensures refused { OnErr result (self.new ≡ self.old) }
+    {
+        make_room(&mut self.history)?;
+        let host = &mut self.hosts[who.family as usize];
+        match host.take_first() {
+            Some(Item::Mail(parcel)) => {
+                let number = Some(parcel.number);
+                self.history
+                    .push_reserved(entry(who, What::HostTake { number }));
+                Ok(Reply::Mail(parcel))
+            }
+            Some(Item::Start { .. }) => unreachable!(),
+            Some(Item::Kill { .. }) => unreachable!(),
+            None => {
+                let number = None;
+                self.history
+                    .push_reserved(entry(who, What::HostTake { number }));
+                Ok(Reply::NoMail)
+            }
+        }
+    }
+}
+
+// What a look finds.
+fn found_where(is_quiet: bool, is_used_up: bool) -> Found
+    ensures { result ≡ found_where is_quiet is_used_up }
+{
+    if is_quiet {
+        Found::Quiet
+    } else if is_used_up {
+        Found::Spent
+    } else {
+        Found::Busy
+    }
+}
+
+// What a look is answered.
+fn found_reply<N: Homed>(found: Found) -> Reply<N>
+    ensures { result ≡ found_reply found }
+{
+    match found {
+        Found::Quiet => Reply::Quiet,
+        Found::Spent => Reply::Spent,
+        Found::Busy => Reply::Busy,
+    }
+}

@@ -1,0 +1,148 @@
+ghost use Rattle.std.specs.Prelude.{◌≡◌, ℕ, ◌+◌, ◌<◌, ◌≤◌, ◌^◌, ◌==◌, if◌then◌else◌, false, true, List, [], ◌∷◌, ◌++◌, length, map, IfOk, IfSome, IfNone, option_to_list, vec_capacity};
+ghost use Rattle.ce_model.specs.Limits.{process_count};
+ghost use Rattle.ce_model.specs.Parcels.{mail, parcels_among};
+ghost use Rattle.rk_mail.specs.Items.{item_of, parcel_of};
+ghost use Rattle.ce_machine.specs.Rooms.{mail_room};
+ghost use Rattle.ce_machine.specs.Tables.{blank_host};
+
+use crate::mail::take_blocks;
+use crate::room::MAIL_ROOM;
+use ce_model::NoMemory;
+use rk_mail::{Item, Mailbox, Parcel};
+use std::alloc::Global;
+use std::marker::Model;
+use xm_block::Block;
+
+/// What the machine keeps for a user's host: whether the user's cube is drained, how many dispatches are allowed and how
+/// many of them were made, how many parcels were sent in the cube, and what waits for the host, with room for all that can.
+#[derive(Drop)]
+pub(crate) struct HostDesk {
+    drained: bool,
+    armed: u32,
+    dispatched: u32,
+    parcel_count: u64,
+    mailbox: Mailbox,
+}
+
+impl Model for HostDesk {
+    ghost use Rattle.std.specs.Prelude.{◌≡◌, ◌+◌, ◌≤◌, length};
+    ghost use Rattle.ce_machine.specs.Rooms.{mail_room};
+    ghost use Rattle.ce_machine.specs.Tables.{HostRecord};
+
+    ghost Value = { HostRecord };
+
+    ghost view = { λ host. record {
+      drained = host.drained;
+      armed = host.armed;
+      dispatched = host.dispatched;
+      parcel_count = host.parcel_count;
+      mail = host.mailbox.items;
+    } };
+
+    ghost invariant = { λ host. (length host.mailbox.items + host.mailbox.spare ≡ mail_room)
+        × (host.dispatched ≤ host.armed) };
+}
+
+impl HostDesk {
+    /// The desk of the host of a user without a cube.
+    #[tactic(auto, using(crate::specs::Rooms::mail_room_lem))]
+    pub(crate) fn new(alloc: Global) -> Result<HostDesk, NoMemory>
+        ensures { IfOk result (λ host. host ≡ blank_host) }
+    {
+        let mailbox = Mailbox::new(alloc, MAIL_ROOM)?;
+        Ok(HostDesk {
+            drained: false,
+            armed: 0,
+            dispatched: 0,
+            parcel_count: 0,
+            mailbox,
+        })
+    }
+
+    /// How many messages wait.
+    pub(crate) fn count(&self) -> u32
+        ensures value { result ≡ length self.now.mail }
+        ensures within { result ≤ mail_room }
+    {
+        self.mailbox.count()
+    }
+
+    /// So many dispatches are allowed; none of them was made yet.
+    pub(crate) fn arm(&mut self, count: u32)
+        ensures { self.new ≡ record self.old { armed = count; dispatched = 0 } }
+    {
+        self.armed = count;
+        self.dispatched = 0;
+    }
+
+    /// Whether the dispatches that are allowed are used up.
+    pub(crate) fn is_used_up(&self) -> bool
+        ensures value { result ≡ (self.now.dispatched == self.now.armed) }
+    {
+        self.dispatched == self.armed
+    }
+
+    /// A node was answered, with work or not; an answer with work is a dispatch.
+    pub(crate) fn dispatch(&mut self, is_work: bool)
+        requires { is_work ≡ true → (self.old.dispatched == self.old.armed) ≡ false }
+        ensures { self.new ≡ record self.old {
+          dispatched = if is_work then self.old.dispatched + 1 else self.old.dispatched;
+        } }
+    {
+        if is_work {
+            self.dispatched += 1;
+        }
+    }
+
+    /// So many parcels more are sent: the number of the first.
+    pub(crate) fn add_parcels(&mut self, count: u32) -> u64
+        requires { self.old.parcel_count + count < 2 ^ 64 }
+        ensures first { result ≡ self.old.parcel_count }
+        ensures host { self.new ≡ record self.old { parcel_count = self.old.parcel_count + count } }
+    {
+        let first = self.parcel_count;
+        self.parcel_count += count as u64;
+        first
+    }
+
+    /// A message waits from now on.
+    pub(crate) fn post(&mut self, parcel: Parcel)
+        requires room { length self.old.mail < mail_room }
+        requires process { parcel.to.pid < process_count }
+        ensures { self.new
+            ≡ record self.old { mail = self.old.mail ++ mail (parcel_of parcel) ∷ [] } }
+    {
+        self.mailbox.post(Item::Mail(parcel));
+    }
+
+    /// Takes out the first item that waits.
+    pub(crate) fn take_first(&mut self) -> Option<Item>
+        ensures first { self.old.mail ≡ map item_of (option_to_list result) ++ self.new.mail }
+        ensures host { self.new ≡ record self.old { mail = self.new.mail } }
+        ensures none { IfNone result (self.old.mail ≡ []) }
+    {
+        self.mailbox.take_first()
+    }
+
+    /// Takes all that waits out, and puts the blocks of the messages behind those that were taken before. The cube is drained.
+    pub(crate) fn drain(&mut self, blocks: &mut Vec<Block>)
+        requires { length blocks.old.items + length self.old.mail ≤ vec_capacity blocks.old }
+        ensures host { self.new ≡ record self.old { drained = true; mail = [] } }
+        ensures blocks { blocks.new.items ≡ blocks.old.items
+            ++ map (λ parcel. parcel.block) (parcels_among self.old.mail) }
+    {
+        take_blocks(&mut self.mailbox, blocks);
+        self.drained = true;
+    }
+
+    /// Makes it the desk of the host of a user without a cube. Nothing waits.
+    pub(crate) fn clear(&mut self)
+        requires { self.old.mail ≡ [] }
+        ensures { self.new ≡ blank_host }
+    {
+        self.drained = false;
+        self.armed = 0;
+        self.dispatched = 0;
+        self.parcel_count = 0;
+    }
+}

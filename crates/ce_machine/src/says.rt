@@ -1,0 +1,243 @@
+//! What nodes say to the machine, and hosts that send, spawn or kill.
+ghost use Rattle.std.specs.Prelude.{◌≡◌, ◌≤◌, [], if◌then◌else◌, length, vec_capacity, IfOk, IfErr, OnErr};
+ghost use Rattle.rk_mail.specs.Targets.{bytes_of, HaveEqualBytes};
+ghost use Rattle.ce_model.specs.Limits.{greatest_targets};
+ghost use Rattle.rk_mail.specs.Talk.{heard_of_kill};
+ghost use Rattle.ce_machine.specs.Requests.{FitsBehind};
+ghost use Rattle.ce_machine.specs.Answering.{HasAnswered};
+
+use crate::desks::{kill, mark_busy, outward, post_all, relative, start};
+use crate::give::{given_of, is_idle, is_work, offer};
+use crate::machine::{entry, grant_of, make_room};
+use crate::{Call, Machine, Reply};
+use ce_daemon::Homed;
+use ce_lock::Who;
+use ce_model::{BlockId, Bytes, KillFound, NoMemory, Place, Targets, What};
+use rk_mail::{Batch, Heard, Say};
+use std::alloc::Global;
+
+impl<N: Homed> Machine<N> {
+    // An actor says something.
+    pub(crate) fn say(
+        &mut self,
+        alloc: Global,
+        who: Who,
+        said: Say,
+    ) -> Result<Reply<N>, (Say, NoMemory)>
+        requires { FitsBehind N.home N.clean self.old.parts self.old.history who (Call.Say said) }
+        ensures answered { IfOk result (λ reply.
+            HasAnswered N.home N.clean self.old self.new who (Call.Say said) reply) }
+        ensures refused { IfErr result (λ back. (self.new ≡ self.old) × (back.0 ≡ said)) }
+    {
+        let heard = match said {
+            Say::Take {
+                asking,
+                dead,
+                poller,
+            } => match self.take(who, asking, dead, poller) {
+                Ok(heard) => heard,
+                Err(e) => return Err((
+                    Say::Take {
+                        asking,
+                        dead,
+                        poller,
+                    },
+                    e,
+                )),
+            },
+            Say::Send { pid, batch } => match self.send(alloc, who, pid, batch) {
+                Ok(heard) => heard,
+                Err((batch, e)) => return Err((Say::Send { pid, batch }, e)),
+            },
+            Say::Spawn { pid, image, to } => match self.spawn(who, pid, image, to) {
+                Ok(heard) => heard,
+                Err(e) => return Err((Say::Spawn { pid, image, to }, e)),
+            },
+            Say::Kill { pid, to } => match self.kill(who, pid, to) {
+                Ok(heard) => heard,
+                Err(e) => return Err((Say::Kill { pid, to }, e)),
+            },
+            Say::Note { pid, word } => match self.note(who, pid, word) {
+                Ok(heard) => heard,
+                Err(e) => return Err((Say::Note { pid, word }, e)),
+            },
+        };
+        Ok(Reply::Heard(heard))
+    }
+
+    // A node asks for work.
+    fn take(
+        &mut self,
+        who: Who,
+        asking: u32,
+        dead: u32,
+        poller: Option<u32>,
+    ) -> Result<Heard, NoMemory>
+        requires { FitsBehind N.home N.clean self.old.parts self.old.history who
+            (Call.Say (Say.Take asking dead poller)) }
+        ensures answered { IfOk result (λ heard. HasAnswered N.home N.clean self.old self.new who
+            (Call.Say (Say.Take asking dead poller)) (Reply.Heard heard)) }
+        ensures refused { OnErr result (self.new ≡ self.old) }
+    {
+        make_room(&mut self.history)?;
+        let desk = &mut self.desks[who.actor as usize];
+        let host = &mut self.hosts[who.family as usize];
+        let heard = offer(desk, asking, dead, poller, host.is_used_up());
+        let given = given_of(&heard);
+        host.dispatch(is_work(given));
+        desk.mark_take(asking, dead, is_idle(given));
+        self.history.push_reserved(entry(
+            who,
+            What::Take {
+                asking,
+                dead,
+                poller,
+                given,
+            },
+        ));
+        Ok(heard)
+    }
+
+    // A message is sent.
+    fn send(
+        &mut self,
+        alloc: Global,
+        who: Who,
+        pid: u32,
+        batch: Batch,
+    ) -> Result<Heard, (Batch, NoMemory)>
+        requires { FitsBehind N.home N.clean self.old.parts self.old.history who
+            (Call.Say (Say.Send pid batch)) }
+        ensures answered { IfOk result (λ heard. HasAnswered N.home N.clean self.old self.new who
+            (Call.Say (Say.Send pid batch)) (Reply.Heard heard)) }
+        ensures refused { IfErr result (λ back. (self.new ≡ self.old) × (back.0 ≡ batch)) }
+    {
+        let Ok(()) = make_room(&mut self.history) else {
+            return Err((batch, NoMemory));
+        };
+        let Ok((mut to, bytes)) = room_for(alloc, &batch) else {
+            return Err((batch, NoMemory));
+        };
+        let grant = grant_of(&self.daemon, who.family);
+        let from = Place {
+            node: relative(&grant.sub, who.actor),
+            pid,
+        };
+        let host = &mut self.hosts[who.family as usize];
+        let first = host.add_parcels(batch.count());
+        let batch = post_all(&mut self.desks, host, &grant, from, first, batch, &mut to);
+        mark_busy(&mut self.desks, who.actor);
+        let to = Targets::from_vec(to);
+        self.history.push_reserved(entry(
+            who,
+            What::Send {
+                pid,
+                first,
+                to,
+                bytes,
+            },
+        ));
+        Ok(Heard::Posted(batch))
+    }
+
+    // A process is to be started.
+    fn spawn(&mut self, who: Who, pid: u32, image: u32, to: Place) -> Result<Heard, NoMemory>
+        requires { FitsBehind N.home N.clean self.old.parts self.old.history who
+            (Call.Say (Say.Spawn pid image to)) }
+        ensures answered { IfOk result (λ heard. HasAnswered N.home N.clean self.old self.new who
+            (Call.Say (Say.Spawn pid image to)) (Reply.Heard heard)) }
+        ensures refused { OnErr result (self.new ≡ self.old) }
+    {
+        make_room(&mut self.history)?;
+        let grant = grant_of(&self.daemon, who.family);
+        let place = outward(&grant, to);
+        let fresh = start(&mut self.desks, place, image);
+        mark_busy(&mut self.desks, who.actor);
+        self.history.push_reserved(entry(
+            who,
+            What::Spawn {
+                pid,
+                image,
+                to: place,
+                fresh,
+            },
+        ));
+        Ok(heard_of_spawn(fresh))
+    }
+
+    // A process is to be stopped.
+    fn kill(&mut self, who: Who, pid: u32, to: Place) -> Result<Heard, NoMemory>
+        requires { FitsBehind N.home N.clean self.old.parts self.old.history who
+            (Call.Say (Say.Kill pid to)) }
+        ensures answered { IfOk result (λ heard. HasAnswered N.home N.clean self.old self.new who
+            (Call.Say (Say.Kill pid to)) (Reply.Heard heard)) }
+        ensures refused { OnErr result (self.new ≡ self.old) }
+    {
+        make_room(&mut self.history)?;
+        let grant = grant_of(&self.daemon, who.family);
+        let place = outward(&grant, to);
+        let found = kill(&mut self.desks, place);
+        mark_busy(&mut self.desks, who.actor);
+        self.history.push_reserved(entry(
+            who,
+            What::Kill {
+                pid,
+                to: place,
+                found,
+            },
+        ));
+        Ok(heard_of_kill(found))
+    }
+
+    // A word goes into the trace.
+    fn note(&mut self, who: Who, pid: u32, word: u32) -> Result<Heard, NoMemory>
+        requires { FitsBehind N.home N.clean self.old.parts self.old.history who
+            (Call.Say (Say.Note pid word)) }
+        ensures answered { IfOk result (λ heard. HasAnswered N.home N.clean self.old self.new who
+            (Call.Say (Say.Note pid word)) (Reply.Heard heard)) }
+        ensures refused { OnErr result (self.new ≡ self.old) }
+    {
+        make_room(&mut self.history)?;
+        mark_busy(&mut self.desks, who.actor);
+        self.history
+            .push_reserved(entry(who, What::Note { pid, word }));
+        Ok(Heard::Noted)
+    }
+}
+
+// The memory for a message's entry: room for its targets, and its bytes.
+#[tactic(auto, using(ce_model::specs::Limits::block_room_lem))]
+fn room_for(alloc: Global, batch: &Batch) -> Result<(Vec<(Place, BlockId)>, Bytes), NoMemory>
+    ensures none { IfOk result (λ taken. taken.0.items ≡ []) }
+    ensures room { IfOk result (λ taken. length batch.now ≤ vec_capacity taken.0) }
+    ensures bytes { IfOk result (λ taken. taken.1 ≡ bytes_of batch.now) }
+    ensures equal { IfOk result (λ _. HaveEqualBytes batch.now) }
+    ensures few { length batch.now ≤ greatest_targets }
+{
+    let count = batch.count();
+    let to = Vec::with_capacity(alloc, count as usize)?;
+    let bytes = if count == 0 {
+        Vec::new(alloc)
+    } else {
+        batch.bytes().to_vec(alloc)?
+    };
+    Ok((to, Bytes::from_vec(bytes)))
+}
+
+// What a process hears of its spawn.
+fn heard_of_spawn(fresh: bool) -> Heard
+    ensures { result ≡ (if fresh then Heard.Spawned else Heard.Used) }
+{
+    if fresh { Heard::Spawned } else { Heard::Used }
+}
+
+// What a process hears of its kill.
+fn heard_of_kill(found: KillFound) -> Heard
+    ensures { result ≡ heard_of_kill found }
+{
+    match found {
+        KillFound::Killed => Heard::Killed,
+        KillFound::Unused => Heard::Unused,
+        KillFound::Already => Heard::Already,
+    }
+}

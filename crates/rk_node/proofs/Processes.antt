@@ -1,0 +1,190 @@
+-- The processes of a node, and what changes of one of them make of the node.
+use Rattle.std.proofs.Common.{◌≡◌, ℕ, zero, suc, ◌+◌, ◌<◌, ◌≤◌, List, [], ◌∷◌, length, slice_set, slice_index_or, Option, Some, true, IsTrue, length-set, refl, ap, sym, ◌∙◌, subst, arith, add-zero, inl, inr}
+use Rattle.std.proofs.lemmas.Bool.{cases_eq, ltb-true, eq-eqb}
+use Rattle.std.proofs.lemmas.List.{get_or_read, get_or-set_same, get_or-set_other}
+use Rattle.ce_model.specs.Limits.{window_count, process_count}
+use Rattle.ce_model.specs.Space.{has_unused_window}
+use Rattle.ce_model.specs.Process.{Process, unborn}
+use Rattle.ce_model.specs.Node as model
+use Rattle.ce_model.specs.declared.process.Status.{Status}
+use Rattle.ce_model.specs.Blocks.{Block}
+use Rattle.xm_owner.specs.Holdings.{Mapping, held_at, without_process, ChangesOnly}
+use Rattle.xm_owner.proofs.Mappings.{held_at-drained_other}
+use Rattle.ce_model.specs.declared.process.Status.TheVariants.{Unborn, Running, Asking, Polling, Stopped}
+use Rattle.ce_model.specs.Sound.{is_running}
+use Rattle.ce_solo.proofs.Nodes.{IsWell}
+use Rattle.rk_process.specs.Seen.{Own, unborn_own, windows_of}
+use Rattle.rk_process.proofs.Found.{length-windows_of}
+use Rattle.rk_node.proofs.Windows.{windows-same}
+use Rattle.rk_node.specs.Standing.{process_in, processes_from, processes_of}
+use Rattle.rk_node.specs.Stocked.{used_by, AreWithin}
+
+pub length-processes_from : (mappings : List Mapping) (pid : ℕ) (owns : List Own) → length (processes_from mappings pid owns) ≡ length owns
+length-processes_from mappings pid [] = refl
+length-processes_from mappings pid (own ∷ owns) = ap suc (length-processes_from mappings (pid + 1) owns)
+
+-- the process of an id
+pub process_from : (mappings : List Mapping) (pid : ℕ) (owns : List Own) (k : ℕ) → k < length owns
+    → slice_index_or (processes_from mappings pid owns) k unborn ≡ process_in mappings (pid + k) (slice_index_or owns k unborn_own)
+process_from mappings pid [] k h = absurd (omega arith)
+process_from mappings pid (own ∷ owns) zero h = ap (λ q. process_in mappings q own) (sym (add-zero pid))
+process_from mappings pid (own ∷ owns) (suc k) h =
+    process_from mappings (pid + 1) owns k (omega arith) ∙ ap (λ q. process_in mappings q (slice_index_or owns k unborn_own)) (omega arith)
+
+pub process_of-at : (mappings : List Mapping) (owns : List Own) (pid : ℕ) → pid < length owns
+    → slice_index_or (processes_of mappings owns) pid unborn ≡ process_in mappings pid (slice_index_or owns pid unborn_own)
+process_of-at mappings owns pid h =
+    process_from mappings 0 owns pid h ∙ ap {B = Process} (λ q. process_in mappings q (slice_index_or owns pid unborn_own)) (omega arith)
+
+-- two maps hold the same for all processes but one
+abbrev pub IsSameBut : ℕ → List Mapping → List Mapping → List Own → Type 0
+IsSameBut pid before after owns =
+    (q : ℕ) → (q ≡ pid → ⊥) → windows_of after q (used_by owns q) ≡ windows_of before q (used_by owns q)
+
+-- all processes of a list from an id on, none of which is the one that changes
+same_from : (before after : List Mapping) (at : ℕ) (owns : List Own)
+    → ((k : ℕ) → k < length owns → windows_of after (at + k) (used_by owns k) ≡ windows_of before (at + k) (used_by owns k))
+    → processes_from after at owns ≡ processes_from before at owns
+same_from before after at [] same = refl
+same_from before after at (own ∷ owns) same =
+    let here : windows_of after at own.used ≡ windows_of before at own.used =
+    subst (λ q. windows_of after q own.used ≡ windows_of before q own.used) (add-zero at) (same 0 (omega arith)) in
+    let rest = same_from before after (at + 1) owns (λ k h.
+    subst (λ q. windows_of after q (used_by owns k) ≡ windows_of before q (used_by owns k)) (omega arith) (same (suc k) (omega arith))) in
+    ap (λ windows. record { status = own.status; regs = own.regs; pc = own.pc; space = record { private = own.private; windows = windows } } ∷ processes_from after (at + 1) owns) here
+    ∙ ap (λ ps. process_in before at own ∷ ps) rest
+
+set_from : (before after : List Mapping) (at : ℕ) (owns : List Own) (k : ℕ) (own : Own) → k < length owns
+    → ((j : ℕ) → (j ≡ k → ⊥) → windows_of after (at + j) (used_by owns j) ≡ windows_of before (at + j) (used_by owns j))
+    → processes_from after at (slice_set owns k own) ≡ slice_set (processes_from before at owns) k (process_in after (at + k) own)
+set_from before after at [] k own h same = absurd (omega arith)
+set_from before after at (first ∷ owns) zero own h same =
+    let rest = same_from before after (at + 1) owns (λ k h.
+    subst (λ q. windows_of after q (used_by owns k) ≡ windows_of before q (used_by owns k)) (omega arith) (same (suc k) (λ e. omega (arith, e)))) in
+    ap (λ ps. process_in after at own ∷ ps) rest ∙ ap (λ q. process_in after q own ∷ processes_from before (at + 1) owns) (sym (add-zero at))
+set_from before after at (first ∷ owns) (suc k) own h same =
+    let here : windows_of after at first.used ≡ windows_of before at first.used =
+    subst (λ q. windows_of after q first.used ≡ windows_of before q first.used) (add-zero at) (same 0 (λ e. omega (arith, e))) in
+    let rest = set_from before after (at + 1) owns k own (omega arith) (λ j differ.
+    subst (λ q. windows_of after q (used_by owns j) ≡ windows_of before q (used_by owns j)) (omega arith) (same (suc j) (λ e. differ (omega (arith, e))))) in
+    ap (λ windows. record { status = first.status; regs = first.regs; pc = first.pc; space = record { private = first.private; windows = windows } } ∷ processes_from after (at + 1) (slice_set owns k own)) here
+    ∙ ap (λ ps. process_in before at first ∷ ps) (rest ∙ ap (λ q. slice_set (processes_from before (at + 1) owns) k (process_in after q own)) (omega arith))
+
+-- one process changes, and with it no more of the map than its own windows
+pub processes-set : (before after : List Mapping) (owns : List Own) (pid : ℕ) (own : Own) → pid < length owns → IsSameBut pid before after owns
+    → processes_of after (slice_set owns pid own) ≡ slice_set (processes_of before owns) pid (process_in after pid own)
+processes-set before after owns pid own h same =
+    set_from before after 0 owns pid own h (λ j differ. subst (λ q. windows_of after q (used_by owns j) ≡ windows_of before q (used_by owns j)) (omega arith) (same j differ))
+    ∙ ap (λ q. slice_set (processes_of before owns) pid (process_in after q own)) (omega arith)
+
+-- a process changes that is put back
+pub set-twice : {X : Type 0} (xs : List X) (k : ℕ) (a b : X) → slice_set (slice_set xs k a) k b ≡ slice_set xs k b
+set-twice [] k a b = refl
+set-twice (x ∷ xs) zero a b = refl
+set-twice (x ∷ xs) (suc k) a b = ap (λ ys. x ∷ ys) (set-twice xs k a b)
+
+pub set-same : {X : Type 0} (xs : List X) (k : ℕ) (d : X) → slice_set xs k (slice_index_or xs k d) ≡ xs
+set-same [] k d = refl
+set-same (x ∷ xs) zero d = refl
+set-same (x ∷ xs) (suc k) d = ap (λ ys. x ∷ ys) (set-same xs k d)
+
+-- a process that was read from the list
+pub process-read : (mappings : List Mapping) (owns : List Own) (pid : ℕ) (own : Own) → pid < length owns → own ≡ slice_index_or owns pid own
+    → slice_index_or (processes_of mappings owns) pid unborn ≡ process_in mappings pid own
+process-read mappings owns pid own h read =
+    process_of-at mappings owns pid h ∙ ap (process_in mappings pid) (sym (get_or_read owns pid own h read unborn_own))
+
+-- ---- a change of one process
+
+-- the process that was read becomes another, as the model has it
+pub processes-change : (before after : List Mapping) (owns : List Own) (pid : ℕ) (own own' : Own) (change : Process → Process)
+    → pid < length owns → own ≡ slice_index_or owns pid own → IsSameBut pid before after owns
+    → process_in after pid own' ≡ change (process_in before pid own)
+    → processes_of after (slice_set owns pid own') ≡ slice_set (processes_of before owns) pid (change (slice_index_or (processes_of before owns) pid unborn))
+processes-change before after owns pid own own' change h read same e =
+    processes-set before after owns pid own' h same
+    ∙ ap (slice_set (processes_of before owns) pid) (e ∙ ap change (sym (process-read before owns pid own h read)))
+
+-- the windows of the map stay within those that were used, where none is used less
+pub within-grown : (owns owns' : List Own) (places : List (ℕ × ℕ)) → ((q : ℕ) → used_by owns q ≤ used_by owns' q) → AreWithin owns places → AreWithin owns' places
+within-grown owns owns' [] grown within = tt
+within-grown owns owns' (place ∷ places) grown within =
+    (let more = grown place.0 in omega (arith, within.0, more), within-grown owns owns' places grown within.1)
+
+pub used-set : (owns : List Own) (pid : ℕ) (own own' : Own) → pid < length owns → own ≡ slice_index_or owns pid own → own.used ≤ own'.used
+    → (q : ℕ) → used_by owns q ≤ used_by (slice_set owns pid own') q
+used-set owns pid own own' h read more q = elim (cases_eq q pid) [
+  | inl same ↦ (let was : used_by owns pid ≡ own.used = ap (λ (o : Own). o.used) (sym (get_or_read owns pid own h read unborn_own)) in
+      let is : used_by (slice_set owns pid own') pid ≡ own'.used = ap (λ (o : Own). o.used) (get_or-set_same owns pid own' unborn_own h) in
+      subst (λ k. used_by owns k ≤ used_by (slice_set owns pid own') k) (sym same) (omega arith))
+  | inr differ ↦ (let is : used_by (slice_set owns pid own') q ≡ used_by owns q = ap (λ (o : Own). o.used) (get_or-set_other owns pid q own' unborn_own differ) in omega arith)
+]
+
+pub within-change : (owns : List Own) (pid : ℕ) (own own' : Own) (places : List (ℕ × ℕ)) → pid < length owns → own ≡ slice_index_or owns pid own → own'.used ≡ own.used
+    → AreWithin owns places → AreWithin (slice_set owns pid own') places
+within-change owns pid own own' places h read same within =
+    within-grown owns (slice_set owns pid own') places (used-set owns pid own own' h read (omega (arith, same))) within
+
+-- how many windows the process has used that was read
+pub used-read : (mappings : List Mapping) (owns : List Own) (pid : ℕ) (own : Own) → pid < length owns → own ≡ slice_index_or owns pid own
+    → length (slice_index_or (processes_of mappings owns) pid unborn).space.windows ≡ own.used
+used-read mappings owns pid own h read =
+    ap (λ (p : Process). length p.space.windows) (process-read mappings owns pid own h read) ∙ length-windows_of mappings pid own.used
+
+pub used_by-read : (owns : List Own) (pid : ℕ) (own : Own) → pid < length owns → own ≡ slice_index_or owns pid own → used_by owns pid ≡ own.used
+used_by-read owns pid own h read = ap (λ (o : Own). o.used) (sym (get_or_read owns pid own h read unborn_own))
+
+-- the map holds the same for all processes but one
+pub same-but : (pid : ℕ) (before after : List Mapping) (owns : List Own) → ((q w : ℕ) → (q ≡ pid → ⊥) → held_at after q w ≡ held_at before q w) → IsSameBut pid before after owns
+same-but pid before after owns same q differ = windows-same before after q (used_by owns q) (λ w. same q w differ)
+
+pub same-changed : (pid window : ℕ) (there : Option Block) (before after : List Mapping) (owns : List Own) → ChangesOnly before after pid window there → IsSameBut pid before after owns
+same-changed pid window there before after owns changes = same-but pid before after owns (λ q w differ. changes.others q w (λ e. absurd (differ e)))
+
+default-free : {X : Type 0} (xs : List X) (k : ℕ) (d e : X) → k < length xs → slice_index_or xs k d ≡ slice_index_or xs k e
+default-free [] k d e h = absurd (omega arith)
+default-free (x ∷ xs) zero d e h = refl
+default-free (x ∷ xs) (suc k) d e h = default-free xs k d e (omega arith)
+
+-- the map alone changes, in the windows of one process
+pub processes-held : (before after : List Mapping) (owns : List Own) (pid : ℕ) (change : Process → Process)
+    → pid < length owns → IsSameBut pid before after owns
+    → process_in after pid (slice_index_or owns pid unborn_own) ≡ change (process_in before pid (slice_index_or owns pid unborn_own))
+    → processes_of after owns ≡ slice_set (processes_of before owns) pid (change (slice_index_or (processes_of before owns) pid unborn))
+processes-held before after owns pid change h same e =
+    let own = slice_index_or owns pid unborn_own in
+    ap (processes_of after) (sym (set-same owns pid unborn_own))
+    ∙ processes-change before after owns pid own own change h (default-free owns pid unborn_own own h) same e
+
+-- a process with a further window
+pub unused-fewer : (mappings : List Mapping) (owns : List Own) (pid : ℕ) (own : Own) → pid < length owns → own ≡ slice_index_or owns pid own
+    → IsTrue (has_unused_window (slice_index_or (processes_of mappings owns) pid unborn).space) → own.used < window_count
+unused-fewer mappings owns pid own h read unused =
+    let less = ltb-true (length (slice_index_or (processes_of mappings owns) pid unborn).space.windows) window_count unused in
+    omega (arith, used-read mappings owns pid own h read, less)
+
+pub used_by-set : (owns : List Own) (pid : ℕ) (own : Own) → pid < length owns → used_by (slice_set owns pid own) pid ≡ own.used
+used_by-set owns pid own h = ap (λ (o : Own). o.used) (get_or-set_same owns pid own unborn_own h)
+
+-- the process that was put into the list
+pub process-put : (m : List Mapping) (owns : List Own) (pid : ℕ) (own : Own) → pid < length owns
+    → slice_index_or (processes_of m (slice_set owns pid own)) pid unborn ≡ process_in m pid own
+process-put m owns pid own h =
+    process_of-at m (slice_set owns pid own) pid (omega (arith, length-set owns pid own)) ∙ ap (process_in m pid) (get_or-set_same owns pid own unborn_own h)
+
+-- all other processes keep what they hold, where without this one the map is the same
+pub same-others : (pid : ℕ) (before after : List Mapping) (owns : List Own) → without_process pid after ≡ without_process pid before → IsSameBut pid before after owns
+same-others pid before after owns same =
+    same-but pid before after owns (λ q w differ.
+    sym (held_at-drained_other pid after q w differ) ∙ ap (λ ms. held_at ms q w) same ∙ held_at-drained_other pid before q w differ)
+
+pub running_status : (s : Status) → is_running s ≡ true → s ≡ Running
+running_status Unborn h = absurd (cc)
+running_status Running h = refl
+running_status Asking h = absurd (cc)
+running_status Polling h = absurd (cc)
+running_status (Stopped cause) h = absurd (cc)
+
+-- the process of the turn runs
+pub turn-runs : (node : model.Node) (turn : model.Turn) → IsWell (Some turn) node → turn.pid < process_count → (model.process_at node turn.pid).status ≡ Running
+turn-runs node turn well h = running_status (model.process_at node turn.pid).status ((well.processes turn.pid h).running ∙ eq-eqb turn.pid turn.pid refl)

@@ -1,0 +1,272 @@
+-- A turn by whole runs: up to a kernel call or a stop, the node changes in one process alone.
+use Rattle.std.proofs.Common.{◌≡◌, ℕ, zero, suc, ◌+◌, ◌-◌, ◌^◌, ◌<◌, ◌≤◌, Bool, true, false, not, ◌||◌, ◌==◌, nat_lt, if◌then◌else◌, List, [], ◌∷◌, ◌++◌, length, take, drop, zip, replicate, slice_get, Option, Some, None, Result, Ok, Err, refl, ap, ◌∙◌, subst, arith, length-set}
+use Rattle.std.specs.List.{AllByRecursion, list_all}
+use Rattle.std.proofs.lemmas.List.{get_or-set_same}
+use Rattle.rv_model.specs.declared.stop.Stop.{Stop}
+use Rattle.rv_model.specs.declared.stop.Stop.TheVariants.{Exited, NoCall, TurnSpent}
+use Rattle.rv_model.specs.Exec.{Outcome, went, called, stopped, exec}
+use Rattle.ce_model.specs.declared.process.Status.{Status}
+use Rattle.ce_model.specs.declared.process.Status.TheVariants.{Asking, Polling}
+use Rattle.ce_model.specs.declared.topology.Place.{Place}
+use Rattle.ce_model.specs.declared.topology.BlockId.{BlockId}
+use Rattle.ce_model.specs.Limits.{block_room, greatest_targets, turn_calls}
+use Rattle.ce_model.specs.Blocks.{Block, put}
+use Rattle.ce_model.specs.Space.{Space, process_access, window_start, has_unused_window, mapped, block_named, places_at}
+use Rattle.ce_model.specs.Process.{Process, argument, call_number, with_answer, moved, unborn, Reached, at_call, at_stop, led_to, reached}
+use Rattle.ce_model.specs.Node.{Turn, Node, is_place, process_at, with_process, with_stopped, Call, sends, spawns, kills, notes}
+use Rattle.ce_model.specs.Kernel.{Did, goes_on, leaves, turn_ends, returns, stops, says_call, reading, waits, with_space, gives_up, with_store, maps_least, xmalloc, frees, xfree, xlength, is_target, place_named, sends_block, xsend, sends_copies, xmsend_block, xmsend, xrecv, xrecvb, spawn, ckill, KernelCall, kernel_calls, kernel_call, kernel_does, kernel}
+use Rattle.ce_model.specs.Saying.{Saying, asks, after_call, after_instruction, instruction, runs}
+use Rattle.ce_model.specs.Sound.{IsSoundTurn}
+use Rattle.ce_solo.proofs.Windows.{IsSameHeld, same_held}
+use Rattle.ce_solo.proofs.Instructions.{IsLed, exec-led}
+use Rattle.ce_solo.proofs.Nodes.{IsWell}
+use Rattle.ce_solo.proofs.Words.{InTurn, goes-done, in_turn-windows}
+use Rattle.rk_node.proofs.Processes.{set-twice}
+
+-- ---- the process of a turn is given apart from its node's place for it
+
+module _ (q : Process) where
+  -- a node whose process is another meanwhile
+  abbrev other : Node → ℕ → Node
+  other node pid = with_process node pid q
+
+  with_process-apart : (node : Node) (pid : ℕ) (p : Process) → with_process (other node pid) pid p ≡ with_process node pid p
+  with_process-apart node pid p = ap (λ ps. record node { processes = ps }) (set-twice node.processes pid q p)
+
+  returns-apart : (node : Node) (turn : Turn) (p : Process) (value : ℕ) → returns (other node turn.pid) turn p value ≡ returns node turn p value
+  returns-apart node turn p value = ap (λ n. goes_on n turn) (with_process-apart node turn.pid (with_answer value p))
+
+  says_call-apart : (node : Node) (turn : Turn) (p : Process) (call : Call) → says_call (other node turn.pid) turn p call ≡ says_call node turn p call
+  says_call-apart node turn p call = ap (λ (n : Node). leaves (record n { turn = Some turn }) call) (with_process-apart node turn.pid p)
+
+  pub with_stopped-apart : (node : Node) (pid : ℕ) (p : Process) (cause : Stop) → with_stopped (other node pid) pid p cause ≡ with_stopped node pid p cause
+  with_stopped-apart node pid p cause = ap (λ ps. record (with_stopped node pid p cause) { processes = ps }) (set-twice node.processes pid q _)
+
+  stops-apart : (node : Node) (turn : Turn) (p : Process) (cause : Stop) → stops (other node turn.pid) turn p cause ≡ stops node turn p cause
+  stops-apart node turn p cause = ap turn_ends (with_stopped-apart node turn.pid p cause)
+
+  waits-apart : (node : Node) (turn : Turn) (p : Process) (status : Status) (polling : List ℕ) → waits (other node turn.pid) turn p status polling ≡ waits node turn p status polling
+  waits-apart node turn p status polling = ap (λ (n : Node). turn_ends (record n { polling = polling; turn = None })) (with_process-apart node turn.pid (record p { status = status }))
+
+  reading-apart : {X : Type 0} (node : Node) (turn : Turn) (p : Process) (r : Result X Stop) (f g : X → Did) → ((x : X) → f x ≡ g x)
+      → reading (other node turn.pid) turn p r f ≡ reading node turn p r g
+  reading-apart node turn p (Ok x) f g same = same x
+  reading-apart node turn p (Err cause) f g same = stops-apart node turn p cause
+
+  either : (b : Bool) (a a' c c' : Did) → a ≡ a' → c ≡ c' → (if b then a else c) ≡ (if b then a' else c')
+  either true a a' c c' first next = first
+  either false a a' c c' first next = next
+
+  maps_least-apart : (node : Node) (turn : Turn) (p : Process) (len : ℕ) (store : List BlockId) → maps_least (other node turn.pid) turn p len store ≡ maps_least node turn p len store
+  maps_least-apart node turn p len [] = returns-apart node turn p 0
+  maps_least-apart node turn p len (id ∷ store) =
+      returns-apart (with_store store node) turn (with_space p (mapped (record { id = id; bytes = replicate len 0 }) p.space)) (window_start (length p.space.windows))
+
+  -- a call that doesn't look at that place
+  abbrev IsApart : (Node → Turn → Process → Did) → Type 0
+  IsApart does = (node : Node) (turn : Turn) (p : Process) → does (other node turn.pid) turn p ≡ does node turn p
+
+  xmalloc-apart : IsApart xmalloc
+  xmalloc-apart node turn p =
+      either (nat_lt block_room (argument p 0) || not (has_unused_window p.space)) _ _ _ _ (returns-apart node turn p 0) (maps_least-apart node turn p (argument p 0) node.store)
+
+  frees-apart : (node : Node) (turn : Turn) (p : Process) (found : ℕ × Block) → frees (other node turn.pid) turn p found ≡ frees node turn p found
+  frees-apart node turn p found = returns-apart (with_store (put found.1.id node.store) node) turn (gives_up found.0 p) 0
+
+  xfree-apart : IsApart xfree
+  xfree-apart node turn p = reading-apart node turn p (block_named p.space (argument p 0)) _ _ (frees-apart node turn p)
+
+  xlength-apart : IsApart xlength
+  xlength-apart node turn p = reading-apart node turn p (block_named p.space (argument p 0)) _ _ (λ found. returns-apart node turn p (length found.1.bytes))
+
+  sends_block-apart : (node : Node) (turn : Turn) (p : Process) (found : ℕ × Block) → sends_block (other node turn.pid) turn p found ≡ sends_block node turn p found
+  sends_block-apart node turn p found =
+      either (is_target node (place_named p 1)) _ _ _ _
+      (says_call-apart node turn (gives_up found.0 p) (sends turn.pid ((place_named p 1, found.1.id) ∷ []) found.1.bytes)) (returns-apart node turn p 1)
+
+  xsend-apart : IsApart xsend
+  xsend-apart node turn p = reading-apart node turn p (block_named p.space (argument p 0)) _ _ (sends_block-apart node turn p)
+
+  sends_copies-apart : (node : Node) (turn : Turn) (p : Process) (found : ℕ × Block) (places : List Place)
+      → sends_copies (other node turn.pid) turn p found places ≡ sends_copies node turn p found places
+  sends_copies-apart node turn p found [] = frees-apart node turn p found
+  sends_copies-apart node turn p found (to ∷ others) =
+      either (not (list_all (is_target node) (to ∷ others))) _ _ _ _ (returns-apart node turn p 1)
+      (either (nat_lt (length node.store) (length others)) _ _ _ _ (returns-apart node turn p 2)
+      (says_call-apart (with_store (drop (length others) node.store) node) turn (gives_up found.0 p)
+      (sends turn.pid (zip (to ∷ others) (found.1.id ∷ take (length others) node.store)) found.1.bytes)))
+
+  xmsend_block-apart : (node : Node) (turn : Turn) (p : Process) (found : ℕ × Block) → xmsend_block (other node turn.pid) turn p found ≡ xmsend_block node turn p found
+  xmsend_block-apart node turn p found =
+      either (nat_lt greatest_targets (argument p 1)) _ _ _ _ (returns-apart node turn p 3)
+      (reading-apart node turn p (places_at p.space (argument p 2) (argument p 1)) _ _ (sends_copies-apart node turn p found))
+
+  xmsend-apart : IsApart xmsend
+  xmsend-apart node turn p = reading-apart node turn p (block_named p.space (argument p 0)) _ _ (xmsend_block-apart node turn p)
+
+  xrecv-apart : IsApart xrecv
+  xrecv-apart node turn p = waits-apart node turn p Polling (node.polling ++ turn.pid ∷ [])
+
+  xrecvb-apart : IsApart xrecvb
+  xrecvb-apart node turn p = waits-apart node turn p Asking node.polling
+
+  spawn-apart : IsApart spawn
+  spawn-apart node turn p =
+      either (not (is_place node.dim (place_named p 1))) _ _ _ _ (returns-apart node turn p 1)
+      (either (nat_lt (argument p 0) node.images) _ _ _ _ (says_call-apart node turn p (spawns turn.pid (argument p 0) (place_named p 1))) (returns-apart node turn p 3))
+
+  ckill-apart : IsApart ckill
+  ckill-apart node turn p =
+      either (is_place node.dim (place_named p 0)) _ _ _ _ (says_call-apart node turn p (kills turn.pid (place_named p 0))) (returns-apart node turn p 1)
+
+  all_apart : AllByRecursion (λ (call : KernelCall). IsApart call.does) kernel_calls
+  unfolding kernel_calls
+  all_apart = (
+    xmalloc-apart,
+    (
+      xfree-apart,
+      (
+        xlength-apart,
+        (
+          xsend-apart,
+          (
+            xmsend-apart,
+            (
+              xrecv-apart,
+              (
+                xrecvb-apart,
+                (
+                  spawn-apart,
+                  (
+                    ckill-apart,
+                    (
+                      (λ node turn p. returns-apart node turn p node.number),
+                      (
+                        (λ node turn p. returns-apart node turn p turn.pid),
+                        (
+                          (λ node turn p. returns-apart node turn p (2 ^ node.dim)),
+                          ((λ node turn p. stops-apart node turn p (Exited (argument p 0))), ((λ node turn p. says_call-apart node turn p (notes turn.pid (argument p 0))), tt)),
+                        ),
+                      ),
+                    ),
+                  ),
+                ),
+              ),
+            ),
+          ),
+        ),
+      ),
+    ),
+  )
+
+  all-get : {X : Type 0} (P : X → Type 0) (xs : List X) (k : ℕ) (x : X) → AllByRecursion P xs → slice_get xs k ≡ Some x → P x
+  all-get P [] k x all e = absurd (cc)
+  all-get P (y ∷ ys) zero x all e = let same : y ≡ x = cc in subst P same all.0
+  all-get P (y ∷ ys) (suc k) x all e = all-get P ys k x all.1 e
+
+  call_apart : (number : ℕ) (call : KernelCall) → kernel_call number ≡ Some call → IsApart call.does
+  call_apart number call e = all-get (λ (call : KernelCall). IsApart call.does) kernel_calls (number - 1) call all_apart (seen (number == 0) e)
+    where
+      seen : (b : Bool) → (if b then None else slice_get kernel_calls (number - 1)) ≡ Some call → slice_get kernel_calls (number - 1) ≡ Some call
+      seen true e = absurd (cc)
+      seen false e = e
+
+  does-apart : (node : Node) (turn : Turn) (p : Process) (found : Option KernelCall) → ((call : KernelCall) → found ≡ Some call → IsApart call.does)
+      → kernel_does found (other node turn.pid) turn p ≡ kernel_does found node turn p
+  does-apart node turn p None each = stops-apart node turn p (NoCall (call_number p))
+  does-apart node turn p (Some call) each =
+      either call.is_counted _ _ _ _
+      (either (nat_lt turn.calls turn_calls) _ _ _ _ (each call refl node (record turn { calls = turn.calls + 1 }) p) (stops-apart node turn p TurnSpent))
+      (each call refl node turn p)
+
+  pub kernel-apart : (node : Node) (turn : Turn) (p : Process) → kernel (with_process node turn.pid q) turn p ≡ kernel node turn p
+  unfolding kernel
+  kernel-apart node turn p = does-apart node turn p (kernel_call (call_number p)) (call_apart (call_number p))
+
+-- ---- whole runs
+
+-- what the node says whose process came to this
+abbrev pub came_to : Node → Turn → Reached → Saying
+came_to node turn (at_call left p) = after_call (runs left) (kernel node (record turn { left = left }) p)
+came_to node turn (at_stop left p cause) = asks (with_stopped node turn.pid p cause)
+
+came_to-apart : (q : Process) (node : Node) (turn : Turn) (r : Reached) → came_to (with_process node turn.pid q) turn r ≡ came_to node turn r
+came_to-apart q node turn (at_call left p) = ap (after_call (runs left)) (kernel-apart q node (record turn { left = left }) p)
+came_to-apart q node turn (at_stop left p cause) = ap asks (with_stopped-apart q node turn.pid p cause)
+
+runs-led : (n : ℕ) (node : Node) (turn : Turn) (outcome : Outcome Space) → turn.pid < length node.processes
+    → ((node' : Node) → turn.pid < length node'.processes → runs n node' turn ≡ came_to node' turn (reached n (process_at node' turn.pid)))
+    → after_instruction (runs n) n node turn (process_at node turn.pid) outcome ≡ came_to node turn (led_to (reached n) n (process_at node turn.pid) outcome)
+runs-led n node turn (went regs pc space) h each =
+    let p = moved (process_at node turn.pid) regs pc space in
+    let node' = with_process node turn.pid p in
+    each node' (omega (arith, length-set node.processes turn.pid p))
+    ∙ ap (λ q. came_to node' turn (reached n q)) (get_or-set_same node.processes turn.pid p unborn h)
+    ∙ came_to-apart p node turn (reached n p)
+runs-led n node turn (called regs pc space) h each = refl
+runs-led n node turn (stopped cause) h each = refl
+
+-- a turn is a run to the next kernel call, and that call
+pub runs-reached : (n : ℕ) (node : Node) (turn : Turn) → turn.pid < length node.processes → runs n node turn ≡ came_to node turn (reached n (process_at node turn.pid))
+unfolding runs reached
+runs-reached zero node turn h = refl
+runs-reached (suc n) node turn h = runs-led n node turn (instruction (process_at node turn.pid)) h (λ node' h'. runs-reached n node' turn h')
+
+-- ---- what a run keeps
+
+-- a process that has run on holds the same blocks
+pub record IsKept (before after : Process) : Type 0 where
+  pub held : IsSameHeld before.space after.space
+  pub regs : length after.regs ≡ length before.regs
+  pub status : after.status ≡ before.status
+
+abbrev pub KeptBy : ℕ → Process → Reached → Type 0
+KeptBy n p (at_call left p') = IsKept p p' × (left < n)
+KeptBy n p (at_stop left p' cause) = IsKept p p' × (left ≤ n)
+
+kept_same : (p : Process) → IsKept p p
+kept_same p = record { held = same_held p.space; regs = refl; status = refl }
+
+kept_then : (a b d : Process) → IsKept a b → IsKept b d → IsKept a d
+kept_then a b d first next = record {
+  held = record { ids = next.held.ids ∙ first.held.ids; windows = next.held.windows ∙ first.held.windows };
+  regs = next.regs ∙ first.regs;
+  status = next.status ∙ first.status;
+}
+
+kept_on : (n : ℕ) (p q : Process) (r : Reached) → IsKept p q → KeptBy n q r → KeptBy (suc n) p r
+kept_on n p q (at_call left p') first next = (kept_then p q p' first next.0, let less = next.1 in omega (arith, less))
+kept_on n p q (at_stop left p' cause) first next = (kept_then p q p' first next.0, let less = next.1 in omega (arith, less))
+
+led-kept : (n : ℕ) (p : Process) (outcome : Outcome Space) → IsLed p.regs p.space outcome → ((q : Process) → KeptBy n q (reached n q))
+    → KeptBy (suc n) p (led_to (reached n) n p outcome)
+led-kept n p (went regs pc space) led each =
+    kept_on n p (moved p regs pc space) (reached n (moved p regs pc space)) (record { held = led.1; regs = led.0; status = refl }) (each (moved p regs pc space))
+led-kept n p (called regs pc space) led each = (record { held = led.1; regs = led.0; status = refl }, omega arith)
+led-kept n p (stopped cause) led each = (kept_same p, omega arith)
+
+pub reached-kept : (n : ℕ) (p : Process) → KeptBy n p (reached n p)
+unfolding reached
+reached-kept zero p = (kept_same p, omega arith)
+reached-kept (suc n) p = led-kept n p (exec process_access p.regs p.pc p.space) (exec-led p.regs p.pc p.space) (λ q. reached-kept n q)
+
+-- the node is in its turn still
+pub well-after : (node : Node) (turn : Turn) (left : ℕ) (p : Process) → IsWell (Some turn) node → IsSoundTurn turn → left ≤ turn.left → IsKept (process_at node turn.pid) p
+    → IsWell (Some (record turn { left = left })) (with_process node turn.pid p)
+well-after node turn left p well sound less kept =
+    let turn' : Turn = record turn { left = left } in
+    let c : InTurn node turn' p = record {
+      well = record {
+        process_ids = well.process_ids;
+        processes = λ q h. let was = well.processes q h in
+            record { registers = was.registers; windows = was.windows; unborn_used = was.unborn_used; stopped_holds = was.stopped_holds; running = was.running };
+        polling = well.polling;
+        store = well.store;
+        once = well.once;
+      };
+      sound = record { pid = sound.pid; left = omega (arith, sound.left, less); calls = sound.calls };
+      registers = kept.regs ∙ (well.processes turn.pid sound.pid).registers;
+      held = kept.held;
+      status = kept.status;
+    } in
+    (goes-done node turn' p c p node.store refl c.registers (in_turn-windows node turn' p c) well.store (λ id. refl)).became.well

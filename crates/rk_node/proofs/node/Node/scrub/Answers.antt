@@ -1,0 +1,100 @@
+use Rattle.std.proofs.Common.{ℕ, ◌+◌, ◌<◌, length, ap, sym, ◌∙◌, None, subst, arith, length-append}
+use Rattle.ce_model.specs.Limits.{process_count_lem}
+use Rattle.ce_model.specs.Blocks.{put_all}
+use Rattle.xm_block.specs.Stores.{ids_of}
+use Rattle.rk_node.specs.Standing.{node_of}
+use Rattle.rk_node.specs.Hearings.{AreApartFrom, ids_in}
+use Rattle.rk_node.proofs.Processes.{length-processes_from}
+use Rattle.rk_node.proofs.Moved.{put_all-append, apart-first, apart-next, ids_from, ids-past, ids-split, node-next, node-scrubbed}
+use Rattle.rk_node.proofs.node.Node.scrub.Goals as goal
+
+pub empty_store-requires-clause-apart : goal.empty_store-requires-clause-apart
+empty_store-requires-clause-apart c =
+    let n = node_of c.args.self.now in
+    apart-first n.store (ids_from 0 n.processes) c.args.out.now c.requires.apart
+
+pub empty_store-requires-clause-room : goal.empty_store-requires-clause-room
+empty_store-requires-clause-room c =
+    let n = node_of c.args.self.now in
+    omega (arith, c.requires.room, length-append n.store (ids_from 0 n.processes))
+
+pub loop-pid-init : goal.loop-pid-init
+loop-pid-init c =
+    let n = node_of c.args.self.now in
+    let rest = ids_from 0 n.processes in
+    record {
+      node = c.empty_store.ensures.node;
+      moved = ap (put_all rest) c.empty_store.ensures.moved ∙ sym (put_all-append n.store rest (ids_of c.args.out.now.blocks));
+      apart = apart-next n.store rest c.args.out.now c.empty_store.new.out c.empty_store.ensures.moved c.requires.apart;
+      spare = omega (arith, c.empty_store.ensures.spare, length-append n.store rest);
+      stocked = c.empty_store.ensures.stocked;
+      batch = c.empty_store.ensures.batch;
+      room = c.empty_store.ensures.room;
+    }
+
+pub scrub_process-requires-clause-apart : goal.scrub_process-requires-clause-apart
+scrub_process-requires-clause-apart c =
+    let n = node_of c.args.self.now in
+    let now = node_of c.loop-pid.self in
+    let k = c.loop-pid.pid in
+    let long = length-processes_from c.args.self.now.held.mappings 0 c.args.self.now.processes.items in
+    let split = ids-split n now k c.loop-pid.invariant.node (omega (arith, long, c.requires.stocked.processes, process_count_lem)) in
+    apart-first (ids_in k now) (ids_from (k + 1) n.processes) c.loop-pid.out (subst (λ ids. AreApartFrom ids c.loop-pid.out) split c.loop-pid.invariant.apart)
+
+pub scrub_process-requires-clause-room : goal.scrub_process-requires-clause-room
+scrub_process-requires-clause-room c =
+    let n = node_of c.args.self.now in
+    let now = node_of c.loop-pid.self in
+    let k = c.loop-pid.pid in
+    let long = length-processes_from c.args.self.now.held.mappings 0 c.args.self.now.processes.items in
+    let split = ids-split n now k c.loop-pid.invariant.node (omega (arith, long, c.requires.stocked.processes, process_count_lem)) in
+    omega (arith, c.requires.room, c.loop-pid.invariant.spare, ap {B = ℕ} length split, length-append (ids_in k now) (ids_from (k + 1) n.processes))
+
+pub loop-pid-preserved : goal.loop-pid-preserved
+loop-pid-preserved c =
+    let was = c.loop-pid.invariant in
+    let n = node_of c.args.self.now in
+    let now = node_of c.loop-pid.self in
+    let k = c.loop-pid.pid in
+    let long = length-processes_from c.args.self.now.held.mappings 0 c.args.self.now.processes.items in
+    let fewer : k < length n.processes = omega (arith, long, c.requires.stocked.processes, process_count_lem) in
+    let first = ids_in k now in
+    let rest = ids_from (k + 1) n.processes in
+    let split = ids-split n now k was.node fewer in
+    let out = c.loop-pid.out in
+    let done = c.scrub_process.ensures in
+    record {
+      node = node-next n now (node_of c.scrub_process.new.self) k was.node done.node fewer;
+      moved = ap (put_all rest) done.moved ∙ sym (put_all-append first rest (ids_of out.blocks))
+          ∙ sym (ap (λ ids. put_all ids (ids_of out.blocks)) split) ∙ was.moved;
+      apart = apart-next first rest out c.scrub_process.new.out done.moved (subst (λ ids. AreApartFrom ids out) split was.apart);
+      spare = omega (arith, was.spare, done.spare, ap {B = ℕ} length split, length-append first rest);
+      stocked = done.stocked;
+      batch = done.batch ∙ was.batch;
+      room = done.room ∙ was.room;
+    }
+
+pub scrub_process-requires-clause-pid : goal.scrub_process-requires-clause-pid
+scrub_process-requires-clause-pid c = omega (arith, process_count_lem)
+
+pub returns-clause-node : goal.returns-clause-node
+returns-clause-node c =
+    let n = node_of c.args.self.now in
+    let now = node_of c.loop-pid.self in
+    let long = length-processes_from c.args.self.now.held.mappings 0 c.args.self.now.processes.items in
+    ap (λ polling. record now { polling = polling; turn = None }) c.clear.ensures.items
+    ∙ node-scrubbed n now c.loop-pid.pid c.loop-pid.invariant.node (omega (arith, process_count_lem)) (omega (arith, long, c.requires.stocked.processes))
+
+pub returns-clause-moved : goal.returns-clause-moved
+returns-clause-moved c =
+    let n = node_of c.args.self.now in
+    let long = length-processes_from c.args.self.now.held.mappings 0 c.args.self.now.processes.items in
+    let none = ids-past c.loop-pid.pid n.processes (omega (arith, process_count_lem, long, c.requires.stocked.processes)) in
+    sym (ap (λ ids. put_all ids (ids_of c.loop-pid.out.blocks)) none) ∙ c.loop-pid.invariant.moved
+
+pub returns-clause-spare : goal.returns-clause-spare
+returns-clause-spare c =
+    let n = node_of c.args.self.now in
+    let long = length-processes_from c.args.self.now.held.mappings 0 c.args.self.now.processes.items in
+    let none = ids-past c.loop-pid.pid n.processes (omega (arith, process_count_lem, long, c.requires.stocked.processes)) in
+    omega (arith, c.loop-pid.invariant.spare, ap {B = ℕ} length none)

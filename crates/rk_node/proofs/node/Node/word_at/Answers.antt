@@ -1,0 +1,11 @@
+use Rattle.std.proofs.Common.{ap, sym, ◌∙◌, arith}
+use Rattle.ce_model.specs.Space.{loaded_at}
+use Rattle.ce_model.specs.Process.{Process}
+use Rattle.rk_node.proofs.Processes.{process-read}
+use Rattle.rk_node.proofs.node.Node.word_at.Goals as goal
+
+pub returns : goal.returns
+returns c =
+    let node = c.args.self.now in
+    c.load_word.ensures
+    ∙ ap (λ (p : Process). loaded_at p.space c.args.address 4) (sym (process-read node.held.mappings node.processes.items c.args.pid c.index-process.result.now (omega arith) c.index-process.ensures))

@@ -1,0 +1,31 @@
+use Rattle.std.proofs.Common.{◌+◌, ◌*◌, ◌^◌, ◌≤◌, IfSome, refl, ap, sym, ◌∙◌, subst, arith}
+use Rattle.ce_model.specs.Limits.{greatest_dim, home_blocks}
+use Rattle.ce_model.specs.Node.{Node}
+use Rattle.ce_model.specs.Sound.{IsSoundTurn}
+use Rattle.ce_solo.proofs.Nodes.{IsWell}
+use Rattle.rk_node.specs.Boxes.{fresh_at}
+use Rattle.rk_node.proofs.Sorted.{idle-well, idle-fresh}
+use Rattle.rk_node.proofs.node_box.NodeBox.new.Goals as goal
+
+pub new-requires : goal.new-requires
+unfolding greatest_dim home_blocks
+new-requires c = omega arith
+
+pub returns-clause-clean : goal.returns-clause-clean
+returns-clause-clean c =
+    let made = c.in_ok-new.ensures in
+    record {
+      node = made.fresh ∙ sym (ap (λ (n : Node). fresh_at n.home n.number n.dim n.images) made.fresh);
+      out = refl;
+      room = subst (λ room. (2 ^ greatest_dim + 1) * home_blocks ≤ room) (sym made.has_room) c.requires;
+    }
+
+pub invariant_of-result : goal.invariant_of-result
+invariant_of-result c =
+    let made = c.in_ok-new.ensures in
+    record {
+      stocked = made.stocked;
+      well = subst (λ (n : Node). IsWell n.turn n) (sym made.fresh) (idle-well (fresh_at c.args.home 0 0 0) (idle-fresh c.args.home 0 0 0));
+      sound = subst (λ (n : Node). IfSome n.turn IsSoundTurn) (sym made.fresh) tt;
+      batch = made.batch;
+    }

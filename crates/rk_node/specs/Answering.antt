@@ -1,0 +1,42 @@
+-- Which answer a box can hear.
+use Rattle.std.specs.Prelude.{◌≡◌, ◌<◌, IsTrue, List, length, Some, None, slice_get, Contains}
+use Rattle.rv_model.specs.Image.{ImageParts}
+use Rattle.ce_model.specs.declared.process.Status.TheVariants.{Unborn}
+use Rattle.ce_model.specs.Limits.{process_count}
+use Rattle.ce_model.specs.Parcels.{Parcel, mail, is_eligible}
+use Rattle.ce_model.specs.Process.{is_receiving, is_stopped}
+use Rattle.ce_model.specs.Node.{Call, takes, take_of, ids_of, process_at, blocks_of}
+use Rattle.rk_mail.specs.declared.talk.Heard.{Heard}
+use Rattle.rk_mail.specs.declared.talk.Heard.TheVariants.{Start, Mail, Kill, Poll}
+use Rattle.rk_mail.specs.Items.{parcel_of}
+use Rattle.rk_mail.specs.Talk.{IsAnswerTo}
+use Rattle.rk_node.specs.declared.out.Out.TheVariants.{Nothing}
+use Rattle.rk_node.specs.Wording.{out_by}
+use Rattle.rk_node.specs.Boxes.{Box, HasRoomFor}
+
+-- the box has said this call, and waits for its answer; a Take is said by a node without a turn
+abbrev pub HasSaid : Box → Call → Type 0
+HasSaid box (takes asking dead poller) = (box.out ≡ Nothing) × (box.node.turn ≡ None) × (takes asking dead poller ≡ take_of box.node)
+HasSaid box call = out_by call ≡ box.out
+
+-- a parcel is for a process that waits for a message or has stopped, and its block is new to the box, which has room for it
+pub record IsForBox (box : Box) (parcel : Parcel) : Type 0 where
+  pub eligible : IsTrue (is_eligible (ids_of is_receiving box.node.processes) (ids_of is_stopped box.node.processes) (mail parcel))
+  pub apart : ¬ (Contains (blocks_of box.node) parcel.block.id)
+  pub room : HasRoomFor box
+
+-- what is asked for is the node's: the start of a process that wasn't started, of an image of the list, a parcel for it, the end
+-- of a process that was started, or a poll of the one that polls longest
+abbrev pub IsWork : List ImageParts → Box → Heard → Type 0
+IsWork images box (Start pid image) = (pid < process_count) × ((process_at box.node pid).status ≡ Unborn) × (image < length images)
+IsWork images box (Mail parcel) = IsForBox box (parcel_of parcel)
+IsWork images box (Kill pid) = (pid < process_count) × ¬ ((process_at box.node pid).status ≡ Unborn)
+IsWork images box (Poll pid) = slice_get box.node.polling 0 ≡ Some pid
+IsWork images box other = Unit {0}
+
+-- the box can hear this answer: it is one to the call that it has said, and its work is the node's
+pub record CanHear (images : List ImageParts) (box : Box) (heard : Heard) : Type 0 where
+  pub call : Call
+  pub said : HasSaid box call
+  pub answer : IsAnswerTo call heard
+  pub work : IsWork images box heard

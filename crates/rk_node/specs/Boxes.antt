@@ -1,0 +1,32 @@
+-- A box as its callers see it.
+use Rattle.std.specs.Prelude.{◌≡◌, ℕ, ◌+◌, ◌*◌, ◌^◌, ◌<◌, ◌≤◌, [], length, replicate, None}
+use Rattle.ce_model.specs.Limits.{process_count, greatest_dim, home_blocks}
+use Rattle.ce_model.specs.Blocks.{blocks_of_home}
+use Rattle.ce_model.specs.Process.{unborn}
+use Rattle.ce_model.specs.Node.{Node, fresh, blocks_of}
+use Rattle.rk_node.specs.declared.out.Out.{Out}
+use Rattle.rk_node.specs.declared.out.Out.TheVariants.{Nothing}
+
+-- the node that it stands for, for how many blocks it has room, and which of the node's calls is out
+pub record Box : Type 0 where
+  pub node : Node
+  pub room : ℕ
+  pub out : Out
+
+-- the fresh node of this number, whose blocks have another home than their number
+abbrev pub fresh_at : ℕ → ℕ → ℕ → ℕ → Node
+fresh_at home r dim images = record (fresh r dim images) { home = home; store = blocks_of_home home }
+
+-- no process of the box was started, its own blocks are in its store, nothing is under way, and it has room for all blocks of the greatest cube
+pub record IsClean (box : Box) : Type 0 where
+  pub node : box.node ≡ fresh_at box.node.home box.node.number box.node.dim box.node.images
+  pub out : box.out ≡ Nothing
+  pub room : (2 ^ greatest_dim + 1) * home_blocks ≤ box.room
+
+-- the node of a box whose blocks were all taken away
+abbrev pub scrubbed : Node → Node
+scrubbed node = record node { processes = replicate process_count unborn; store = []; polling = []; turn = None }
+
+-- the box has room for a block more
+abbrev pub HasRoomFor : Box → Type 0
+HasRoomFor box = length (blocks_of box.node) < box.room

@@ -1,0 +1,10 @@
+pub mod Answering
+pub mod Boxes
+pub mod Hearings
+pub mod Laws
+pub mod Moves
+pub mod Standing
+pub mod Stocked
+pub mod Taken
+pub mod Whole
+pub mod Wording

@@ -1,0 +1,233 @@
+ghost use Rattle.std.specs.Prelude.{◌≡◌, ◌<◌, ◌≤◌, ◌||◌, not, nat_lt, length, slice_get, if◌then◌else◌, IsTrue, IsSome, IfSome, Some, None, []};
+ghost use Rattle.ce_model.specs.Limits.{process_count, window_count, block_room};
+ghost use Rattle.ce_model.specs.Space.{window_start, window_of, is_window_start, has_unused_window, named_in, block_named};
+ghost use Rattle.ce_model.specs.Node.{process_at, with_process};
+ghost use Rattle.ce_model.specs.Kernel.{gives_up, returns, stops, frees, maps_least, xmalloc, xfree, xlength};
+ghost use Rattle.xm_owner.specs.Holdings.{held_at};
+ghost use Rattle.rk_node.specs.Standing.{node_of, turn_of};
+ghost use Rattle.rk_node.specs.Stocked.{IsStocked, IsInTurn, HasRoom};
+ghost use Rattle.rk_node.specs.Moves.{with_mapped, IsNamed};
+ghost use Rattle.rk_node.specs.Wording.{Makes};
+
+use crate::node::Node;
+use crate::turn::{Did, Turn};
+use ce_model::{BLOCK_ROOM, Stop, WINDOW_BASE, WINDOW_COUNT, WINDOW_SIZE};
+use xm_block::Block;
+
+impl Node {
+    /// The block at a window of a process that the address names, by its window: the address is the start of a window that
+    /// holds one.
+    pub fn block_named(&self, pid: u32, address: u32) -> Result<u32, Stop>
+        requires stocked { IsStocked self.now }
+        requires pid { pid < process_count }
+        ensures { IsNamed (held_at self.now.held.mappings pid)
+            (block_named (process_at (node_of self.now) pid).space address) result }
+    {
+        match window_at(address) {
+            Some(window) => self.block_at(pid, window, address),
+            None => Err(Stop::NotABlock(address)),
+        }
+    }
+
+    /// The block at the window that begins at an address, by its window.
+    fn block_at(&self, pid: u32, window: u32, address: u32) -> Result<u32, Stop>
+        requires stocked { IsStocked self.now }
+        requires pid { pid < process_count }
+        requires window { window ≡ window_of address }
+        ensures { IsNamed (held_at self.now.held.mappings pid)
+            (named_in (slice_get (process_at (node_of self.now) pid).space.windows window) address)
+            result }
+    {
+        if window >= self.processes[pid as usize].windows() {
+            return Err(Stop::NotABlock(address));
+        }
+        match self.held.get(pid, window) {
+            Some(_) => Ok(window),
+            None => Err(Stop::Gone(address)),
+        }
+    }
+
+    /// A further window of the process can be used.
+    pub fn has_unused_window(&self, pid: u32) -> bool
+        requires stocked { IsStocked self.now }
+        requires pid { pid < process_count }
+        ensures { result ≡ has_unused_window (process_at (node_of self.now) pid).space }
+    {
+        self.processes[pid as usize].windows() < WINDOW_COUNT
+    }
+
+    /// Maps a block at the next window of a process, and answers where the window begins.
+    pub fn map(&mut self, pid: u32, block: Block) -> u32
+        requires stocked { IsStocked self.old }
+        requires pid { pid < process_count }
+        requires room { HasRoom self.old }
+        requires unused { IsTrue (has_unused_window (process_at (node_of self.old) pid).space) }
+        ensures start { result
+            ≡ window_start (length (process_at (node_of self.old) pid).space.windows) }
+        ensures node { node_of self.new ≡ with_process (node_of self.old) pid
+            (with_mapped block (process_at (node_of self.old) pid)) }
+        ensures stocked { IsStocked self.new }
+        ensures batch { self.new.batch ≡ self.old.batch }
+        ensures room { self.new.room ≡ self.old.room }
+    {
+        let process = &mut self.processes[pid as usize];
+        let window = process.give_window();
+        self.held.map(pid, window, block);
+        window_start(window)
+    }
+
+    /// Takes the block out of a window of a process, which holds one.
+    pub fn take_out(&mut self, pid: u32, window: u32) -> Block
+        requires stocked { IsStocked self.old }
+        requires pid { pid < process_count }
+        requires held { IsSome (held_at self.old.held.mappings pid window) }
+        ensures block { held_at self.old.held.mappings pid window ≡ Some result }
+        ensures node { node_of self.new ≡ with_process (node_of self.old) pid
+            (gives_up window (process_at (node_of self.old) pid)) }
+        ensures room { HasRoom self.new }
+        ensures stocked { IsStocked self.new }
+        ensures batch { self.new.batch ≡ self.old.batch }
+        ensures size { self.new.room ≡ self.old.room }
+    {
+        match self.held.unmap(pid, window) {
+            Some(block) => block,
+            None => unreachable!(),
+        }
+    }
+
+    /// The call returns at once.
+    pub fn returns(&mut self, turn: Turn, value: u32) -> Did
+        requires stocked { IsStocked self.old }
+        requires pid { turn.pid < process_count }
+        requires batch { self.old.batch ≡ Some [] }
+        ensures { Makes (λ node turn p. returns node turn p value)
+            self.old self.new (turn_of turn) (turn_of turn) result }
+    {
+        self.answer(turn.pid, value);
+        Did::GoesOn
+    }
+
+    /// The process of the turn stops.
+    pub fn stops(&mut self, turn: Turn, cause: Stop) -> Did
+        requires { IsInTurn self.old (turn_of turn) }
+        ensures { Makes (λ node turn p. stops node turn p cause)
+            self.old self.new (turn_of turn) (turn_of turn) result }
+    {
+        self.stop(turn.pid, cause);
+        Did::TurnEnds
+    }
+
+    /// xmalloc: the store's least block is mapped at the next window, with so many zero bytes; where that can't be, the answer
+    /// is 0.
+    pub fn xmalloc(&mut self, turn: Turn) -> Did
+        requires { IsInTurn self.old (turn_of turn) }
+        ensures { Makes xmalloc self.old self.new (turn_of turn) (turn_of turn) result }
+    {
+        let length = self.argument(turn.pid, 0);
+        if self.cannot_map(turn.pid, length) {
+            self.returns(turn, 0)
+        } else {
+            self.maps_least(turn, length)
+        }
+    }
+
+    /// A block of this length can't be mapped: it would be too long, or no window is left.
+    #[tactic(auto, unfolding(ce_model::specs::Limits::block_room))]
+    fn cannot_map(&self, pid: u32, length: u32) -> bool
+        requires stocked { IsStocked self.now }
+        requires pid { pid < process_count }
+        ensures { result ≡ (nat_lt block_room length
+            || not (has_unused_window (process_at (node_of self.now) pid).space)) }
+    {
+        length > BLOCK_ROOM || !self.has_unused_window(pid)
+    }
+
+    /// The store's least block is mapped at the next window; where the store is empty, the answer is 0.
+    fn maps_least(&mut self, turn: Turn, length: u32) -> Did
+        requires ready { IsInTurn self.old (turn_of turn) }
+        requires length { length ≤ block_room }
+        requires unused { IsTrue
+            (has_unused_window (process_at (node_of self.old) turn.pid).space) }
+        ensures { Makes (λ node turn p. maps_least node turn p length node.store)
+            self.old self.new (turn_of turn) (turn_of turn) result }
+    {
+        match self.store.take_least() {
+            None => self.returns(turn, 0),
+            Some(mut block) => {
+                block.reset(length);
+                let address = self.map(turn.pid, block);
+                self.returns(turn, address)
+            }
+        }
+    }
+
+    /// xfree: the block goes to the store.
+    pub fn xfree(&mut self, turn: Turn) -> Did
+        requires { IsInTurn self.old (turn_of turn) }
+        ensures { Makes xfree self.old self.new (turn_of turn) (turn_of turn) result }
+    {
+        match self.block_named(turn.pid, self.argument(turn.pid, 0)) {
+            Ok(window) => self.frees(turn, window),
+            Err(cause) => self.stops(turn, cause),
+        }
+    }
+
+    /// The block at a window goes to the store, and the answer is 0.
+    pub fn frees(&mut self, turn: Turn, window: u32) -> Did
+        requires ready { IsInTurn self.old (turn_of turn) }
+        requires held { IsSome (held_at self.old.held.mappings turn.pid window) }
+        ensures { IfSome (held_at self.old.held.mappings turn.pid window)
+            (λ block. Makes (λ node turn p. frees node turn p (window, block))
+            self.old self.new (turn_of turn) (turn_of turn) result) }
+    {
+        let block = self.take_out(turn.pid, window);
+        self.give(block);
+        self.returns(turn, 0)
+    }
+
+    /// xlength: the block's length.
+    pub fn xlength(&mut self, turn: Turn) -> Did
+        requires { IsInTurn self.old (turn_of turn) }
+        ensures { Makes xlength self.old self.new (turn_of turn) (turn_of turn) result }
+    {
+        match self.block_named(turn.pid, self.argument(turn.pid, 0)) {
+            Ok(window) => {
+                let length = self.length_at(turn.pid, window);
+                self.returns(turn, length)
+            }
+            Err(cause) => self.stops(turn, cause),
+        }
+    }
+
+    /// The length of the block at a window, which holds one.
+    fn length_at(&self, pid: u32, window: u32) -> u32
+        ensures { IfSome (held_at self.now.held.mappings pid window)
+            (λ block. result ≡ length block.bytes) }
+    {
+        match self.held.get(pid, window) {
+            Some(block) => block.length(),
+            None => 0,
+        }
+    }
+}
+
+/// Where a window begins.
+#[tactic(auto, unfolding(ce_model::specs::Limits::window_count, ce_model::specs::Limits::window_base, ce_model::specs::Limits::window_size))]
+fn window_start(window: u32) -> u32
+    requires { window < window_count }
+    ensures { result ≡ window_start window }
+{
+    WINDOW_BASE + window * WINDOW_SIZE
+}
+
+/// The window that begins at an address, if one does.
+#[tactic(auto, unfolding(ce_model::specs::Limits::window_base, ce_model::specs::Limits::window_size))]
+fn window_at(address: u32) -> Option<u32>
+    ensures { result ≡ (if is_window_start address then Some (window_of address) else None) }
+{
+    if address >= WINDOW_BASE && (address - WINDOW_BASE).is_multiple_of(WINDOW_SIZE) {
+        Some((address - WINDOW_BASE) / WINDOW_SIZE)
+    } else {
+        None
+    }
+}

@@ -1,0 +1,88 @@
+ghost use Rattle.std.specs.Prelude.{◌≡◌, IsTrue};
+ghost use Rattle.ce_model.specs.Kernel.{kernel_call, kernel_does, kernel};
+ghost use Rattle.rk_node.specs.Standing.{turn_of};
+ghost use Rattle.rk_node.specs.Stocked.{IsInTurn};
+ghost use Rattle.rk_node.specs.Wording.{Makes};
+ghost use Rattle.rk_node.specs.Moves.{mynode, mypid, nnodes, exit, is_counted_at};
+
+use crate::node::Node;
+use crate::turn::{Did, Turn};
+use ce_model::{Stop, TURN_CALLS};
+
+impl Node {
+    /// The call that the turn's process has made.
+    pub fn kernel(&mut self, turn: &mut Turn) -> Did
+        requires { IsInTurn self.old (turn_of turn.old) }
+        ensures made { Makes kernel self.old self.new (turn_of turn.old) (turn_of turn.new) result }
+        ensures left { turn.new.left ≡ turn.old.left }
+    {
+        let number = self.argument(turn.pid, 7);
+        match number {
+            1 => self.xmalloc(*turn),
+            2 => self.xfree(*turn),
+            3 => self.xlength(*turn),
+            4 | 5 | 8 | 9 | 14 => self.counted(number, turn),
+            6 => self.xrecv(*turn),
+            7 => self.xrecvb(*turn),
+            10 => self.mynode(*turn),
+            11 => self.mypid(*turn),
+            12 => self.nnodes(*turn),
+            13 => self.exit(*turn),
+            _ => self.stops(*turn, Stop::NoCall(number)),
+        }
+    }
+
+    /// A call that counts, whatever it answers: the one past the turn's limit isn't made.
+    fn counted(&mut self, number: u32, turn: &mut Turn) -> Did
+        requires ready { IsInTurn self.old (turn_of turn.old) }
+        requires counted { IsTrue (is_counted_at number) }
+        ensures made { Makes (kernel_does (kernel_call number))
+            self.old self.new (turn_of turn.old) (turn_of turn.new) result }
+        ensures left { turn.new.left ≡ turn.old.left }
+    {
+        if turn.calls >= TURN_CALLS {
+            return self.stops(*turn, Stop::TurnSpent);
+        }
+        turn.calls += 1;
+        match number {
+            4 => self.xsend(*turn),
+            5 => self.xmsend(*turn),
+            8 => self.spawn(*turn),
+            9 => self.ckill(*turn),
+            _ => self.note(*turn),
+        }
+    }
+
+    /// mynode: the node's number in its cube.
+    fn mynode(&mut self, turn: Turn) -> Did
+        requires { IsInTurn self.old (turn_of turn) }
+        ensures { Makes mynode self.old self.new (turn_of turn) (turn_of turn) result }
+    {
+        self.returns(turn, self.relative)
+    }
+
+    /// mypid: the process's id.
+    fn mypid(&mut self, turn: Turn) -> Did
+        requires { IsInTurn self.old (turn_of turn) }
+        ensures { Makes mypid self.old self.new (turn_of turn) (turn_of turn) result }
+    {
+        self.returns(turn, turn.pid)
+    }
+
+    /// nnodes: how many nodes the cube has.
+    fn nnodes(&mut self, turn: Turn) -> Did
+        requires { IsInTurn self.old (turn_of turn) }
+        ensures { Makes nnodes self.old self.new (turn_of turn) (turn_of turn) result }
+    {
+        self.returns(turn, self.nodes())
+    }
+
+    /// exit: the process stops.
+    fn exit(&mut self, turn: Turn) -> Did
+        requires { IsInTurn self.old (turn_of turn) }
+        ensures { Makes exit self.old self.new (turn_of turn) (turn_of turn) result }
+    {
+        let code = self.argument(turn.pid, 0);
+        self.stops(turn, Stop::Exited(code))
+    }
+}

@@ -1,0 +1,19 @@
+//! The kernel of a node, in a box: its processes, their blocks and its store, what it says and what it hears.
+#![tactic(auto)]
+
+mod blocks;
+mod hearing;
+mod kernel;
+mod laws;
+mod lives;
+mod messages;
+mod node;
+mod node_box;
+mod out;
+mod saying;
+mod scrubbing;
+mod turn;
+
+pub use laws::scrubbed_is_clean_law;
+pub use node_box::NodeBox;
+pub use out::Out;

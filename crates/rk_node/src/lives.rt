@@ -1,0 +1,61 @@
+ghost use Rattle.ce_model.specs.Kernel.{spawn, ckill};
+ghost use Rattle.rk_node.specs.Standing.{turn_of};
+ghost use Rattle.rk_node.specs.Stocked.{IsInTurn};
+ghost use Rattle.rk_node.specs.Wording.{Makes};
+ghost use Rattle.rk_node.specs.Moves.{note};
+
+use crate::node::Node;
+use crate::turn::{Did, Turn};
+use rk_mail::Say;
+
+impl Node {
+    /// spawn: an image is to be started as a process at a place.
+    pub fn spawn(&mut self, turn: Turn) -> Did
+        requires { IsInTurn self.old (turn_of turn) }
+        ensures { Makes spawn self.old self.new (turn_of turn) (turn_of turn) result }
+    {
+        let to = self.place_named(turn.pid, 1);
+        if !self.is_place(to) {
+            return self.returns(turn, 1);
+        }
+        let image = self.argument(turn.pid, 0);
+        if image >= self.images {
+            return self.returns(turn, 3);
+        }
+        self.says_call(
+            turn,
+            Say::Spawn {
+                pid: turn.pid,
+                image,
+                to,
+            },
+        )
+    }
+
+    /// ckill: the process at a place is to be ended.
+    pub fn ckill(&mut self, turn: Turn) -> Did
+        requires { IsInTurn self.old (turn_of turn) }
+        ensures { Makes ckill self.old self.new (turn_of turn) (turn_of turn) result }
+    {
+        let to = self.place_named(turn.pid, 0);
+        if !self.is_place(to) {
+            return self.returns(turn, 1);
+        }
+        self.says_call(turn, Say::Kill { pid: turn.pid, to })
+    }
+
+    /// note: the word goes into the trace.
+    pub fn note(&mut self, turn: Turn) -> Did
+        requires { IsInTurn self.old (turn_of turn) }
+        ensures { Makes note self.old self.new (turn_of turn) (turn_of turn) result }
+    {
+        let word = self.argument(turn.pid, 0);
+        self.says_call(
+            turn,
+            Say::Note {
+                pid: turn.pid,
+                word,
+            },
+        )
+    }
+}

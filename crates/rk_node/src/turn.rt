@@ -1,0 +1,20 @@
+use rk_mail::Say;
+
+/// The turn of a process: its id, how many instructions it may still run, and how many counted calls it has made.
+#[derive(Clone, Copy, Debug, PartialEq, Eq)]
+pub(crate) struct Turn {
+    pub pid: u32,
+    pub left: u32,
+    pub calls: u32,
+}
+
+/// What a kernel call comes to.
+#[derive(Drop)]
+pub(crate) enum Did {
+    /// The turn goes on.
+    GoesOn,
+    /// The node says this.
+    Leaves(Say),
+    /// The turn is over.
+    TurnEnds,
+}
