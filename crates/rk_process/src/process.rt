@@ -1,4 +1,6 @@
-ghost use Rattle.std.specs.Prelude.{◌≡◌, ◌<◌, ◌+◌, IfOk, slice_index, slice_set, ℕ};
+ghost use Rattle.std.specs.Prelude.{◌≡◌, ◌≤◌, ◌<◌, ◌+◌, [], length, IfOk, IsTrue, slice_index, slice_set, ℕ};
+ghost use Rattle.rv_model.specs.Image.{image_room};
+ghost use Rattle.rv_model.specs.Private.{with_loaded};
 ghost use Rattle.ce_model.specs.Limits.{window_count};
 ghost use Rattle.ce_model.specs.Process.{started, reached, register_count};
 ghost use Rattle.ce_model.specs.Space.{loaded_at};
@@ -32,14 +34,20 @@ pub struct Process {
     registers: Regs,
     pc: u32,
     memory: ProcessMemory,
+    /// Whether private memory is known to hold zeros alone, so that nothing need be wiped.
+    blank: bool,
 }
 
 impl Model for Process {
+    ghost use Rattle.std.specs.Prelude.{◌≡◌, IsTrue, []};
+    ghost use Rattle.rv_model.specs.Private.{with_loaded};
     ghost use Rattle.rk_process.specs.Seen.{Own};
 
     ghost Value = { Own };
 
     ghost view = { λ p. record { status = p.status; regs = p.registers.x; pc = p.pc; private = p.memory.private; used = p.memory.windows.used } };
+
+    ghost invariant = { λ p. IsTrue p.blank → p.memory.private ≡ with_loaded [] };
 }
 
 impl Process {
@@ -56,6 +64,7 @@ impl Process {
                 held: Held::new(alloc, 0)?,
                 windows: Windows { pid: 0, used: 0 },
             },
+            blank: true,
         })
     }
 
@@ -69,7 +78,8 @@ impl Process {
         ensures running { self.new.status ≡ Status.Running }
         ensures windows { self.new.used ≡ 0 }
     {
-        self.memory.private.load_image(image.loaded());
+        load(&mut self.memory.private, self.blank, image.loaded());
+        self.blank = false;
         self.memory.windows.used = 0;
         self.registers = Regs::new();
         self.registers.set(SP, PRIVATE_END);
@@ -125,11 +135,14 @@ impl Process {
         self.registers.set(A0, value);
     }
 
-    /// Makes it a process that wasn't started yet.
+    /// Makes it a process that wasn't started yet. Memory that holds zeros alone isn't written.
     pub fn reset(&mut self)
         ensures { self.new ≡ unborn_own }
     {
-        self.memory.private.load_image(&[]);
+        if !self.blank {
+            self.memory.private.load_image(&[]);
+            self.blank = true;
+        }
         self.memory.windows.used = 0;
         self.registers = Regs::new();
         self.pc = 0;
@@ -158,11 +171,25 @@ impl Process {
         ensures status { self.new.status ≡ self.old.status }
         ensures rest { rest_of pid self.new.used held.new ≡ rest_of pid self.old.used held.old }
     {
+        self.blank = false;
         self.memory.windows.pid = pid;
         mem::swap(&mut self.memory.held, held);
         let paused = run(&mut self.registers, &mut self.pc, &mut self.memory, left);
         mem::swap(&mut self.memory.held, held);
         paused
+    }
+}
+
+/// Makes private memory begin with these bytes, and end in zeros. Where it is blank, no zeros are written.
+fn load(private: &mut PrivateMemory, blank: bool, loaded: &[u8])
+    requires blank { IsTrue blank → private.old ≡ with_loaded [] }
+    requires room { length loaded.now ≤ image_room }
+    ensures { private.new ≡ with_loaded loaded.now }
+{
+    if blank {
+        private.load_into_zeros(loaded);
+    } else {
+        private.load_image(loaded);
     }
 }
 

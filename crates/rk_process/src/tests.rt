@@ -160,6 +160,23 @@ fn run_to_a_call(rt: HostRuntime) -> Result<(), Fail> {
     Ok(())
 }
 
+// lui t0, 0x10; sw sp, 64(t0); ecall. What the process wrote is gone once it is reset and starts anew.
+#[test]
+fn memory_starts_anew(rt: HostRuntime) -> Result<(), Fail> {
+    let mut held = Held::new(rt.alloc(), 0)?;
+    let mut process = Process::new(rt.alloc())?;
+    process.start(&image(rt.alloc(), &[0x0001_02B7, 0x0422_A023, 0x0000_0073])?);
+    let mut left = 10;
+    assert_eq!(rt; process.run_to_call(0, &mut held, &mut left), Paused::Call);
+    assert_eq!(rt; process.load_word(0, &held, ENTRY + 64), Ok(0x0003_0000));
+    process.reset();
+    process.start(&image(rt.alloc(), &[0x0000_0073])?);
+    assert_eq!(rt; process.load_word(0, &held, ENTRY), Ok(0x0000_0073));
+    assert_eq!(rt; process.load_word(0, &held, ENTRY + 4), Ok(0));
+    assert_eq!(rt; process.load_word(0, &held, ENTRY + 64), Ok(0));
+    Ok(())
+}
+
 // A loop that jumps to itself. With nothing left it stops before anything is fetched.
 #[test]
 fn turn_spent(rt: HostRuntime) -> Result<(), Fail> {

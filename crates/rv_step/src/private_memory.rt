@@ -1,4 +1,4 @@
-ghost use Rattle.std.specs.Prelude.{◌≡◌, ◌≤◌, ◌+◌, ◌-◌, ◌*◌, ◌/◌, ◌%◌, ◌++◌, ◌==◌, ◌&&◌, ℕ, IfOk, IfSome, length, replicate, Some, None, if◌then◌else◌};
+ghost use Rattle.std.specs.Prelude.{◌≡◌, ◌≤◌, ◌+◌, ◌-◌, ◌*◌, ◌/◌, ◌%◌, ◌++◌, ◌==◌, ◌&&◌, ℕ, [], IfOk, IfSome, length, drop, replicate, Some, None, if◌then◌else◌};
 ghost use Rattle.rv_model.specs.Exec.{IsAccessSize};
 ghost use Rattle.rv_model.specs.Image.{image_room};
 ghost use Rattle.rv_model.specs.declared.limits.TheConstants.{PRIVATE_START, PRIVATE_SIZE};
@@ -51,6 +51,16 @@ impl PrivateMemory {
         overwrite(self.bytes.as_mut_slice(), loaded);
     }
 
+    /// The same, where the memory holds zeros alone: only the bytes of `loaded` are written.
+    #[tactic(auto, using(crate::proofs::Zeros::loaded_into_zeros))]
+    pub fn load_into_zeros(&mut self, loaded: &[u8])
+        requires zeros { self.old ≡ with_loaded [] }
+        requires room { length loaded.now ≤ image_room }
+        ensures { self.new ≡ with_loaded loaded.now }
+    {
+        overwrite_front(self.bytes.as_mut_slice(), loaded);
+    }
+
     /// All the bytes, that at address 0x0001_0000 first.
     pub fn bytes(&self) -> &[u8]
         ensures value { result.now ≡ self.now }
@@ -66,6 +76,15 @@ fn size() -> usize
     ensures { result ≡ private_size }
 {
     PRIVATE_SIZE as usize
+}
+
+/// Makes the first bytes those of `front`, and leaves all others as they are.
+fn overwrite_front(bytes: &mut [u8], front: &[u8])
+    requires { length front.now ≤ length bytes.old }
+    ensures { bytes.new ≡ front.now ++ drop (length front.now) bytes.old }
+{
+    let (start, _) = bytes.split_at_mut(front.len());
+    start.copy_from_slice(front);
 }
 
 /// Makes the first bytes those of `front`, and all others 0.

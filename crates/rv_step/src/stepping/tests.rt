@@ -352,6 +352,9 @@ fn stops(rt: HostRuntime) -> Result<(), Fail> {
 #[test]
 fn calls(rt: HostRuntime) -> Result<(), Fail> {
     let mut memory = PrivateMemory::new(rt.alloc())?;
+    memory.load_into_zeros(&[0x6F, 0, 0, 0, 9]);
+    assert_eq!(rt; memory.load(START, 4), Ok(0x6F));
+    assert_eq!(rt; memory.load(NEXT, 4), Ok(9));
     let regs = registers(1, 2, 3);
     check(&rt, &mut memory, 0x00000073, regs, Event::Call, regs, NEXT);
     memory.load_image(&[0x13, 0, 0, 0, 7]);
