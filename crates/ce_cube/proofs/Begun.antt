@@ -12,7 +12,7 @@ use Rattle.ce_solo.proofs.Stands.{left_by-nil}
 use Rattle.ce_solo.proofs.Projection.Views.{found-new, view-is}
 use Rattle.ce_solo.proofs.Projection.Held.{granted-own}
 use Rattle.ce_solo.proofs.Projection.Law.{projected, after-more}
-use Rattle.ce_cube.specs.Boxes.{IsInStep, granting}
+use Rattle.ce_cube.specs.Boxes.{IsInStep, grant_entry}
 use Rattle.ce_cube.specs.Laws.{GrantsBegin}
 
 -- a fresh node asks for work
@@ -30,17 +30,17 @@ fresh-in_step grant node r dim images is =
 
 pub grants-begin : GrantsBegin
 grants-begin parts history grant machine lawful fits is =
-    let h' = history ++ granting grant ∷ [] in
+    let h' = history ++ grant_entry grant ∷ [] in
     let own = cube_of parts.images grant in
     let count = (projected parts history machine lawful).count in
     let trace : view h' (after history).grant_count ≡ [] =
-    ap (view h') count ∙ view-is h' _ grant [] (found-new history (granting grant) grant refl) in
+    ap (view h') count ∙ view-is h' _ grant [] (found-new history (grant_entry grant) grant refl) in
     let nodes = λ (r : ℕ). ap (state own (opening own) r) trace ∙ ap (λ (s : CubeState). s.node r) (left_by-nil own (opening own)) in
     record {
-      lawful = each-more (IsLawfulEntry parts) history (granting grant) lawful (record { request = getcube grant.dim; fits = fits; answer = is });
+      lawful = each-more (IsLawfulEntry parts) history (grant_entry grant) lawful (record { request = getcube grant.dim; fits = fits; answer = is });
       held = record {
         cube = record { number = (after history).grant_count; grant = grant; drained = false; armed = 0; dispatched = 0; parcel_count = 0; mail = [] };
-        held = ap (λ (state : MachineState). held_by state grant.user) (after-more history (granting grant)) ∙ granted-own grant (after history) fits.1.2;
+        held = ap (λ (state : MachineState). held_by state grant.user) (after-more history (grant_entry grant)) ∙ granted-own grant (after history) fits.1.2;
         number_is = refl;
         grant_is = refl;
         goes_on = refl;

@@ -1,5 +1,5 @@
 -- How a round of a crew goes on, turn by turn.
-use Rattle.std.proofs.Common.{◌≡◌, ◌≢◌, ◌==◌, ℕ, suc, ◌+◌, ◌-◌, ◌^◌, ◌<◌, ◌≤◌, ◌||◌, Bool, true, false, if◌then◌else◌, IsTrue, List, [], ◌∷◌, ◌++◌, length, map, set, Option, Some, None, refl, ap, ap₂, sym, ◌∙◌, subst, inl, inr, arith, length-append, append_assoc, append-nil, get_or-set_same, get_or-set_other}
+use Rattle.std.proofs.Common.{◌≡◌, ◌==◌, ℕ, suc, ◌+◌, ◌-◌, ◌^◌, ◌<◌, ◌≤◌, ◌||◌, Bool, true, false, if◌then◌else◌, IsTrue, List, [], ◌∷◌, ◌++◌, length, map, set, Option, Some, None, refl, ap, ap₂, sym, ◌∙◌, subst, inl, inr, arith, length-append, append_assoc, append-nil, get_or-set_same, get_or-set_other}
 use Rattle.std.specs.Prelude.{is_some, filter, take_while, not, ◌&&◌}
 use Rattle.std.specs.Option.{option_map_or}
 use Rattle.std.proofs.lemmas.Bool.{cases_Bool, eqb-true, both_ways, eq-eqb}
@@ -10,11 +10,10 @@ use Rattle.ce_model.specs.declared.entry.Entry.{Entry}
 use Rattle.ce_model.specs.Answers.{call_of}
 use Rattle.ce_model.specs.Renaming.{CubeGrant, entry_inward, block_outward}
 use Rattle.ce_model.specs.Views.{view, from_grant, grant_by, grant_or_later, is_drain, trace_behind}
-use Rattle.ce_model.specs.Machine.{MachineParts, IsMachine, IsLawful}
+use Rattle.ce_model.specs.Machine.{IsMachine}
 use Rattle.ce_solo.proofs.Lists.{all-append}
 use Rattle.ce_solo.proofs.Projection.Numbers.{few_relative}
 use Rattle.ce_daemon.specs.declared.grant.Grant.{Grant}
-use Rattle.ce_host.specs.declared.host.Host.{Host}
 use Rattle.rk_node.specs.Boxes.{Box, fresh_at}
 use Rattle.rk_node.specs.declared.out.Out.TheVariants.{Nothing}
 use Rattle.ce_machine.specs.Meanings.{MachineFacts}
@@ -22,10 +21,9 @@ use Rattle.ce_script.specs.Rounds.{has_work, IsTurn}
 use Rattle.ce_cube.specs.declared.crew.SerialCrew.{SerialCrew}
 use Rattle.ce_cube.specs.Boxes.{IsHeldAs, IsInStep}
 use Rattle.ce_cube.specs.Rounds.{IsPartOfRound}
-use Rattle.ce_cube.specs.Crews.{IsLawfulMachine, IsReady, AreBoxesInStep, IsHostInStep, IsCrewInStep, HasGoneOn, HasMadeRound, AreCallsOf, box_at, cube_grant}
+use Rattle.ce_cube.specs.Crews.{HasStopped, IsLawfulMachine, IsReady, AreBoxesInStep, IsHostInStep, IsCrewInStep, HasGoneOn, HasMadeRound, AreCallsOf, box_at, cube_grant}
 use Rattle.ce_cube.specs.Exchanges.{HasNode, IsTurning, HasTakenTurn, IsRoundUnderWay, node_in, left_in}
 use Rattle.ce_cube.proofs.Held.{seen, by_cube}
-use Rattle.ce_cube.proofs.Onward.{or_count}
 use Rattle.ce_cube.proofs.Rounds.{are-made}
 
 -- ---- a view has no more entries than the history
@@ -183,6 +181,12 @@ module _ (m m' : MachineFacts) (crew crew' : SerialCrew) (r count : ℕ) (box : 
 
 -- ---- a round
 
+or_count : (a b : Bool) → (if a || b then 1 else 0) ≤ (if a then 1 else 0) + (if b then 1 else 0)
+or_count true true = omega arith
+or_count true false = omega arith
+or_count false true = omega arith
+or_count false false = omega arith
+
 -- the machine is lawful still
 pub still-sound : (m now : MachineFacts) (crew crew' : SerialCrew) (made : List Entry) → IsLawfulMachine m → HasGoneOn m now crew crew' made → IsLawfulMachine now
 still-sound m now crew crew' made sound on = record { within = subst IsMachine (sym on.parts) sound.within; lawful = on.lawful }
@@ -241,6 +245,18 @@ round-goes_on m now now' crew crew' crew'' r work more way taken =
       left = omega (arith, way.left, left, or_count work more);
       host = taken.host ∙ way.host;
     }
+
+-- a turn that was stopped leaves what the round has made, and its own calls
+pub stopped-round : (m now now' : MachineFacts) (crew crew' : SerialCrew) (r : ℕ) (work : Bool) → IsRoundUnderWay m now crew crew' r work
+    → HasStopped now now' crew'.grant.user → HasStopped m now' crew.grant.user
+stopped-round m now now' crew crew' r work way stopped = record {
+  made = way.made ++ stopped.made;
+  parts = stopped.parts ∙ way.goes_on.parts;
+  history = stopped.history ∙ ap (λ h. h ++ stopped.made) way.goes_on.history ∙ append_assoc m.history way.made stopped.made;
+  lawful = stopped.lawful;
+  calls = all-append (λ (entry : Entry). (entry.user ≡ crew.grant.user) × IsTrue (is_some (call_of entry.what))) way.made stopped.made way.goes_on.calls
+      (subst (λ (g : Grant). AreCallsOf g.user stopped.made) way.goes_on.grant stopped.calls);
+}
 
 pub round-stops : (m now : MachineFacts) (crew crew' : SerialCrew) (work : Bool) → IsRoundUnderWay m now crew crew' (2 ^ crew.grant.dim) work
     → HasMadeRound m now crew crew' work

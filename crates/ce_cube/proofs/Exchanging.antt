@@ -1,19 +1,15 @@
 -- What the machine's answer to a call of a box makes of the machine and of the box.
-use Rattle.std.proofs.Common.{◌≡◌, ◌⊎◌, inl, inr, ◌==◌, ℕ, ◌+◌, ◌*◌, ◌^◌, ◌<◌, ◌≤◌, Bool, true, false, if◌then◌else◌, List, [], ◌∷◌, ◌++◌, length, count_by, map, Option, Some, None, IsTrue, IsFalse, IsSomeAnd, option_map, slice_get, refl, ap, sym, ◌∙◌, subst, arith}
+use Rattle.std.proofs.Common.{◌≡◌, inl, ◌==◌, ℕ, ◌+◌, ◌*◌, ◌^◌, ◌<◌, ◌≤◌, false, List, [], ◌∷◌, ◌++◌, length, Option, Some, None, IsTrue, IsFalse, IsSomeAnd, option_map, slice_get, refl, ap, sym, ◌∙◌, subst, arith}
 use Rattle.std.specs.List.{Contains}
 use Rattle.std.specs.Prelude.{is_some}
 use Rattle.std.proofs.lemmas.Bool.{eq-eqb, ne_eqb, both_ways}
-use Rattle.rv_image.specs.declared.image.Image.{Image}
 use Rattle.rv_model.specs.Image.{ImageParts}
 use Rattle.ce_model.specs.declared.process.Status.{Status}
 use Rattle.ce_model.specs.declared.process.Status.TheVariants.{Unborn, Running, Asking, Polling, Stopped}
-use Rattle.ce_model.specs.declared.topology.TheConstants.{HOST}
-use Rattle.ce_model.specs.declared.topology.BlockId.{BlockId}
 use Rattle.ce_model.specs.declared.entry.Entry.{Entry}
 use Rattle.ce_model.specs.declared.entry.What.{What}
 use Rattle.ce_model.specs.declared.entry.What.TheVariants as entry
 use Rattle.ce_model.specs.Limits.{greatest_dim, greatest_nodes_lem, home_blocks}
-use Rattle.ce_model.specs.Blocks.{is_same_id}
 use Rattle.ce_model.specs.Parcels.{Item, mail, is_eligible}
 use Rattle.ce_model.specs.Process.{is_receiving, is_stopped}
 use Rattle.ce_model.specs.Answers.{answer, call_of}
@@ -26,8 +22,8 @@ use Rattle.ce_solo.proofs.Renaming.Grants.{few_nodes}
 use Rattle.ce_model.specs.Node.{Node, Call, process_at, blocks_of, ids_of}
 use Rattle.ce_model.specs.Saying.{says}
 use Rattle.ce_model.specs.Sound.{is_unborn}
-use Rattle.ce_model.specs.Renaming.{CubeGrant, entry_inward}
-use Rattle.ce_model.specs.Machine.{MachineParts, MachineState, IsMachine, IsLawful, Fits, held_by, in_cube, after, answered, HeldCube, nodes_of, standing_of, with_places_outward}
+use Rattle.ce_model.specs.Renaming.{CubeGrant}
+use Rattle.ce_model.specs.Machine.{MachineParts, MachineState, Fits, held_by, in_cube, after, answered, HeldCube, nodes_of, standing_of, with_places_outward}
 use Rattle.ce_daemon.specs.declared.grant.Grant.{Grant}
 use Rattle.rk_mail.specs.declared.talk.Heard.{Heard}
 use Rattle.rk_mail.specs.declared.talk.Heard.TheVariants as heard
@@ -36,11 +32,11 @@ use Rattle.rk_mail.specs.Talk.{IsHeardIn, IsAnswerTo, call_said, heard_as}
 use Rattle.rk_node.specs.Boxes.{Box}
 use Rattle.rk_node.specs.declared.out.Out.TheVariants.{Nothing}
 use Rattle.rk_node.proofs.Names.{not_contained}
-use Rattle.rk_node.specs.Answering.{HasSaid, CanHear, IsWork}
+use Rattle.rk_node.specs.Answering.{CanHear, IsWork}
 use Rattle.ce_host.specs.Hosts.{host_room}
 use Rattle.ce_machine.specs.declared.call.Reply.{Reply}
 use Rattle.ce_machine.specs.declared.call.Reply.TheVariants.{Heard as ReplyHeard}
-use Rattle.ce_machine.specs.Replies.{IsReplyTo, IsHeard, IfHeld, items_for, found_reply}
+use Rattle.ce_machine.specs.Replies.{IsReplyTo, IsHeard, OfHeldCube, items_for, found_reply}
 use Rattle.ce_model.specs.declared.entry.Found.{Found}
 use Rattle.ce_model.specs.declared.entry.Found.TheVariants.{Quiet, Spent, Busy}
 use Rattle.ce_machine.specs.declared.call.Call.TheVariants.{Say as SaySaid}
@@ -54,7 +50,7 @@ use Rattle.ce_cube.specs.Boxes.{IsSaidBy, IsMadeBy, node_now}
 use Rattle.ce_cube.specs.Hearable.{IsHearable, IsRightAnswer, calls_left}
 use Rattle.ce_cube.specs.Rounds.{is_work_heard}
 use Rattle.ce_cube.specs.Crews.{cube_grant}
-use Rattle.ce_cube.specs.Exchanges.{HasNode, HasCalled, HasExchanged}
+use Rattle.ce_cube.specs.Exchanges.{HasNode, HasSaidCall, HasExchanged}
 use Rattle.ce_cube.proofs.Held.{Seen, seen, by_cube}
 use Rattle.ce_cube.proofs.Seats.{node-said}
 use Rattle.ce_cube.proofs.Says.{boxes-say}
@@ -80,7 +76,7 @@ heard-not_found heard Busy is = absurd (cc)
 -- a machine that lets hear replies to a call of a cube, in what waited for its actor
 pub heard-reply : {N : Type 0} (home : N → ℕ) (clean : N → Type 0) (parts : MachineParts) (state : MachineState) (user actor : ℕ) (what : What) (heard : Heard)
     → IsReplyTo home clean parts state user actor what (ReplyHeard heard)
-    → IfHeld state user (λ cube. IsHeardIn (items_for state cube actor) what heard)
+    → OfHeldCube state user (λ cube. IsHeardIn (items_for state cube actor) what heard)
 heard-reply home clean parts state user actor (entry.Getcube dim None) heard is = absurd (cc)
 heard-reply home clean parts state user actor (entry.Getcube dim (Some sub)) heard is = absurd is
 heard-reply home clean parts state user actor entry.Peek heard is = absurd (cc)
@@ -166,7 +162,7 @@ facts-are m parts history parts_is history_is = λ i. record { parts = parts_is 
 -- ---- an exchange
 
 -- the list of images that the program has, as the model has it, is just the machine's
-module _ (m : MachineFacts) (grant : Grant) (r : ℕ) (node : HasNode m grant r) (box box' : Box) (call : Call) (called : HasCalled m grant r box box' call) where
+module _ (m : MachineFacts) (grant : Grant) (r : ℕ) (node : HasNode m grant r) (box box' : Box) (call : Call) (called : HasSaidCall m grant r box box' call) where
   abbrev cg : CubeGrant
   cg = cube_grant grant
 
@@ -208,7 +204,7 @@ module _ (m : MachineFacts) (grant : Grant) (r : ℕ) (node : HasNode m grant r)
 
   -- the machine's entry and its reply
   module _ (what : What) (heard : Heard) (answered_so : answered m.parts (after m.history) grant.user (node_of grant.sub r) (in_cube call) ≡ Some what)
-      (reply : IfHeld (after m.history) grant.user (λ cube. IsHeardIn (items_for (after m.history) cube (node_of grant.sub r)) what heard)) where
+      (reply : OfHeldCube (after m.history) grant.user (λ cube. IsHeardIn (items_for (after m.history) cube (node_of grant.sub r)) what heard)) where
     abbrev pub made : Entry
     made = record { user = grant.user; actor = node_of grant.sub r; what = what }
 
@@ -294,9 +290,9 @@ module _ (m : MachineFacts) (grant : Grant) (r : ℕ) (node : HasNode m grant r)
         subst (λ actor. answered m.parts (after m.history) grant.user actor (in_cube call) ≡ Some entry.what) at
         (subst (λ call. answered m.parts (after m.history) grant.user actor (in_cube call) ≡ Some entry.what) (sym is_said) stands.answer)
 
-    reply : IfHeld (after m.history) grant.user (λ cube. IsHeardIn (items_for (after m.history) cube (node_of grant.sub r)) entry.what heard)
+    reply : OfHeldCube (after m.history) grant.user (λ cube. IsHeardIn (items_for (after m.history) cube (node_of grant.sub r)) entry.what heard)
     reply =
-        subst (λ actor. IfHeld (after m.history) grant.user (λ cube. IsHeardIn (items_for (after m.history) cube actor) entry.what heard)) at
+        subst (λ actor. OfHeldCube (after m.history) grant.user (λ cube. IsHeardIn (items_for (after m.history) cube actor) entry.what heard)) at
         (heard-reply {N = N} home clean m.parts (after m.history) grant.user actor entry.what heard stands.reply_is)
 
     pub stands-hear : CanHear m.parts.images box' heard

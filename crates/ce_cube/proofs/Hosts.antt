@@ -30,7 +30,7 @@ use Rattle.ce_solo.proofs.Room.{held_blocks, few-blocks}
 use Rattle.ce_solo.proofs.Renaming.Grants.{renaming}
 use Rattle.ce_solo.proofs.Projection.Numbers.{IsPlaced, relative_host, block_in_out}
 use Rattle.ce_solo.proofs.Projection.Law.{projected, after-more}
-use Rattle.ce_cube.specs.Boxes.{draining, store_now, IsMadeBy, IsAccepted}
+use Rattle.ce_cube.specs.Boxes.{drain_entry, store_now, IsMadeBy, IsAccepted}
 use Rattle.ce_cube.specs.Laws.{ArmsAllow, DrainsFit, HostsFit, HostsSend, HostsTake}
 use Rattle.ce_cube.specs.Rounds.{dispatches_left}
 use Rattle.ce_model.proofs.Walked.{each-more}
@@ -171,16 +171,16 @@ module _ (parts : MachineParts) (history : List Entry) (machine : IsMachine part
         (refl, subst (λ held. IsSomeAnd held (λ one. one.drained ≡ false)) (sym holds) goes),
       )
 
-  drained_held : held_by (after (history ++ draining cube.grant ∷ [])) cube.grant.user ≡ Some (record cube { drained = true; mail = [] })
+  drained_held : held_by (after (history ++ drain_entry cube.grant ∷ [])) cube.grant.user ≡ Some (record cube { drained = true; mail = [] })
   drained_held =
-      ap (λ (state : MachineState). held_by state cube.grant.user) (after-more history (draining cube.grant))
+      ap (λ (state : MachineState). held_by state cube.grant.user) (after-more history (drain_entry cube.grant))
       ∙ held-own cube.grant.user (λ one. record one { drained = true; mail = [] }) (λ one. refl) (λ one node kept. record kept { waiting = [] }) (after history) cube holds
 
-  drains-fit : Fits parts history cube.grant.user HOST drain × IsLawful parts (history ++ draining cube.grant ∷ [])
-      × Fits parts (history ++ draining cube.grant ∷ []) cube.grant.user HOST freecube
+  drains-fit : Fits parts history cube.grant.user HOST drain × IsLawful parts (history ++ drain_entry cube.grant ∷ [])
+      × Fits parts (history ++ drain_entry cube.grant ∷ []) cube.grant.user HOST freecube
   drains-fit = (
     drain-fits,
-    each-more (IsLawfulEntry parts) history (draining cube.grant) lawful (record { request = drain; fits = drain-fits; answer = refl }),
+    each-more (IsLawfulEntry parts) history (drain_entry cube.grant) lawful (record { request = drain; fits = drain-fits; answer = refl }),
     (drain-fits.0, (refl, subst (λ held. IsSomeAnd held (λ one. one.drained ≡ true)) (sym drained_held) refl)),
   )
 
@@ -289,6 +289,6 @@ arms-allow parts history number grant machine lawful held count entry within mad
 pub drains-fit-held : DrainsFit
 drains-fit-held parts history number grant machine lawful held =
     by_cube
-    (λ number grant. Fits parts history grant.user HOST drain × IsLawful parts (history ++ draining grant ∷ [])
-    × Fits parts (history ++ draining grant ∷ []) grant.user HOST freecube) history number grant
+    (λ number grant. Fits parts history grant.user HOST drain × IsLawful parts (history ++ drain_entry grant ∷ [])
+    × Fits parts (history ++ drain_entry grant ∷ []) grant.user HOST freecube) history number grant
     (λ cube holds goes. drains-fit parts history machine lawful cube holds goes) held

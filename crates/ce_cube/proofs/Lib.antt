@@ -18,7 +18,6 @@ pub mod Whole
 pub mod Stores
 pub mod Begun
 pub mod Hosts
-pub mod Onward
 pub mod Exchanging
 pub mod Turning
 pub mod Crewing

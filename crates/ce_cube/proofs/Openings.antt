@@ -20,7 +20,7 @@ use Rattle.ce_host.specs.Hosts.{host_room}
 use Rattle.rk_node.specs.Boxes.{Box, IsClean, fresh_at}
 use Rattle.ce_cube.specs.Boxes.{IsInStep, node_now}
 use Rattle.ce_cube.specs.Crews.{box_at, IsReady, AreBoxesInStep, cube_grant}
-use Rattle.ce_cube.specs.Homecoming.{entered}
+use Rattle.ce_cube.specs.Homecoming.{entered_box}
 
 module _ (grant : CubeGrant) where
   abbrev outward : BlockId → BlockId
@@ -85,8 +85,8 @@ module _ (grant : CubeGrant) where
 module _ (grant : Grant) (parts : MachineParts) (history : List Entry) (images : ℕ) (boxes now : List Box) (dim : grant.dim ≤ greatest_dim)
     (begins : view history grant.number ≡ []) (same : length parts.images ≡ images) (clean : AreBoxesOf (λ (box : Box). box.node.home) IsClean grant boxes)
     (long : length now ≡ length boxes)
-    (each : (r : ℕ) (other : Box) → r < length boxes → slice_index_or now r other ≡ entered grant.dim images r (slice_index_or boxes r other)) where
-  entered-at : (r : ℕ) → r < 2 ^ grant.dim → box_at now r ≡ entered grant.dim images r (box_at boxes r)
+    (each : (r : ℕ) (other : Box) → r < length boxes → slice_index_or now r other ≡ entered_box grant.dim images r (slice_index_or boxes r other)) where
+  entered-at : (r : ℕ) → r < 2 ^ grant.dim → box_at now r ≡ entered_box grant.dim images r (box_at boxes r)
   entered-at r below = each r (box_at [] r) (omega (arith, below, clean.all))
 
   ready : (r : ℕ) → r < 2 ^ grant.dim → IsReady (box_at now r)

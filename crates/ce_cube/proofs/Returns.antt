@@ -28,7 +28,7 @@ use Rattle.rk_node.specs.Boxes.{Box, IsClean}
 use Rattle.rk_node.specs.Hearings.{AreApartFrom}
 use Rattle.ce_cube.specs.Crews.{box_at, HoldAllBlocks, IsHostAtHome}
 use Rattle.ce_cube.specs.Rehoming.{is_block_of, AreAllBlocks}
-use Rattle.ce_cube.specs.Homecoming.{IsIdle, IsEmptied, names_in_boxes, emptied, refilled, names_at_home, BeginsWith}
+use Rattle.ce_cube.specs.Homecoming.{IsIdle, IsEmptied, names_in_boxes, emptied_box, refilled_box, names_at_home, BeginsWith}
 use Rattle.ce_cube.proofs.Homes.{names_of_cube, length-cube, length-whole, whole-store}
 
 -- ---- lists by index
@@ -66,7 +66,7 @@ no_windows : (n : ℕ) → flat_map (λ p. mapped_ids p.space) (replicate n unbo
 no_windows zero = refl
 no_windows (suc n) = no_windows n
 
-clean : (box : Box) → IsIdle box → host_room ≤ box.room → IsClean (refilled (emptied box))
+clean : (box : Box) → IsIdle box → host_room ≤ box.room → IsClean (refilled_box (emptied_box box))
 unfolding host_room
 clean box idle room = record { node = refl; out = idle; room = room }
 
@@ -161,10 +161,10 @@ module _ (grant : CubeGrant) (boxes : List Box) (host : Host) (drained : List Bl
   room-at : (r : ℕ) (d : Box) → r < length boxes → host_room ≤ (get_or boxes r d).room
   room-at r d below = subst (λ (box : Box). host_room ≤ box.room) (ready-at r d below) (holds.ready r (omega (arith, below, holds.all))).room
 
-  pub boxes-emptied : (some : List Box) → some ≡ map emptied boxes → All IsEmptied some
+  pub boxes-emptied : (some : List Box) → some ≡ map emptied_box boxes → All IsEmptied some
   boxes-emptied some are r d below =
-      let within : r < length boxes = omega (arith, below, ap (λ xs. length xs) are, length-map boxes emptied) in
-      let is : get_or some r d ≡ emptied (get_or boxes r d) = ap (λ xs. get_or xs r d) are ∙ get_or-map emptied boxes r d d within in
+      let within : r < length boxes = omega (arith, below, ap (λ xs. length xs) are, length-map boxes emptied_box) in
+      let is : get_or some r d ≡ emptied_box (get_or boxes r d) = ap (λ xs. get_or xs r d) are ∙ get_or-map emptied_box boxes r d d within in
       subst IsEmptied (sym is) (record { none = no_windows process_count; room = omega (arith, room-at r d within, host_room_lem, home_blocks_lem) })
 
   -- ---- the store with all blocks
@@ -176,9 +176,9 @@ module _ (grant : CubeGrant) (boxes : List Box) (host : Host) (drained : List Bl
       (λ id. ap (count id) of_drained ∙ count-put_all id (ids_of drained) (ids_of first.blocks)
       ∙ omega (arith, counted id, ap (count id) of_boxes, count-put_all id names (ids_of host.store.blocks)))
 
-  pub at_home : names_at_home (map emptied boxes) ≡ flat_map (λ r. blocks_of_home (node_of grant.sub r)) (node_numbers grant.dim)
+  pub at_home : names_at_home (map emptied_box boxes) ≡ flat_map (λ r. blocks_of_home (node_of grant.sub r)) (node_numbers grant.dim)
   at_home =
-      flat_map-map (λ (box : Box). blocks_of_home box.node.home) emptied boxes
+      flat_map-map (λ (box : Box). blocks_of_home box.node.home) emptied_box boxes
       ∙ sym (flat-by_index (λ (box : Box). blocks_of_home box.node.home) boxes n other holds.all)
       ∙ flat-same (λ r. blocks_of_home (box_at boxes r).node.home) (λ r. blocks_of_home (node_of grant.sub r)) 0 n
       (λ r below. ap blocks_of_home (holds.homes r (omega (arith, below))))
@@ -186,38 +186,38 @@ module _ (grant : CubeGrant) (boxes : List Box) (host : Host) (drained : List Bl
   abbrev own : List BlockId
   own = blocks_of_home (host_home + grant.user)
 
-  parted : (store : List BlockId) → store ≡ names_of_cube grant → store ≡ names_at_home (map emptied boxes) ++ own
+  parted : (store : List BlockId) → store ≡ names_of_cube grant → store ≡ names_at_home (map emptied_box boxes) ++ own
   parted store is = is ∙ ap (λ some. some ++ own) (sym at_home)
 
-  pub least : (some : List Box) (store : List BlockId) → some ≡ map emptied boxes → store ≡ names_of_cube grant → BeginsWith (names_at_home some) store
+  pub least : (some : List Box) (store : List BlockId) → some ≡ map emptied_box boxes → store ≡ names_of_cube grant → BeginsWith (names_at_home some) store
   least some store are is =
-      let front : List BlockId = names_at_home (map emptied boxes) in
+      let front : List BlockId = names_at_home (map emptied_box boxes) in
       subst (λ xs. BeginsWith (names_at_home xs) store) (sym are) (ap (take (length front)) (parted store is) ∙ take_at front own (length front) refl)
 
-  pub host-left : (some : List Box) (store left : List BlockId) → some ≡ map emptied boxes → store ≡ names_of_cube grant
+  pub host-left : (some : List Box) (store left : List BlockId) → some ≡ map emptied_box boxes → store ≡ names_of_cube grant
       → left ≡ drop (length (names_at_home some)) store → left ≡ own
   host-left some store left are is rest =
-      let front : List BlockId = names_at_home (map emptied boxes) in
+      let front : List BlockId = names_at_home (map emptied_box boxes) in
       rest ∙ ap (λ xs. drop (length (names_at_home xs)) store) are ∙ ap (drop (length front)) (parted store is) ∙ drop_at front own (length front) refl
 
   -- ---- all at home
 
-  pub boxes-home : (some there : List Box) → some ≡ map emptied boxes → there ≡ map refilled some
+  pub boxes-home : (some there : List Box) → some ≡ map emptied_box boxes → there ≡ map refilled_box some
       → AreBoxes (λ (box : Box). box.node.home) IsClean n (node_of grant.sub) there
   boxes-home some there are filled =
-      let is : there ≡ map refilled (map emptied boxes) = filled ∙ ap (map refilled) are in
+      let is : there ≡ map refilled_box (map emptied_box boxes) = filled ∙ ap (map refilled_box) are in
       record {
-        all = ap (λ xs. length xs) is ∙ length-map (map emptied boxes) refilled ∙ length-map boxes emptied ∙ holds.all;
+        all = ap (λ xs. length xs) is ∙ length-map (map emptied_box boxes) refilled_box ∙ length-map boxes emptied_box ∙ holds.all;
         each = λ r d below.
             (let within : r < length boxes = omega (arith, below, holds.all) in
-            let at : get_or there r d ≡ refilled (emptied (get_or boxes r d)) =
-            ap (λ xs. get_or xs r d) is ∙ get_or-map refilled (map emptied boxes) r d d (omega (arith, within, length-map boxes emptied))
-            ∙ ap refilled (get_or-map emptied boxes r d d within) in
+            let at : get_or there r d ≡ refilled_box (emptied_box (get_or boxes r d)) =
+            ap (λ xs. get_or xs r d) is ∙ get_or-map refilled_box (map emptied_box boxes) r d d (omega (arith, within, length-map boxes emptied_box))
+            ∙ ap refilled_box (get_or-map emptied_box boxes r d d within) in
             let home : (get_or boxes r d).node.home ≡ node_of grant.sub r = ap (λ (box : Box). box.node.home) (sym (ready-at r d within)) ∙ holds.homes r below in
             (ap (λ (box : Box). box.node.home) at ∙ home, subst IsClean (sym at) (clean (get_or boxes r d) (boxes-idle r d within) (room-at r d within))));
       }
 
-  pub host-home : (some : List Box) (first second third : Kept) → some ≡ map emptied boxes
+  pub host-home : (some : List Box) (first second third : Kept) → some ≡ map emptied_box boxes
       → first.spare + length names ≡ host.store.spare → second.spare + length drained ≡ first.spare → third.spare ≡ second.spare + length (names_at_home some)
       → ids_of second.blocks ≡ names_of_cube grant → ids_of third.blocks ≡ drop (length (names_at_home some)) (ids_of second.blocks)
       → IsHostAtHome grant.user (record { store = third; spare = host.spare })
@@ -234,7 +234,7 @@ module _ (grant : CubeGrant) (boxes : List Box) (host : Host) (drained : List Bl
           ap (λ xs. length xs) (parted (ids_of second.blocks) is),
           ap (λ xs. length xs) is,
           length-cube grant holds.sub,
-          length-append (names_at_home (map emptied boxes)) own,
+          length-append (names_at_home (map emptied_box boxes)) own,
           ap (λ xs. length xs) left,
           length-map third.blocks (λ (block : Block). block.id),
           total,

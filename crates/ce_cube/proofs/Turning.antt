@@ -1,13 +1,15 @@
 -- How a turn of a node goes on, call by call.
-use Rattle.std.proofs.Common.{◌≡◌, ◌==◌, ℕ, ◌+◌, ◌<◌, Bool, true, false, if◌then◌else◌, IsTrue, List, [], ◌∷◌, ◌++◌, length, map, refl, ap, sym, ◌∙◌, subst, inr, arith, length-append, append_assoc}
-use Rattle.std.specs.Prelude.{is_some}
-use Rattle.std.specs.List.{AllByRecursion}
+use Rattle.std.proofs.Common.{◌≡◌, ℕ, ◌+◌, Bool, true, false, if◌then◌else◌, IsTrue, List, [], ◌∷◌, ◌++◌, map, refl, ap, sym, ◌∙◌, subst, inr, arith, length-append, append_assoc}
+use Rattle.std.specs.Prelude.{◌||◌, Option, Some, None, is_some}
+use Rattle.std.specs.Option.{option_map_or}
 use Rattle.std.proofs.lemmas.List.{map-append}
 use Rattle.ce_model.specs.declared.entry.Entry.{Entry}
+use Rattle.ce_model.specs.declared.entry.Given.{Given}
 use Rattle.ce_model.specs.Answers.{call_of}
-use Rattle.ce_model.specs.Node.{Node, Call}
+use Rattle.ce_model.specs.Node.{Call}
 use Rattle.ce_model.specs.Saying.{says}
-use Rattle.ce_model.specs.Renaming.{CubeGrant, entry_inward}
+use Rattle.ce_model.specs.Renaming.{block_outward, entry_inward}
+use Rattle.ce_model.specs.Trace.{is_work}
 use Rattle.ce_model.specs.Views.{view}
 use Rattle.ce_solo.proofs.Lists.{all-append}
 use Rattle.ce_daemon.specs.declared.grant.Grant.{Grant}
@@ -15,16 +17,27 @@ use Rattle.rk_node.specs.Boxes.{Box}
 use Rattle.rk_node.specs.Answering.{HasSaid}
 use Rattle.rk_node.specs.declared.out.Out.TheVariants.{Nothing}
 use Rattle.ce_machine.specs.Meanings.{MachineFacts}
-use Rattle.ce_script.specs.Rounds.{asks_for_work, is_take, is_dispatch, has_work, IsTurn}
+use Rattle.ce_script.specs.Rounds.{given_in, asks_for_work, is_take, is_dispatch, has_work, IsTurn}
 use Rattle.ce_cube.specs.Boxes.{IsSaidBy, IsInStep}
 use Rattle.ce_cube.specs.Crews.{IsReady, cube_grant}
-use Rattle.ce_cube.specs.Exchanges.{HasNode, IsBoxOf, HasCalled, GoesOnAt, HasExchanged, IsTurning, node_in, left_in}
-use Rattle.ce_cube.proofs.Says.{boxes-say}
-use Rattle.ce_cube.proofs.Onward.{no_dispatch, or_none, asks-box}
+use Rattle.ce_cube.specs.Exchanges.{HasNode, IsBoxOfNode, HasSaidCall, GoesOnAt, HasExchanged, IsTurning, node_in}
+use Rattle.ce_cube.proofs.Says.{boxes-say, asks-renamed}
 use Rattle.ce_cube.proofs.Rounds.{are-made}
 
+-- what is no Take is no dispatch
+no_dispatch : (entry : Entry) → is_take entry ≡ false → is_dispatch entry ≡ false
+no_dispatch entry other = by_given (given_in entry) other
+  where
+    by_given : (given : Option Given) → is_some given ≡ false → option_map_or is_work given false ≡ false
+    by_given None e = refl
+    by_given (Some given) e = absurd (cc)
+
+or_none : (a b : Bool) → b ≡ false → (a || b) ≡ a
+or_none true b e = refl
+or_none false b e = e
+
 -- what a box says that stands for its node
-pub said-in : (m : MachineFacts) (grant : Grant) (r : ℕ) (box : Box) → HasNode m grant r → IsBoxOf m grant r box
+pub said-in : (m : MachineFacts) (grant : Grant) (r : ℕ) (box : Box) → HasNode m grant r → IsBoxOfNode m grant r box
     → IsSaidBy m.parts m.history grant.number (cube_grant grant) r box.node
 said-in m grant r box node is =
     boxes-say m.parts m.history grant.number (cube_grant grant) node.sound.within node.sound.lawful node.held r box.node node.within is.stands
@@ -33,7 +46,9 @@ said-in m grant r box node is =
 pub asks-first : (m : MachineFacts) (grant : Grant) (r : ℕ) (box : Box) → HasNode m grant r → IsReady box
     → IsInStep (cube_grant grant) (node_in m grant r) box.node → asks_for_work (says box.node).call ≡ true
 asks-first m grant r box node ready step =
-    asks-box m.parts m.history grant.number (cube_grant grant) r box.node (said-in m grant r box node (record { ready = ready; stands = inr step })) step.asks
+    ap asks_for_work (said-in m grant r box node (record { ready = ready; stands = inr step })).call
+    ∙ asks-renamed (block_outward (cube_grant grant)) (says (node_in m grant r)).call
+    ∙ step.asks
 
 -- calls of a node, and then others
 joined-at : (m now now' : MachineFacts) (grant : Grant) (r : ℕ) (made others : List Entry) → GoesOnAt m now grant r made → GoesOnAt now now' grant r others
@@ -84,8 +99,8 @@ turn-goes_on m now now' grant r box box' call work more count turn other done =
     }
 
 -- what the box says next is a call of its node, if it stands for it
-pub next-called : (m : MachineFacts) (grant : Grant) (r : ℕ) (box box' : Box) (call : Call) → IsBoxOf m grant r box → box'.node ≡ (says box.node).node
-    → box'.room ≡ box.room → call ≡ (says box.node).call → HasSaid box' call → HasCalled m grant r box box' call
+pub next-called : (m : MachineFacts) (grant : Grant) (r : ℕ) (box box' : Box) (call : Call) → IsBoxOfNode m grant r box → box'.node ≡ (says box.node).node
+    → box'.room ≡ box.room → call ≡ (says box.node).call → HasSaid box' call → HasSaidCall m grant r box box' call
 next-called m grant r box box' call is node room call_is said = record { before = is; node = node; call_is = call_is; said = said; room = room }
 
 module _ (m now : MachineFacts) (grant : Grant) (r : ℕ) (box box' : Box) (work : Bool) (count : ℕ) (turn : IsTurning m now grant r box work count)

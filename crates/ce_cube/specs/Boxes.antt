@@ -100,22 +100,22 @@ pub record IsAside (parts : MachineParts) (history : List Entry) (number : ℕ) 
 -- ---- a cube that was just granted
 
 -- the entry that grants a cube
-abbrev pub granting : CubeGrant → Entry
-granting grant = record { user = grant.user; actor = HOST; what = Getcube grant.dim (Some grant.sub) }
+abbrev pub grant_entry : CubeGrant → Entry
+grant_entry grant = record { user = grant.user; actor = HOST; what = Getcube grant.dim (Some grant.sub) }
 
 -- the cube is held as the next one, nothing is in its trace, its nodes are fresh, and boxes with fresh nodes are in step with them
 pub record IsBegun (parts : MachineParts) (history : List Entry) (grant : CubeGrant) : Type 0 where
-  pub lawful : IsLawful parts (history ++ granting grant ∷ [])
-  pub held : IsHeldAs (history ++ granting grant ∷ []) (after history).grant_count grant
-  pub trace : view (history ++ granting grant ∷ []) (after history).grant_count ≡ []
-  pub nodes : (r : ℕ) → node_now parts (history ++ granting grant ∷ []) (after history).grant_count grant r ≡ fresh r grant.dim (length parts.images)
-  pub store : store_now parts (history ++ granting grant ∷ []) (after history).grant_count grant ≡ blocks_of_home host_home
-  pub in_step : (r : ℕ) → IsInStep grant (node_now parts (history ++ granting grant ∷ []) (after history).grant_count grant r)
+  pub lawful : IsLawful parts (history ++ grant_entry grant ∷ [])
+  pub held : IsHeldAs (history ++ grant_entry grant ∷ []) (after history).grant_count grant
+  pub trace : view (history ++ grant_entry grant ∷ []) (after history).grant_count ≡ []
+  pub nodes : (r : ℕ) → node_now parts (history ++ grant_entry grant ∷ []) (after history).grant_count grant r ≡ fresh r grant.dim (length parts.images)
+  pub store : store_now parts (history ++ grant_entry grant ∷ []) (after history).grant_count grant ≡ blocks_of_home host_home
+  pub in_step : (r : ℕ) → IsInStep grant (node_now parts (history ++ grant_entry grant ∷ []) (after history).grant_count grant r)
       (node_outward grant (fresh r grant.dim (length parts.images)))
 
 -- the entry that drains a cube
-abbrev pub draining : CubeGrant → Entry
-draining grant = record { user = grant.user; actor = HOST; what = Drain }
+abbrev pub drain_entry : CubeGrant → Entry
+drain_entry grant = record { user = grant.user; actor = HOST; what = Drain }
 
 -- ---- the host
 

@@ -1,5 +1,5 @@
 -- The crew of a cube that is held: the boxes of its nodes and the host of its user, in step with the machine's history.
-use Rattle.std.specs.Prelude.{◌≡◌, ℕ, ◌+◌, ◌^◌, ◌<◌, ◌≤◌, Bool, if◌then◌else◌, IsTrue, is_some, List, [], ◌++◌, length, map, flat_map, slice_index_or, Some, Option, None}
+use Rattle.std.specs.Prelude.{◌≡◌, ℕ, ◌+◌, ◌^◌, ◌<◌, ◌≤◌, Bool, if◌then◌else◌, IsTrue, is_some, List, [], ◌++◌, length, map, flat_map, slice_index_or, Some}
 use Rattle.std.specs.List.{AllByRecursion}
 use Rattle.ce_model.specs.declared.entry.Entry.{Entry}
 use Rattle.ce_model.specs.Limits.{greatest_dim, host_home}
@@ -42,7 +42,7 @@ cube_in parts grant = cube_of parts.images (cube_grant grant)
 abbrev pub box_at : List Box → ℕ → Box
 box_at boxes r = slice_index_or boxes r (record { node = fresh_at 0 0 0 0; room = 0; out = Nothing })
 
--- no call is out of a box, and it has room for all blocks of the greatest cube
+-- no call but a Take is out of a box, and it has room for all blocks of the greatest cube
 pub record IsReady (box : Box) : Type 0 where
   pub idle : box.out ≡ Nothing
   pub room : host_room ≤ box.room
@@ -86,6 +86,14 @@ pub record HasGoneOn (before after : MachineFacts) (crew crew' : SerialCrew) (ma
   pub trace : view after.history crew.grant.number ≡ view before.history crew.grant.number ++ map (entry_inward crew.grant.sub) made
   pub in_step : IsCrewInStep after.parts after.history crew'
 
+-- Calls of this user's cube went on with the machine's history, until one was refused: that call made no entry, and these before it stand.
+pub record HasStopped (before after : MachineFacts) (user : ℕ) : Type 0 where
+  pub made : List Entry
+  pub parts : after.parts ≡ before.parts
+  pub history : after.history ≡ before.history ++ made
+  pub lawful : IsLawful after.parts after.history
+  pub calls : AreCallsOf user made
+
 -- A serial round went on, by which a node was given work or none was. Work takes one at least of the dispatches that are allowed; the host is
 -- what it was.
 pub record HasMadeRound (before after : MachineFacts) (crew crew' : SerialCrew) (work : Bool) : Type 0 where
@@ -99,8 +107,8 @@ pub record HasMadeRound (before after : MachineFacts) (crew crew' : SerialCrew) 
 
 -- ---- a cube that is given back
 
--- the boxes and the host of a cube, a subcube of the machine, with the blocks that were drained, hold each block of the cube once, and no other; no
--- call is out of a box
+-- The boxes and the host of a cube, a subcube of the greatest machine, with the blocks that were drained, hold each block of the cube once, and no
+-- other. The boxes are ready, and the host has room for all blocks of the greatest cube, and its spare batch.
 pub record HoldAllBlocks (grant : CubeGrant) (boxes : List Box) (host : Host) (drained : List Block) : Type 0 where
   pub sub : IsSubcube greatest_dim grant.dim grant.sub
   pub all : length boxes ≡ 2 ^ grant.dim

@@ -29,26 +29,26 @@ store_in machine grant = store_now machine.parts machine.history grant.number (c
 abbrev pub left_in : MachineFacts → Grant → ℕ
 left_in machine grant = dispatches_left machine.parts machine.history grant.number (cube_grant grant)
 
--- the machine is lawful, this cube is held, and r is one of its nodes
+-- the machine is lawful and within its limits, this cube is held, and r is one of its nodes
 pub record HasNode (machine : MachineFacts) (grant : Grant) (r : ℕ) : Type 0 where
   pub sound : IsLawfulMachine machine
   pub held : IsHeldAs machine.history grant.number (cube_grant grant)
   pub within : r < 2 ^ grant.dim
 
--- the box stands for node r, and no call of it is out
-pub record IsBoxOf (machine : MachineFacts) (grant : Grant) (r : ℕ) (box : Box) : Type 0 where
+-- the box stands for node r, and no call of it but a Take is out
+pub record IsBoxOfNode (machine : MachineFacts) (grant : Grant) (r : ℕ) (box : Box) : Type 0 where
   pub ready : IsReady box
   pub stands : StandsFor (cube_grant grant) (node_in machine grant r) box.node
 
 -- the box, which was this one and stood for node r, has said this call
-pub record HasCalled (machine : MachineFacts) (grant : Grant) (r : ℕ) (box box' : Box) (call : Call) : Type 0 where
-  pub before : IsBoxOf machine grant r box
+pub record HasSaidCall (machine : MachineFacts) (grant : Grant) (r : ℕ) (box box' : Box) (call : Call) : Type 0 where
+  pub before : IsBoxOfNode machine grant r box
   pub node : box'.node ≡ (says box.node).node
   pub call_is : call ≡ (says box.node).call
   pub said : HasSaid box' call
   pub room : box'.room ≡ box.room
 
--- the machine goes on by these calls of node r: the others and the host's store are what they were, and so is the cube's trace before them
+-- the machine goes on by these calls of the cube: its nodes other than r and its host's store are what they were, and so is its trace before them
 pub record GoesOnAt (before after : MachineFacts) (grant : Grant) (r : ℕ) (made : List Entry) : Type 0 where
   pub parts : after.parts ≡ before.parts
   pub history : after.history ≡ before.history ++ made
@@ -68,7 +68,7 @@ pub record HasExchanged (before after : MachineFacts) (grant : Grant) (r : ℕ) 
   pub take : is_take (entry_inward grant.sub entry) ≡ asks_for_work call
   pub dispatch : is_dispatch (entry_inward grant.sub entry) ≡ work
   pub left : left_in after grant + (if work then 1 else 0) ≡ left_in before grant
-  pub stands : IsBoxOf after grant r box'
+  pub stands : IsBoxOfNode after grant r box'
   pub calls : IsFalse (asks_for_work call) → calls_left box'.node < calls_left box.node
 
 -- A turn of node r is under way: these many entries so far, the first a Take that gave work or none, and the box stands for the node.
@@ -78,7 +78,7 @@ pub record IsTurning (before now : MachineFacts) (grant : Grant) (r : ℕ) (box 
   pub turn : IsTurn r (map (entry_inward grant.sub) made)
   pub works : has_work (map (entry_inward grant.sub) made) ≡ work
   pub left : left_in now grant + (if work then 1 else 0) ≡ left_in before grant
-  pub stands : IsBoxOf now grant r box
+  pub stands : IsBoxOfNode now grant r box
   pub count_is : count ≡ length made
 
 -- a turn of node r of the crew went on, with work or none: its box is in step again, the others are what they were, and so is the host

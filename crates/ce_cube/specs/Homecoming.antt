@@ -9,10 +9,10 @@ use Rattle.rk_node.specs.declared.out.Out.TheVariants.{Nothing}
 use Rattle.rk_node.specs.Boxes.{Box, fresh_at, scrubbed}
 
 -- the box once it became the node of this relative number, in a cube of this dimension, for so many images
-abbrev pub entered : ℕ → ℕ → ℕ → Box → Box
-entered dim images r box = record box { node = fresh_at box.node.home r dim images }
+abbrev pub entered_box : ℕ → ℕ → ℕ → Box → Box
+entered_box dim images r box = record box { node = fresh_at box.node.home r dim images }
 
--- no call is out of the box
+-- no call but a Take is out of the box
 abbrev pub IsIdle : Box → Type 0
 IsIdle box = box.out ≡ Nothing
 
@@ -20,9 +20,9 @@ IsIdle box = box.out ≡ Nothing
 abbrev pub names_in_boxes : List Box → List BlockId
 names_in_boxes boxes = flat_map (λ box. blocks_of box.node) boxes
 
--- the box once its blocks were taken away
-abbrev pub emptied : Box → Box
-emptied box = record box { node = scrubbed box.node }
+-- the box once its blocks were taken away: none of its processes is born, nobody polls, and no turn runs
+abbrev pub emptied_box : Box → Box
+emptied_box box = record box { node = scrubbed box.node }
 
 -- no block is in the box, and it has room for those of its home
 pub record IsEmptied (box : Box) : Type 0 where
@@ -30,8 +30,8 @@ pub record IsEmptied (box : Box) : Type 0 where
   pub room : home_blocks ≤ box.room
 
 -- the box once the blocks of its home are its store
-abbrev pub refilled : Box → Box
-refilled box = record box { node = with_store (blocks_of_home box.node.home) box.node }
+abbrev pub refilled_box : Box → Box
+refilled_box box = record box { node = with_store (blocks_of_home box.node.home) box.node }
 
 -- the names of the blocks of the boxes' homes
 abbrev pub names_at_home : List Box → List BlockId

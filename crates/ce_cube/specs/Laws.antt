@@ -23,7 +23,7 @@ use Rattle.ce_solo.specs.Laws.{OfEachTrace}
 use Rattle.rk_mail.specs.Talk.{heard_as}
 use Rattle.ce_script.specs.Rounds.{asks_for_work, AreTurnsOver, serial, IsRoundWithoutWork}
 use Rattle.ce_cube.specs.Hearable.{IsRightAnswer, calls_left}
-use Rattle.ce_cube.specs.Boxes.{IsHeldAs, node_now, StandsFor, AreInStep, IsAccepted, IsSaidBy, IsMadeBy, IsOneMore, IsAnswered, IsAside, granting, draining, IsBegun, store_now}
+use Rattle.ce_cube.specs.Boxes.{IsHeldAs, node_now, StandsFor, AreInStep, IsAccepted, IsSaidBy, IsMadeBy, IsOneMore, IsAnswered, IsAside, grant_entry, drain_entry, IsBegun, store_now}
 use Rattle.ce_cube.specs.Rounds.{dispatches_left, IsEntryOf}
 use Rattle.ce_cube.specs.Rehoming.{names_in, AreAllBlocks}
 
@@ -36,7 +36,7 @@ OfEachHeld P = (parts : MachineParts) (history : List Entry) (number : ℕ) (gra
 abbrev pub GrantsBegin : Type 0
 GrantsBegin = (parts : MachineParts) (history : List Entry) (grant : CubeGrant) → IsMachine parts → IsLawful parts history
     → Fits parts history grant.user HOST (getcube grant.dim)
-    → answered parts (after history) grant.user HOST (getcube grant.dim) ≡ Some (granting grant).what → IsBegun parts history grant
+    → answered parts (after history) grant.user HOST (getcube grant.dim) ≡ Some (grant_entry grant).what → IsBegun parts history grant
 
 -- what a box says that stands for a node is the node's next call, which fits
 abbrev pub BoxesSay : Type 0
@@ -102,7 +102,7 @@ ArmsAllow = OfEachHeld (λ parts history number grant. (count : ℕ) (entry : En
 -- a cube that is held can be drained, and is given back behind that
 abbrev pub DrainsFit : Type 0
 DrainsFit = OfEachHeld (λ parts history number grant. Fits parts history grant.user HOST drain
-    × IsLawful parts (history ++ draining grant ∷ []) × Fits parts (history ++ draining grant ∷ []) grant.user HOST freecube)
+    × IsLawful parts (history ++ drain_entry grant ∷ []) × Fits parts (history ++ drain_entry grant ∷ []) grant.user HOST freecube)
 
 -- ---- turns and rounds
 

@@ -4,6 +4,5 @@ pub mod Exchanges
 pub mod Hearable
 pub mod Homecoming
 pub mod Laws
-pub mod Progress
 pub mod Rehoming
 pub mod Rounds

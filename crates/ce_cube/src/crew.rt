@@ -1,3 +1,4 @@
+//! The crew that runs a cube on one thread.
 use ce_daemon::Grant;
 use ce_host::Host;
 use rk_node::NodeBox;

@@ -1,10 +1,10 @@
 //! One call of a node's box and its answer.
-ghost use Rattle.std.specs.Prelude.{◌≡◌, IfOk};
+ghost use Rattle.std.specs.Prelude.{◌≡◌, MatchResult};
 ghost use Rattle.rk_mail.specs.Talk.{call_said};
 ghost use Rattle.rk_node.specs.Boxes.{Box};
 ghost use Rattle.ce_machine.specs.declared.call.Reply.TheVariants.{Heard as ReplyHeard};
 ghost use Rattle.rk_mail.specs.declared.talk.Heard.{Heard};
-ghost use Rattle.ce_cube.specs.Exchanges.{HasCalled, HasExchanged, HasNode};
+ghost use Rattle.ce_cube.specs.Exchanges.{HasSaidCall, HasExchanged, HasNode};
 ghost use Rattle.ce_cube.specs.Rounds.{is_work_heard};
 
 use ce_daemon::Grant;
@@ -18,7 +18,7 @@ use rv_image::Image;
 use std::alloc::Global;
 
 /// Has the machine answer what the box of node r of the cube has said, and the box hear it. Whether that gives the node
-/// work.
+/// work. With `NoMemory` the machine is unchanged.
 pub(crate) fn exchange(
     alloc: Global,
     machine: &mut Machine<NodeBox>,
@@ -29,11 +29,12 @@ pub(crate) fn exchange(
     said: Say,
 ) -> Result<bool, NoMemory>
     requires node { HasNode machine.old grant.now r }
-    requires said { (box : Box) × HasCalled machine.old grant.now r box node.old (call_said said) }
+    requires said { (box : Box) × HasSaidCall machine.old grant.now r box node.old (call_said said) }
     requires images { images.now ≡ machine.old.parts.images }
-    ensures { IfOk result (λ work. (box : Box)
-        → HasCalled machine.old grant.now r box node.old (call_said said)
-        → HasExchanged machine.old machine.new grant.now r box node.new (call_said said) work) }
+    ensures { MatchResult result
+        (λ work. (box : Box) → HasSaidCall machine.old grant.now r box node.old (call_said said)
+        → HasExchanged machine.old machine.new grant.now r box node.new (call_said said) work)
+        (λ _. machine.new ≡ machine.old) }
 {
     let who = Who {
         family: grant.user,

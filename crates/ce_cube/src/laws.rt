@@ -1,7 +1,6 @@
 //! What is proved of the boxes of a cube that is held after a lawful history of a machine within its limits. The functions do
-//! nothing: a contract is the law, which proofs cite.
+//! nothing: a contract is the law. The proofs of the code cite the lemmas that prove it.
 ghost use Rattle.ce_cube.specs.Laws.{BoxesSay, CallsAdd, BoxesHear, BoxesCanHear, TurnsEnd, OthersKeep, EntriesCount, StepsEndTurns, RoundsRest, LooksEnd, BlocksAreWhole, GrantsBegin, HostsFit, HostsSend, HostsTake, ArmsAllow, DrainsFit};
-ghost use Rattle.ce_cube.specs.Progress.{IsOnward};
 ghost use Rattle.ce_cube.specs.Rehoming.{BlocksSort, StoresAreHome};
 ghost use Rattle.ce_cube.specs.Rounds.{AreMade};
 
@@ -103,9 +102,4 @@ pub fn arms_allow_law()
 /// A cube that is held can be drained, and is given back behind that.
 pub fn drains_fit_law()
     ensures law { DrainsFit }
-{}
-
-/// A serial round goes on step by step: what holds of it before a step holds behind it.
-pub fn rounds_go_on_law()
-    ensures law { IsOnward }
 {}

@@ -13,7 +13,7 @@ ghost use Rattle.rk_node.specs.Boxes.{Box, IsClean};
 ghost use Rattle.rk_node.specs.Hearings.{AreApartFrom};
 ghost use Rattle.ce_cube.specs.Boxes.{IsHeldAs};
 ghost use Rattle.ce_cube.specs.Crews.{AreAllHome, HoldAllBlocks, IsCrewInStep, IsHostAtHome, cube_grant};
-ghost use Rattle.ce_cube.specs.Homecoming.{BeginsWith, IsEmptied, IsIdle, emptied, entered, names_at_home, names_in_boxes, refilled};
+ghost use Rattle.ce_cube.specs.Homecoming.{BeginsWith, IsEmptied, IsIdle, emptied_box, entered_box, names_at_home, names_in_boxes, refilled_box};
 
 use crate::SerialCrew;
 use ce_daemon::Grant;
@@ -23,8 +23,8 @@ use rk_node::NodeBox;
 use xm_block::{Block, Store};
 
 impl SerialCrew {
-    /// The crew of a cube that was just granted: its clean boxes become its nodes, for so many images. The cube's dimension
-    /// is 6 at most.
+    /// The crew of a cube that was just granted: its clean boxes become its nodes, for so many images, `GREATEST_IMAGES` at
+    /// most. The cube's dimension is `GREATEST_DIMENSION` at most, and the host of its user has its own blocks alone.
     pub fn new(grant: Grant, mut nodes: Vec<NodeBox>, host: Host, images: u32) -> SerialCrew
         requires boxes { AreBoxesOf (λ box. box.node.home) IsClean grant nodes.items }
         requires host { IsHostAtHome grant.user host }
@@ -53,7 +53,8 @@ fn enter_all(nodes: &mut [NodeBox], dim: u32, images: u32)
     requires dim { dim ≤ greatest_dim }
     requires images { images ≤ greatest_images }
     ensures { (r : ℕ) (other : Box) → r < length nodes.old
-        → slice_index_or nodes.new r other ≡ entered dim images r (slice_index_or nodes.old r other) }
+        → slice_index_or nodes.new r other
+        ≡ entered_box dim images r (slice_index_or nodes.old r other) }
 {
     for (relative, node) in nodes.iter_mut().enumerate() {
         node.enter(relative as u32, dim, images);
@@ -61,7 +62,9 @@ fn enter_all(nodes: &mut [NodeBox], dim: u32, images: u32)
 }
 
 /// Moves every block of a cube that is given back to its home: those in the boxes, those in the host's store, and those
-/// that were drained. The boxes are clean then, and the host has its own blocks. Nothing can fail.
+/// that were drained. Together these are the cube's blocks, each once. No call but a Take is out of a box. Each box and the
+/// host's store have room for all blocks of the greatest cube, and the host has its spare batch, empty. The boxes are clean
+/// then, and the host has its own blocks, with its room and its batch as before. Nothing can fail.
 pub fn rehome(nodes: &mut [NodeBox], host: &mut Host, drained: Vec<Block>)
     requires all { (grant : CubeGrant) × HoldAllBlocks grant nodes.old host.old drained.items }
     ensures home { (grant : CubeGrant) → HoldAllBlocks grant nodes.old host.old drained.items
@@ -77,8 +80,9 @@ fn scrub_all(nodes: &mut [NodeBox], store: &mut Store)
     requires idle { All IsIdle nodes.old }
     requires room { length (names_in_boxes nodes.old) ≤ store.old.spare }
     requires apart { AreApartFrom (names_in_boxes nodes.old) store.old }
-    ensures boxes { nodes.new ≡ map emptied nodes.old }
-    ensures moved { ids_of store.new.blocks ≡ put_all (names_in_boxes nodes.old) (ids_of store.old.blocks) }
+    ensures boxes { nodes.new ≡ map emptied_box nodes.old }
+    ensures moved { ids_of store.new.blocks
+        ≡ put_all (names_in_boxes nodes.old) (ids_of store.old.blocks) }
     ensures spare { store.new.spare + length (names_in_boxes nodes.old) ≡ store.old.spare }
 {
     for node in nodes.iter_mut() {
@@ -90,7 +94,8 @@ fn scrub_all(nodes: &mut [NodeBox], store: &mut Store)
 fn give_all(blocks: Vec<Block>, store: &mut Store)
     requires room { length blocks.items ≤ store.old.spare }
     requires apart { AreApartFrom (ids_of blocks.items) store.old }
-    ensures moved { ids_of store.new.blocks ≡ put_all (ids_of blocks.items) (ids_of store.old.blocks) }
+    ensures moved { ids_of store.new.blocks
+        ≡ put_all (ids_of blocks.items) (ids_of store.old.blocks) }
     ensures spare { store.new.spare + length blocks.items ≡ store.old.spare }
     ensures rising { IsRising is_before store.new.blocks }
 {
@@ -105,7 +110,7 @@ fn give_all(blocks: Vec<Block>, store: &mut Store)
 fn send_all_home(nodes: &mut [NodeBox], store: &mut Store)
     requires emptied { All IsEmptied nodes.old }
     requires least { BeginsWith (names_at_home nodes.old) (ids_of store.old.blocks) }
-    ensures boxes { nodes.new ≡ map refilled nodes.old }
+    ensures boxes { nodes.new ≡ map refilled_box nodes.old }
     ensures rest { ids_of store.new.blocks
         ≡ drop (length (names_at_home nodes.old)) (ids_of store.old.blocks) }
     ensures spare { store.new.spare ≡ store.old.spare + length (names_at_home nodes.old) }
@@ -119,7 +124,7 @@ fn send_all_home(nodes: &mut [NodeBox], store: &mut Store)
 fn send_home(node: &mut NodeBox, store: &mut Store)
     requires emptied { IsEmptied node.old }
     requires least { BeginsWith (blocks_of_home node.old.node.home) (ids_of store.old.blocks) }
-    ensures after { node.new ≡ refilled node.old }
+    ensures after { node.new ≡ refilled_box node.old }
     ensures rest { ids_of store.new.blocks ≡ drop home_blocks (ids_of store.old.blocks) }
     ensures spare { store.new.spare ≡ store.old.spare + home_blocks }
 {

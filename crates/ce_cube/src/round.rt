@@ -1,6 +1,6 @@
 //! A round on one thread: each node of a cube takes a turn.
-ghost use Rattle.std.specs.Prelude.{◌≡◌, ◌^◌, ◌<◌, IfOk};
-ghost use Rattle.ce_cube.specs.Crews.{HasMadeRound, IsCrewInStep, IsLawfulMachine};
+ghost use Rattle.std.specs.Prelude.{◌≡◌, ◌^◌, ◌<◌, MatchResult};
+ghost use Rattle.ce_cube.specs.Crews.{HasMadeRound, HasStopped, IsCrewInStep, IsLawfulMachine};
 ghost use Rattle.ce_cube.specs.Exchanges.{HasTakenTurn};
 
 use crate::SerialCrew;
@@ -13,7 +13,7 @@ use std::alloc::Global;
 
 /// One round: each node of the cube, in relative order, asks for work once and runs that turn to its end. Whether one of
 /// them was given work. The crew is in step with the machine, and the list has the machine's images. `NoMemory` may come
-/// at any time; the crew isn't used again then.
+/// at any time; the entries that were made before it stand, and the crew isn't used again.
 pub fn round_serial(
     alloc: Global,
     machine: &mut Machine<NodeBox>,
@@ -23,7 +23,8 @@ pub fn round_serial(
     requires machine { IsLawfulMachine machine.old }
     requires crew { IsCrewInStep machine.old.parts machine.old.history crew.old }
     requires images { images.now ≡ machine.old.parts.images }
-    ensures { IfOk result (HasMadeRound machine.old machine.new crew.old crew.new) }
+    ensures { MatchResult result (HasMadeRound machine.old machine.new crew.old crew.new)
+        (λ _. HasStopped machine.old machine.new crew.old.grant.user) }
 {
     let count = crew.nodes.len() as u32;
     let mut work = false;
@@ -45,7 +46,8 @@ fn turn_of(
     requires crew { IsCrewInStep machine.old.parts machine.old.history crew.old }
     requires node { r < 2 ^ crew.old.grant.dim }
     requires images { images.now ≡ machine.old.parts.images }
-    ensures { IfOk result (HasTakenTurn machine.old machine.new crew.old crew.new r) }
+    ensures { MatchResult result (HasTakenTurn machine.old machine.new crew.old crew.new r)
+        (λ _. HasStopped machine.old machine.new crew.old.grant.user) }
 {
     let node = &mut crew.nodes[r as usize];
     let turn = take_turn(alloc, machine, &crew.grant, r, node, images)?;

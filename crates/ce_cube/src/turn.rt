@@ -1,12 +1,12 @@
 //! One turn of a node.
-ghost use Rattle.std.specs.Prelude.{◌≡◌, IfOk, IfSome, IfNone, true, false};
+ghost use Rattle.std.specs.Prelude.{◌≡◌, IfErr, IfOk, IfSome, IfNone, true, false};
 ghost use Rattle.ce_model.specs.Saying.{says};
 ghost use Rattle.rk_mail.specs.Talk.{call_said};
 ghost use Rattle.rk_node.specs.Answering.{HasSaid};
 ghost use Rattle.rk_node.specs.declared.out.Out.TheVariants.{Nothing};
 ghost use Rattle.ce_script.specs.Rounds.{asks_for_work};
 ghost use Rattle.ce_cube.specs.Boxes.{IsInStep};
-ghost use Rattle.ce_cube.specs.Crews.{IsReady, cube_grant};
+ghost use Rattle.ce_cube.specs.Crews.{HasStopped, IsReady, cube_grant};
 ghost use Rattle.ce_cube.specs.Exchanges.{HasNode, IsTurning, node_in};
 
 use crate::exchange::exchange;
@@ -38,12 +38,14 @@ pub(crate) fn take_turn(
 ) -> Result<Turn, NoMemory>
     requires node { HasNode machine.old grant.now r }
     requires ready { IsReady node.old }
-    requires in_step { IsInStep (cube_grant grant.now) (node_in machine.old grant.now r) node.old.node }
+    requires in_step { IsInStep (cube_grant grant.now)
+        (node_in machine.old grant.now r) node.old.node }
     requires images { images.now ≡ machine.old.parts.images }
     ensures turn { IfOk result (λ turn. IsTurning machine.old machine.new grant.now r node.new
         turn.work turn.entries) }
     ensures in_step { IfOk result (λ _. IsInStep (cube_grant grant.now)
         (node_in machine.new grant.now r) node.new.node) }
+    ensures stopped { IfErr result (λ _. HasStopped machine.old machine.new grant.now.user) }
 {
     let take = node.says();
     let work = exchange(alloc, machine, grant, r, node, images, take)?;

@@ -27,7 +27,7 @@ use Rattle.ce_machine.specs.declared.call.Call.{Call}
 use Rattle.ce_machine.specs.declared.call.Reply.{Reply}
 use Rattle.ce_machine.specs.Rooms.{greatest_history, greatest_history_lem}
 use Rattle.ce_machine.specs.Requests.{request_of, FitsBehind}
-use Rattle.ce_machine.specs.Replies.{IsReplyTo, IfHeld}
+use Rattle.ce_machine.specs.Replies.{IsReplyTo, OfHeldCube}
 use Rattle.ce_machine.specs.Meanings.{MachineFacts, Stands}
 use Rattle.ce_machine.specs.Tables.{HostRecord, blank_host, host_of, desk_at, host_at, holding_of, AreTables, IsSoundMachine}
 use Rattle.ce_machine.specs.Desks.{AreChanged, IsOnDesks}
@@ -81,7 +81,7 @@ is_in_by h user P (Some cube) e some = record { cube = cube; holds = e; is = som
 pub is-in : (h : List Entry) (user : ℕ) (P : HeldCube → Type 0) → HoldsCube h user P → IsIn h user P
 is-in h user P some = is_in_by h user P (held_by (after h) user) refl some
 
-pub if-held : (state : MachineState) (user : ℕ) (P : HeldCube → Type 0) (cube : HeldCube) → held_by state user ≡ Some cube → P cube → IfHeld state user P
+pub if-held : (state : MachineState) (user : ℕ) (P : HeldCube → Type 0) (cube : HeldCube) → held_by state user ≡ Some cube → P cube → OfHeldCube state user P
 if-held state user P cube holds is = subst (λ (held : Option HeldCube). IsSomeAnd held P) (sym holds) is
 
 -- ---- a machine

@@ -57,17 +57,17 @@ abbrev pub items_for : MachineState → HeldCube → ℕ → List Item
 items_for state cube actor = ((standing_of state cube).node_record actor).waiting
 
 -- the user holds a cube, of which this holds
-abbrev pub IfHeld : MachineState → ℕ → (HeldCube → Type 0) → Type 0
-IfHeld state user P = IsSomeAnd (held_by state user) P
+abbrev pub OfHeldCube : MachineState → ℕ → (HeldCube → Type 0) → Type 0
+OfHeldCube state user P = IsSomeAnd (held_by state user) P
 
 -- the reply that a call gets in this state whose entry, of this user and this actor, is this
 abbrev pub IsReplyTo : {N : Type 0} → (N → ℕ) → (N → Type 0) → MachineParts → MachineState → (user actor : ℕ) → What → Reply N → Type 0
 IsReplyTo home clean parts state user actor (entry.Getcube dim sub) reply = IsGrantReply home clean state user dim sub reply
 IsReplyTo home clean parts state user actor entry.Peek reply = reply ≡ Peeked (peeked parts state)
-IsReplyTo home clean parts state user actor entry.Drain reply = IfHeld state user (λ cube. IsDrained (all_parcels state cube) reply)
+IsReplyTo home clean parts state user actor entry.Drain reply = OfHeldCube state user (λ cube. IsDrained (all_parcels state cube) reply)
 IsReplyTo home clean parts state user actor entry.Freecube reply = reply ≡ Freed
 IsReplyTo home clean parts state user actor (entry.Arm count) reply = reply ≡ Armed
 IsReplyTo home clean parts state user actor (entry.Look found) reply = reply ≡ found_reply found
 IsReplyTo home clean parts state user actor (entry.HostTake None) reply = reply ≡ NoMail
-IsReplyTo home clean parts state user actor (entry.HostTake (Some number)) reply = IfHeld state user (λ cube. IsMail number cube.mail reply)
-IsReplyTo home clean parts state user actor what reply = IfHeld state user (λ cube. IsHeard (items_for state cube actor) what reply)
+IsReplyTo home clean parts state user actor (entry.HostTake (Some number)) reply = OfHeldCube state user (λ cube. IsMail number cube.mail reply)
+IsReplyTo home clean parts state user actor what reply = OfHeldCube state user (λ cube. IsHeard (items_for state cube actor) what reply)

@@ -1,3 +1,4 @@
+//! What is asked of a machine, and what it answers.
 use ce_daemon::{Grant, Homed, Peeked};
 use rk_mail::{Heard, Parcel, Say};
 use xm_block::Block;

@@ -139,7 +139,9 @@ impl Desk {
         ensures first { option_map item_of result
             ≡ find (is_eligible asking dead) self.old.waiting }
         ensures rest { self.new
-            ≡ record self.old { waiting = without_first (is_eligible asking dead) self.old.waiting } }
+            ≡ record self.old {
+              waiting = without_first (is_eligible asking dead) self.old.waiting;
+            } }
     {
         self.mailbox.next(asking, dead)
     }

@@ -15,3 +15,6 @@ mod says;
 
 pub use call::{Call, Reply};
 pub use machine::Machine;
+
+#[cfg(test)]
+mod tests;

@@ -1,3 +1,4 @@
+//! The machine that users share.
 ghost use Rattle.std.specs.Prelude.{◌≡◌, ℕ, ◌+◌, ◌^◌, ◌<◌, ◌≤◌, List, [], length, vec_len, vec_capacity, IfOk, OnErr, OnOk, IsSome, Some};
 ghost use Rattle.ce_model.specs.Machine.{IsMachine, IsLawful};
 ghost use Rattle.ce_daemon.specs.Boxes.{AreBoxes};
@@ -36,7 +37,11 @@ impl<N: Homed> Model for Machine<N> {
     ghost use Rattle.ce_machine.specs.Tables.{IsSoundMachine};
 
     ghost view = { λ machine. record {
-      parts = record { dim = machine.daemon.dim; users = machine.users; images = machine.images.items };
+      parts = record {
+        dim = machine.daemon.dim;
+        users = machine.users;
+        images = machine.images.items;
+      };
       history = machine.history.items;
     } };
 

@@ -1,4 +1,5 @@
 pub mod Answered
+pub mod Begun
 pub mod Calls
 pub mod Cleaned
 pub mod Copies
@@ -13,6 +14,7 @@ pub mod Moved
 pub mod Names
 pub mod Polling
 pub mod Processes
+pub mod Rooms
 pub mod Running
 pub mod Said
 pub mod Sorted

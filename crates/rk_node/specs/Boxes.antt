@@ -23,7 +23,7 @@ pub record IsClean (box : Box) : Type 0 where
   pub out : box.out ≡ Nothing
   pub room : (2 ^ greatest_dim + 1) * home_blocks ≤ box.room
 
--- the node of a box whose blocks were all taken away
+-- the node of a box that is emptied: no block is there, no process was started, none polls, and there is no turn
 abbrev pub scrubbed : Node → Node
 scrubbed node = record node { processes = replicate process_count unborn; store = []; polling = []; turn = None }
 

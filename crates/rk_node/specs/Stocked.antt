@@ -28,8 +28,8 @@ is_place_before a b = nat_lt a.0 b.0 || (a.0 == b.0 && nat_lt a.1 b.1)
 abbrev pub AreRising : List (ℕ × ℕ) → Type 0
 AreRising places = ArePairwise (λ a b. is_place_before a b ≡ true) places
 
--- there are as many processes as ids, the blocks in the store and in windows are no more than the node has room for, of which
--- either table has all, and there is memory for the list of those that poll
+-- there are as many processes as ids; the store and the table of held blocks have each room for all that the node has room for; held
+-- blocks are in used windows, in order; and there is memory for the list of those that poll
 pub record IsStocked (node : Node) : Type 0 where
   pub processes : length node.processes.items ≡ process_count
   pub rising : AreRising (map place_of node.held.mappings)

@@ -17,3 +17,6 @@ mod turn;
 pub use laws::scrubbed_is_clean_law;
 pub use node_box::NodeBox;
 pub use out::Out;
+
+#[cfg(test)]
+mod tests;

@@ -1,3 +1,4 @@
+//! The box of a node.
 ghost use Rattle.std.specs.Prelude.{◌≡◌, ◌+◌, ◌*◌, ◌^◌, ◌<◌, ◌≤◌, length, Contains, IfOk, [], None};
 ghost use Rattle.ce_model.specs.Limits.{process_count, greatest_dim, greatest_images, host_home, home_blocks};
 ghost use Rattle.ce_model.specs.Blocks.{put, put_all};
@@ -37,7 +38,11 @@ impl Model for NodeBox {
 
     ghost Value = { Box };
 
-    ghost view = { λ inside. record { node = node_of inside.node; room = inside.node.room; out = inside.out } };
+    ghost view = { λ inside. record {
+      node = node_of inside.node;
+      room = inside.node.room;
+      out = inside.out;
+    } };
 
     ghost invariant = { λ inside. IsWhole inside.node inside.out };
 }

@@ -1,3 +1,4 @@
+//! Which call of a node waits for its answer.
 /// Which call of a node is out: said, and not answered yet. A Take doesn't count, since it may be said again.
 #[derive(Clone, Copy, Debug, PartialEq, Eq)]
 pub enum Out {

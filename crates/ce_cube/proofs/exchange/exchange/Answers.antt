@@ -1,4 +1,4 @@
-use Rattle.std.proofs.Common.{◌≡◌, ℕ, length, refl, subst, sym, ap, ◌∙◌}
+use Rattle.std.proofs.Common.{length, refl, subst, sym, ap, ◌∙◌}
 use Rattle.rk_node.specs.Answering.{CanHear}
 use Rattle.rk_node.specs.Boxes.{Box, IsClean}
 use Rattle.ce_model.specs.Machine.{Fits, in_cube}

@@ -3,27 +3,27 @@ use Rattle.ce_model.specs.Blocks.{put_all}
 use Rattle.ce_model.specs.Node.{blocks_of}
 use Rattle.xm_block.specs.Stores.{ids_of}
 use Rattle.rk_node.specs.Boxes.{Box}
-use Rattle.ce_cube.specs.Homecoming.{emptied}
+use Rattle.ce_cube.specs.Homecoming.{emptied_box}
 use Rattle.ce_cube.proofs.Gathering.{next-is, one_changed, length-more, length-next, next-apart, moved-more}
 use Rattle.ce_cube.proofs.rehoming.scrub_all.Goals as goal
 
 pub scrub-requires-clause-idle : goal.scrub-requires-clause-idle
 scrub-requires-clause-idle c =
     let d : Box = c.node-item.result in
-    ap (λ (box : Box). box.out) (next-is emptied c.args.nodes.now c.loop-node.nodes c.loop-node.node-index c.loop-node-test.true c.loop-node.invariant.boxes d)
+    ap (λ (box : Box). box.out) (next-is emptied_box c.args.nodes.now c.loop-node.nodes c.loop-node.node-index c.loop-node-test.true c.loop-node.invariant.boxes d)
     ∙ c.requires.idle c.loop-node.node-index d c.loop-node-test.true
 
 pub scrub-requires-clause-room : goal.scrub-requires-clause-room
 scrub-requires-clause-room c =
     let d : Box = c.node-item.result in
-    let same = next-is emptied c.args.nodes.now c.loop-node.nodes c.loop-node.node-index c.loop-node-test.true c.loop-node.invariant.boxes d in
+    let same = next-is emptied_box c.args.nodes.now c.loop-node.nodes c.loop-node.node-index c.loop-node-test.true c.loop-node.invariant.boxes d in
     let next = length-next (λ (box : Box). blocks_of box.node) c.args.nodes.now c.loop-node.node-index d c.loop-node-test.true in
     rw same (omega (arith, next, c.requires.room, c.loop-node.invariant.spare))
 
 pub scrub-requires-clause-apart : goal.scrub-requires-clause-apart
 scrub-requires-clause-apart c =
     let d : Box = c.node-item.result in
-    let same = next-is emptied c.args.nodes.now c.loop-node.nodes c.loop-node.node-index c.loop-node-test.true c.loop-node.invariant.boxes d in
+    let same = next-is emptied_box c.args.nodes.now c.loop-node.nodes c.loop-node.node-index c.loop-node-test.true c.loop-node.invariant.boxes d in
     rw same (next-apart (λ (box : Box). blocks_of box.node) c.args.nodes.now c.loop-node.node-index d c.loop-node-test.true c.args.store.now c.loop-node.store
     c.loop-node.invariant.moved c.requires.apart)
 
@@ -33,9 +33,9 @@ loop-node-preserved c =
     let i = c.loop-node.node-index in
     let within = c.loop-node-test.true in
     let has = λ (box : Box). blocks_of box.node in
-    let same = next-is emptied c.args.nodes.now c.loop-node.nodes i within c.loop-node.invariant.boxes d in
+    let same = next-is emptied_box c.args.nodes.now c.loop-node.nodes i within c.loop-node.invariant.boxes d in
     record {
-      boxes = one_changed emptied c.args.nodes.now c.loop-node.nodes i within c.loop-node.invariant.boxes d c.scrub.new.self (c.scrub.ensures.after ∙ ap emptied same);
+      boxes = one_changed emptied_box c.args.nodes.now c.loop-node.nodes i within c.loop-node.invariant.boxes d c.scrub.new.self (c.scrub.ensures.after ∙ ap emptied_box same);
       moved = moved-more has c.args.nodes.now i d within (ids_of c.args.store.now.blocks) (ids_of c.loop-node.store.blocks) (ids_of c.scrub.new.out.blocks)
           c.loop-node.invariant.moved (c.scrub.ensures.moved ∙ ap (λ (box : Box). put_all (blocks_of box.node) (ids_of c.loop-node.store.blocks)) same);
       spare = omega (

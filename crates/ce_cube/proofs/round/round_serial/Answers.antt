@@ -1,5 +1,6 @@
 use Rattle.std.proofs.Common.{arith}
-use Rattle.ce_cube.proofs.Crewing.{few-nodes, round-goes_on}
+use Rattle.std.proofs.lemmas.Result.{err_from_is_err_and}
+use Rattle.ce_cube.proofs.Crewing.{few-nodes, round-goes_on, stopped-round}
 use Rattle.ce_cube.proofs.round.round_serial.Goals as goal
 
 pub overflow_cast-count : goal.overflow_cast-count
@@ -10,3 +11,9 @@ pub loop-r-preserved : goal.loop-r-preserved
 loop-r-preserved c =
     round-goes_on c.args.machine.now c.loop-r.machine c.turn_of.new.machine c.args.crew.now c.loop-r.crew c.turn_of.new.crew c.loop-r.r c.loop-r.work c.in_ok-work.field-0
     c.loop-r.invariant c.in_ok-work.ensures
+
+pub returns-in_err-work : goal.returns-in_err-work
+returns-in_err-work c =
+    let p = err_from_is_err_and c.from_residual.result c.from_residual.ensures.1 in
+    rw p.1 (stopped-round c.args.machine.now c.loop-r.machine c.turn_of.new.machine c.args.crew.now c.loop-r.crew c.loop-r.r c.loop-r.work
+    c.loop-r.invariant c.in_err-work.ensures)

@@ -3,7 +3,7 @@ use Rattle.std.proofs.lemmas.List.{with_items_is}
 use Rattle.ce_model.specs.declared.entry.Entry.{Entry}
 use Rattle.rk_node.specs.Boxes.{Box}
 use Rattle.ce_cube.specs.Crews.{AreBoxesInStep, cube_grant}
-use Rattle.ce_cube.specs.Homecoming.{entered}
+use Rattle.ce_cube.specs.Homecoming.{entered_box}
 use Rattle.ce_cube.proofs.Openings.{host-begins, boxes-begin}
 use Rattle.ce_cube.proofs.crew.SerialCrew.new.Goals as goal
 
@@ -16,7 +16,7 @@ returns-clause-in_step c parts history machine images held begins =
     let boxes : AreBoxesInStep parts history grant c.enter_all.new.nodes = boxes-begin grant parts history c.args.images c.args.nodes.items c.enter_all.new.nodes
     c.requires.dim begins images c.requires.boxes long
     (λ r other below. c.enter_all.ensures r other (omega (arith, below, ap (λ (xs : List Box). length xs) before))
-    ∙ ap (λ (xs : List Box). entered grant.dim c.args.images r (slice_index_or xs r other)) before) in
+    ∙ ap (λ (xs : List Box). entered_box grant.dim c.args.images r (slice_index_or xs r other)) before) in
     record {
       held = held;
       boxes = subst (AreBoxesInStep parts history grant) (sym items) boxes;
