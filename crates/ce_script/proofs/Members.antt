@@ -44,7 +44,7 @@ among_front names more name e = list_any-append (bytes_eq name) names more ∙ a
 
 -- ---- names, each where it first appears
 
-filter_keeps : (one name : List ℕ) (names : List (List ℕ)) → bytes_eq name one ≡ false → is_among names name ≡ true → is_among (filter (λ other. not (bytes_eq one other)) names) name ≡ true
+pub filter_keeps : (one name : List ℕ) (names : List (List ℕ)) → bytes_eq name one ≡ false → is_among names name ≡ true → is_among (filter (λ other. not (bytes_eq one other)) names) name ≡ true
 filter_keeps one name [] apart e = absurd cc
 filter_keeps one name (next ∷ names) apart e =
     let others = filter (λ other. not (bytes_eq one other)) names in

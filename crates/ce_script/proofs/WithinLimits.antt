@@ -53,7 +53,7 @@ old_image before more word e =
     let unknown = refused_none (not (is_among before word)) UnknownImage (or_none _ _ e).1 in
     number_below (before ++ more) word (among_front before more word (not_false (is_among before word) unknown))
 
-two_each : (digits : List ℕ) → 2 * length (digit_bytes digits) ≤ length digits
+pub two_each : (digits : List ℕ) → 2 * length (digit_bytes digits) ≤ length digits
 two_each [] = omega arith
 two_each (digit ∷ []) = omega arith
 two_each (high ∷ low ∷ digits) = let others = two_each digits in omega (arith, others)
@@ -120,7 +120,7 @@ there_is kind (one ∷ others) e =
     ] e
 
 -- the last user is among the users, where there is one
-last_user_among : (before : List Statement) → list_any (is_of is_user) before ≡ true → is_among (names_in (of_kind is_user before)) (last_user before) ≡ true
+pub last_user_among : (before : List Statement) → list_any (is_of is_user) before ≡ true → is_among (names_in (of_kind is_user before)) (last_user before) ≡ true
 last_user_among before e =
     let found = there_is is_user before e in
     let P : List Statement → Type 0 = λ those. is_among (names_in those) (unwrap_or (last_or None (names_in those)) []) ≡ true in
@@ -150,7 +150,7 @@ user_within spot verb is v says =
     subst P (sym (names_append is_user spot.before (spot.here ∷ spot.behind)))
     (number_below (distinct (names_in (of_kind is_user spot.before) ++ more)) (last_user spot.before) (among_distinct (names_in (of_kind is_user spot.before) ++ more) (last_user spot.before) among))
 
-images_append : (before more : List Statement) → image_names (before ++ more) ≡ image_names before ++ image_names more
+pub images_append : (before more : List Statement) → image_names (before ++ more) ≡ image_names before ++ image_names more
 unfolding image_names
 images_append before more = names_append is_image before more
 

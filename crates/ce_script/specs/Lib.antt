@@ -13,10 +13,14 @@ pub mod Lines
 pub mod Load
 pub mod Moments
 pub mod Names
+pub mod ReadLines
+pub mod ReadWords
+pub mod Reading
 pub mod Rounds
 pub mod Sayings
 pub mod Scripts
 pub mod Serial
+pub mod Standing
 pub mod Spellings
 pub mod Statements
 pub mod TextParts

@@ -2,6 +2,8 @@
 use Rattle.std.specs.Prelude.{◌≡◌, ℕ, List, Some, None}
 use Rattle.ce_script.specs.declared.script.Script.{Script}
 use Rattle.ce_script.specs.declared.script.ScriptFault.{ScriptFault}
+use Rattle.ce_script.specs.declared.script.ScriptKind.{ScriptKind}
+use Rattle.ce_script.specs.declared.script.ScriptKind.TheVariants.{Memory}
 use Rattle.ce_script.specs.Statements.{statements}
 use Rattle.ce_script.specs.Sayings.{dimension, images, users, commands}
 use Rattle.ce_script.specs.Faults.{first_fault}
@@ -13,6 +15,11 @@ pub record IsScript (text : List ℕ) (script : Script) : Type 0 where
   pub images : script.images ≡ images (statements text)
   pub users : script.users ≡ users (statements text)
   pub commands : script.commands ≡ commands (statements text)
+
+-- memory ran out
+abbrev pub IsNoMemory : ScriptKind → Type 0
+IsNoMemory (Memory want) = Unit {0}
+IsNoMemory other = ⊥
 
 -- A text has a first fault.
 abbrev pub HasFault : List ℕ → Type 0

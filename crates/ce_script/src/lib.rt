@@ -5,8 +5,10 @@ mod grammar;
 mod laws;
 mod load;
 mod name;
+mod reader;
 mod record;
 mod script;
+mod spelling;
 #[cfg(test)]
 mod tests;
 mod texts;
@@ -14,6 +16,7 @@ mod texts;
 pub use laws::{grammar_law, limits_law};
 pub use load::make;
 pub use name::Name;
+pub use reader::read_script;
 pub use record::{Record, UserRecord};
 pub use script::{Named, Script, ScriptFault, ScriptKind};
 pub use texts::KindText;

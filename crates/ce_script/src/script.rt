@@ -1,10 +1,14 @@
 //! What a script says, and why a text is none.
+ghost use Rattle.std.specs.Prelude.{◌≡◌};
+ghost use Rattle.ce_script.specs.declared.script.ScriptKind.TheVariants.{Memory};
+
 use crate::name::Name;
 use ce_host::Command;
 use ce_model::NoMemory;
 use rv_asm::AsmKind;
 use rv_image::Image;
 use sqlite_items::Items;
+use std::alloc::AllocError;
 use thiserror::Error;
 
 /// An image with its name.
@@ -92,4 +96,31 @@ pub struct ScriptFault {
     pub line: u32,
     /// What is wrong with it.
     pub kind: ScriptKind,
+}
+
+impl ScriptKind {
+    ghost use Rattle.ce_script.specs.Bodies.{fault_at};
+
+    /// As a fault of this line.
+    pub(crate) fn at(self, line: u32) -> ScriptFault
+        ensures { result ≡ fault_at line self }
+    {
+        ScriptFault { line, kind: self }
+    }
+}
+
+impl From<NoMemory> for ScriptKind {
+    ghost from_gives = { λ want kind. kind ≡ Memory want };
+
+    fn from(want: NoMemory) -> ScriptKind {
+        ScriptKind::Memory(want)
+    }
+}
+
+impl From<AllocError> for ScriptKind {
+    ghost from_gives = { λ _ kind. kind ≡ Memory (record {}) };
+
+    fn from(_: AllocError) -> ScriptKind {
+        ScriptKind::Memory(NoMemory)
+    }
 }

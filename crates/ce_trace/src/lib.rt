@@ -25,3 +25,6 @@ mod words;
 pub use report::write_report;
 pub use summary::write_summary;
 pub use views::view;
+
+#[cfg(test)]
+mod tests;

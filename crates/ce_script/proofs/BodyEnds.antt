@@ -1,0 +1,225 @@
+-- The body of an image, up to its end.
+use Rattle.std.proofs.Common.{◌≡◌, ℕ, suc, ◌+◌, ◌-◌, ◌≤◌, ◌<◌, List, [], ◌∷◌, ◌++◌, length, take, get_or, nat_lt, Bool, true, false, not, cond, ◌||◌, Option, Some, None, Bor, refl, sym, ap, subst, ◌∙◌, arith, map, append_assoc}
+use Rattle.std.proofs.lemmas.Bool.{ltb-true}
+use Rattle.std.proofs.lemmas.Bool.Decides.{nat_tests}
+use Rattle.std.proofs.lemmas.List.{length-append, length-take, take_at, append-nil, append_cancel_right}
+use Rattle.std.proofs.lemmas.List.Sums.{split_at_first, passes_at_first}
+use Rattle.ce_text.proofs.Splitting.{split_cut, cut_pieces}
+use Rattle.std.proofs.lemmas.List.Folds.{list_any-append}
+use Rattle.std.proofs.lemmas.List.Concat.{flat_map-append}
+use Rattle.std.specs.Prelude.{flat_map, option_map, IfSome}
+use Rattle.std.specs.List.{list_any, slice_split, onto_first, position_or_len, before_first, after_first, AllByRecursion}
+use Rattle.ce_text.specs.Bytes.{is_line_feed}
+use Rattle.ce_text.specs.Line.{cut}
+use Rattle.ce_script.specs.declared.reader.rest.Rest.{Rest}
+use Rattle.ce_script.specs.declared.reader.rest.Body.{Body}
+use Rattle.ce_script.specs.Lines.{Line}
+use Rattle.ce_script.specs.Statements.{is_end, body_in}
+use Rattle.ce_script.specs.ReadLines.{texts_left, numbered, left_of, lines_left, lines_shown, size_of, reach_of, with_empty, IsBody, IsBodyIn, statements_from}
+use Rattle.ce_script.proofs.BodyLines.{line_at, joined, text_is, first_line, numbered_append, left}
+use Rattle.ce_script.proofs.Outside.{past_body, body_there, body_missing}
+
+-- ---- pieces
+
+not_none : {A : Type 0} (test : A → Bool) (all : List A) → (first : List A) × (others : List (List A)) × (slice_split test all ≡ first ∷ others)
+not_none test [] = ([], [], refl)
+not_none {A} test (one ∷ all) =
+    let more = not_none test all in
+    elim (test one) as (λ b. (first : List A) × (others : List (List A)) × (cond b ([] ∷ slice_split test all) (onto_first one (slice_split test all)) ≡ first ∷ others)) [
+      | true ↦ ([], slice_split test all, refl)
+      | false ↦ (one ∷ more.0, more.1, ap (onto_first one) more.2)
+    ]
+
+onto_some : {A : Type 0} (one : A) (pieces more : List (List A)) (first : List A) (others : List (List A)) → pieces ≡ first ∷ others → onto_first one (pieces ++ more) ≡ onto_first one pieces ++ more
+onto_some one pieces more first others e = ap (λ all. onto_first one (all ++ more)) e ∙ sym (ap (λ all. onto_first one all ++ more) e)
+
+split_apart : (front behind : List ℕ) → slice_split is_line_feed (front ++ 10 ∷ behind) ≡ slice_split is_line_feed front ++ slice_split is_line_feed behind
+split_apart [] behind = refl
+split_apart (byte ∷ front) behind =
+    let more = split_apart front behind in
+    let some = not_none is_line_feed front in
+    elim (is_line_feed byte) as (λ b. cond b ([] ∷ slice_split is_line_feed (front ++ 10 ∷ behind)) (onto_first byte (slice_split is_line_feed (front ++ 10 ∷ behind)))
+    ≡ cond b ([] ∷ slice_split is_line_feed front) (onto_first byte (slice_split is_line_feed front)) ++ slice_split is_line_feed behind) [
+      | true ↦ ap (λ rest. [] ∷ rest) more
+      | false ↦ ap (onto_first byte) more ∙ onto_some byte (slice_split is_line_feed front) (slice_split is_line_feed behind) some.0 some.1 some.2
+    ]
+
+-- a text without a line feed is one piece
+abbrev pub IsPiece : List ℕ → Type 0
+IsPiece text = slice_split is_line_feed text ≡ text ∷ []
+
+pub split_joined : (texts : List (List ℕ)) → AllByRecursion IsPiece texts → slice_split is_line_feed (joined texts) ≡ texts ++ [] ∷ []
+split_joined [] each = refl
+split_joined (text ∷ texts) each =
+    ap (slice_split is_line_feed) (append_assoc text (10 ∷ []) (joined texts))
+    ∙ split_apart text (joined texts)
+    ∙ ap (λ pieces. pieces ++ slice_split is_line_feed (joined texts)) each.0
+    ∙ ap (λ rest. text ∷ rest) (split_joined texts each.1)
+
+same_byte : (byte : ℕ) → is_line_feed byte ≡ true → byte ≡ 10
+same_byte byte e = grind (arith, nat_tests)
+
+parted : (front behind bytes : List ℕ) (within : Bool) → nat_lt (position_or_len is_line_feed bytes) (length bytes) ≡ within
+    → front ≡ before_first is_line_feed bytes → Some behind ≡ cond within (Some (after_first is_line_feed bytes)) None → bytes ≡ front ++ 10 ∷ behind
+parted front behind bytes true lt same found =
+    let within : position_or_len is_line_feed bytes < length bytes = ltb-true _ _ lt in
+    let after : behind ≡ after_first is_line_feed bytes = cc in
+    let feed : get_or bytes (position_or_len is_line_feed bytes) 0 ≡ 10 = same_byte _ (passes_at_first is_line_feed bytes 0 within) in
+    split_at_first is_line_feed bytes 0 within
+    ∙ ap (λ (byte : ℕ). before_first is_line_feed bytes ++ (byte ∷ after_first is_line_feed bytes)) feed
+    ∙ ap (λ (text : List ℕ). text ++ (10 ∷ after_first is_line_feed bytes)) (sym same)
+    ∙ ap (λ (text : List ℕ). front ++ (10 ∷ text)) (sym after)
+parted front behind bytes false lt same found = absurd cc
+
+cut_bytes : (front behind bytes : List ℕ) → (front, Some behind) ≡ cut is_line_feed bytes → bytes ≡ front ++ 10 ∷ behind
+unfolding cut
+cut_bytes front behind bytes e = parted front behind bytes (nat_lt (position_or_len is_line_feed bytes) (length bytes)) refl
+    (ap (λ (parts : List ℕ × Option (List ℕ)). parts.0) e) (ap (λ (parts : List ℕ × Option (List ℕ)). parts.1) e)
+
+cut_piece : (front behind bytes : List ℕ) → (front, Some behind) ≡ cut is_line_feed bytes → IsPiece front
+cut_piece front behind bytes e =
+    append_cancel_right (slice_split is_line_feed front) (front ∷ []) (slice_split is_line_feed behind)
+    (sym (split_apart front behind) ∙ ap (slice_split is_line_feed) (sym (cut_bytes front behind bytes e))
+    ∙ split_cut is_line_feed bytes ∙ ap (cut_pieces is_line_feed) (sym e))
+
+-- ---- the search for the end
+
+-- what was passed, and what is left of it all
+pub record IsAt (done : List (List ℕ)) (all bytes : List ℕ) : Type 0 where
+  pub joins : all ≡ joined done ++ bytes
+  pub each : AllByRecursion IsPiece done
+
+-- the search for the end of a body, at what is left
+pub record IsUpTo (rest : Rest) (all : List ℕ) (here : Rest) : Type 0 where
+  pub done : List (List ℕ)
+  pub lines : lines_left rest ≡ numbered (rest.before + 1) done ++ lines_left here
+  pub going : list_any is_end (numbered (rest.before + 1) done) ≡ false
+  pub bytes : IfSome here.text (λ bytes. IsAt done all bytes.now)
+  pub before : here.before ≡ rest.before + length done
+  pub reach : reach_of here ≤ reach_of rest
+
+-- ---- one line further
+
+joined_more : (texts : List (List ℕ)) (text : List ℕ) → joined (texts ++ text ∷ []) ≡ joined texts ++ (text ++ 10 ∷ [])
+joined_more texts text = flat_map-append (λ (it : List ℕ). it ++ 10 ∷ []) texts (text ∷ []) ∙ ap (λ (last : List ℕ). joined texts ++ last) (append-nil (text ++ 10 ∷ []))
+
+each_more : (texts : List (List ℕ)) (text : List ℕ) → AllByRecursion IsPiece texts → IsPiece text → AllByRecursion IsPiece (texts ++ text ∷ [])
+each_more [] text each is = (is, tt)
+each_more (one ∷ texts) text each is = (each.0, each_more texts text each.1 is)
+
+module _ (rest here next : Rest) (all bytes front : List ℕ) (up : IsUpTo rest all here) (is : left_of here ≡ Some bytes)
+    (parts : (front, left_of next) ≡ cut is_line_feed bytes) (before : next.before ≡ here.before + 1) where
+  abbrev line : Line
+  line = line_at (here.before + 1) front
+
+  here_lines : lines_left here ≡ line ∷ lines_left next
+  here_lines =
+      ap (λ (left : Option (List ℕ)). numbered (here.before + 1) (texts_left left)) is
+      ∙ first_line (here.before + 1) bytes front (left_of next) parts
+      ∙ ap (λ (n : ℕ). line ∷ numbered (n + 1) (texts_left (left_of next))) (sym before)
+
+  pub all_lines : lines_left rest ≡ numbered (rest.before + 1) up.done ++ line ∷ lines_left next
+  all_lines = up.lines ∙ ap (λ lines. numbered (rest.before + 1) up.done ++ lines) here_lines
+
+  -- the line is the end
+  pub body_found : (body : Body) → body.at ≡ rest.before → is_end line ≡ true → body.text.now ≡ joined up.done → AllByRecursion IsPiece up.done → reach_of next ≤ reach_of here
+      → body.at + length body.text.now < reach_of rest → IsBodyIn rest body next
+  body_found body at ends text each shorter room =
+      let lines = numbered (rest.before + 1) up.done in
+      record {
+        lines = lines;
+        here = ap body_in all_lines ∙ body_there lines (lines_left next) line up.going ends;
+        is = record {
+          text = text_is (rest.before + 1) up.done ∙ sym text;
+          last = rest.before + 1 + length up.done;
+          shown =
+              ap (λ (n : ℕ). numbered (n + 1) (slice_split is_line_feed body.text.now)) at
+              ∙ ap (λ (bytes : List ℕ). numbered (rest.before + 1) (slice_split is_line_feed bytes)) text
+              ∙ ap (numbered (rest.before + 1)) (split_joined up.done each)
+              ∙ numbered_append (rest.before + 1) up.done ([] ∷ []);
+        };
+        at = at;
+        past = ap (statements_from true) all_lines ∙ past_body lines (lines_left next) line up.going ends;
+        later = record { lines = omega (arith, up.before, before); reach = omega (arith, shorter, up.reach) };
+        room = room;
+      }
+
+  more_lines : numbered (rest.before + 1) (up.done ++ front ∷ []) ≡ numbered (rest.before + 1) up.done ++ line ∷ []
+  more_lines =
+      let same : rest.before + 1 + length up.done ≡ here.before + 1 = omega (arith, up.before) in
+      numbered_append (rest.before + 1) up.done (front ∷ []) ∙ ap (λ (n : ℕ). numbered (rest.before + 1) up.done ++ line_at n front ∷ []) same
+
+  more_bytes : (left : Option (Bor (List ℕ))) → next.text ≡ left → IfSome here.text (λ bytes. IsAt up.done all bytes.now) → IfSome left (λ behind. IsAt (up.done ++ front ∷ []) all behind.now)
+  more_bytes None e at = tt
+  more_bytes (Some behind) e at =
+      let behind_is : (front, Some behind.now) ≡ cut is_line_feed bytes = ap (λ (it : Option (Bor (List ℕ))). (front, option_map (λ b. b.now) it)) (sym e) ∙ parts in
+      let here_at = some_at here.text is at in
+      record {
+        joins =
+            here_at.joins
+            ∙ ap (λ (left : List ℕ). joined up.done ++ left) (cut_bytes front behind.now bytes behind_is ∙ sym (append_assoc front (10 ∷ []) behind.now))
+            ∙ sym (append_assoc (joined up.done) (front ++ 10 ∷ []) behind.now)
+            ∙ ap (λ (text : List ℕ). text ++ behind.now) (sym (joined_more up.done front));
+        each = each_more up.done front here_at.each (cut_piece front behind.now bytes behind_is);
+      }
+    where
+      some_at : (left : Option (Bor (List ℕ))) → option_map (λ b. b.now) left ≡ Some bytes → IfSome left (λ bytes. IsAt up.done all bytes.now) → IsAt up.done all bytes
+      some_at None e at = absurd cc
+      some_at (Some it) e at = let same : it.now ≡ bytes = cc in subst (IsAt up.done all) same at
+
+  -- the line is another
+  pub body_goes_on : is_end line ≡ false → reach_of next ≤ reach_of here → IsUpTo rest all next
+  body_goes_on other shorter =
+      record {
+        done = up.done ++ front ∷ [];
+        lines = all_lines ∙ sym (append_assoc (numbered (rest.before + 1) up.done) (line ∷ []) (lines_left next)) ∙ ap (λ lines. lines ++ lines_left next) (sym more_lines);
+        going =
+            ap (list_any is_end) more_lines ∙ list_any-append is_end (numbered (rest.before + 1) up.done) (line ∷ [])
+            ∙ ap (λ found. found || (is_end line || false)) up.going ∙ ap (λ ends. ends || false) other;
+        bytes = more_bytes next.text refl up.bytes;
+        before = before ∙ omega (arith, up.before, length-append up.done (front ∷ []));
+        reach = omega (arith, shorter, up.reach);
+      }
+
+-- the search begins
+pub begins : (rest : Rest) (all : List ℕ) → IfSome rest.text (λ bytes. all ≡ bytes.now) → IsUpTo rest all rest
+begins rest all e = record {
+  done = [];
+  lines = refl;
+  going = refl;
+  bytes = at rest.text e;
+  before = omega arith;
+  reach = omega arith;
+}
+  where
+    at : (left : Option (Bor (List ℕ))) → IfSome left (λ bytes. all ≡ bytes.now) → IfSome left (λ bytes. IsAt [] all bytes.now)
+    at None e = tt
+    at (Some it) e = record { joins = e; each = tt }
+
+-- nothing is left, and no end was found
+pub body_ended : (rest here : Rest) (all : List ℕ) → IsUpTo rest all here → left_of here ≡ None → body_in (lines_left rest) ≡ None
+body_ended rest here all up none =
+    let lines = numbered (rest.before + 1) up.done in
+    let empty : lines_left here ≡ [] = ap (λ (left : Option (List ℕ)). numbered (here.before + 1) (texts_left left)) none in
+    let all_lines : lines_left rest ≡ lines = up.lines ∙ ap (λ rest. lines ++ rest) empty ∙ append-nil lines in
+    body_missing (lines_left rest) (ap (list_any is_end) all_lines ∙ up.going)
+
+pub nothing_left : (rest : Rest) → left_of rest ≡ None → body_in (lines_left rest) ≡ None
+nothing_left rest none = body_missing (lines_left rest) (ap (λ (left : Option (List ℕ)). list_any is_end (numbered (rest.before + 1) (texts_left left))) none)
+
+-- what stands before what is left
+pub taken : (all front bytes : List ℕ) → all ≡ front ++ bytes → take (length all - length bytes) all ≡ front
+taken all front bytes e =
+    let count : length front ≡ length all - length bytes = omega (arith, ap length e, length-append front bytes) in
+    ap (take (length all - length bytes)) e ∙ take_at front bytes (length all - length bytes) count
+
+pub is_at : (done : List (List ℕ)) (all : List ℕ) (left : Option (Bor (List ℕ))) (it : Bor (List ℕ)) → left ≡ Some it → IfSome left (λ bytes. IsAt done all bytes.now) → IsAt done all it.now
+is_at done all None it e at = absurd cc
+is_at done all (Some one) it e at = let same : one ≡ it = cc in subst (λ (b : Bor (List ℕ)). IsAt done all b.now) same at
+
+pub reach_shorter : (here next : Rest) (bytes : List ℕ) → left_of here ≡ Some bytes → next.before ≡ here.before + 1 → size_of (left_of next) ≤ length bytes → reach_of next ≤ reach_of here
+reach_shorter here next bytes e before le = omega (arith, ap size_of e, before, le)
+
+-- a body ends before what is left of all
+pub room_left : (rest : Rest) (all bytes : List ℕ) → left_of rest ≡ Some all → rest.before + length (take (length all - length bytes) all) < reach_of rest
+room_left rest all bytes is = omega (arith, ap size_of is, length-take (length all - length bytes) all)

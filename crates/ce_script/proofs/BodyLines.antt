@@ -1,0 +1,100 @@
+-- The lines of what is left of a text, one further.
+use Rattle.std.proofs.Common.{◌≡◌, ℕ, suc, ◌+◌, ◌≤◌, ◌<◌, List, [], ◌∷◌, ◌++◌, length, Bool, true, false, not, cond, ◌||◌, Option, Some, None, Bor, refl, sym, ap, ◌∙◌, arith, map, append_assoc, append-nil}
+use Rattle.std.proofs.lemmas.List.Folds.{find-append, list_any-append}
+use Rattle.std.proofs.lemmas.List.Concat.{flat_map-append}
+use Rattle.std.specs.Prelude.{find, flat_map, option_map, unwrap_or, is_none, IfSome}
+use Rattle.std.specs.Option.{option_or}
+use Rattle.std.specs.List.{list_any, list_all, slice_split, enumerate_from}
+use Rattle.ce_text.specs.Bytes.{is_line_feed, is_plain}
+use Rattle.ce_text.specs.Line.{cut, before_comment}
+use Rattle.ce_text.specs.Words.{words as words_between}
+use Rattle.ce_text.proofs.Splitting.{split_cut, split_behind, cut_pieces}
+use Rattle.ce_script.specs.Lines.{Line, words, has_bad_byte}
+use Rattle.ce_script.specs.Statements.{is_end, body_in}
+use Rattle.ce_script.specs.Bodies.{has_bad_word, bytes_of, text_of}
+use Rattle.ce_script.specs.ReadLines.{texts_left, numbered, size_of, with_empty}
+
+-- the bytes that are left, if any
+abbrev pub left : Option (Bor (List ℕ)) → Option (List ℕ)
+left rest = option_map (λ bytes. bytes.now) rest
+
+pub left_shorter : (rest : Option (Bor (List ℕ))) (n : ℕ) → IfSome rest (λ bytes. length bytes.now < n) → size_of (left rest) ≤ n
+left_shorter None n h = omega arith
+left_shorter (Some rest) n h = omega arith
+
+same_pieces : (rest : Option (List ℕ)) → split_behind is_line_feed rest ≡ texts_left rest
+same_pieces None = refl
+same_pieces (Some rest) = refl
+
+abbrev pub line_at : ℕ → List ℕ → Line
+line_at n text = record { number = n; text = text }
+
+-- what is left begins with its first line
+pub first_line : (n : ℕ) (bytes front : List ℕ) (after : Option (List ℕ)) → (front, after) ≡ cut is_line_feed bytes
+    → numbered n (slice_split is_line_feed bytes) ≡ line_at n front ∷ numbered (n + 1) (texts_left after)
+first_line n bytes front after e =
+    ap (numbered n) (split_cut is_line_feed bytes ∙ ap (cut_pieces is_line_feed) (sym e) ∙ ap (λ rest. front ∷ rest) (same_pieces after))
+
+module _ (n : ℕ) (bytes front : List ℕ) (after : Option (List ℕ)) (parts : (front, after) ≡ cut is_line_feed bytes) where
+  pub found_here : (test : Line → Bool) → test (line_at n front) ≡ true → find test (numbered n (slice_split is_line_feed bytes)) ≡ Some (line_at n front)
+  found_here test e = ap (find test) (first_line n bytes front after parts) ∙ ap (λ here. cond here (Some (line_at n front)) (find test (numbered (n + 1) (texts_left after)))) e
+
+  pub goes_on : (test : Line → Bool) → test (line_at n front) ≡ false → find test (numbered n (slice_split is_line_feed bytes)) ≡ find test (numbered (n + 1) (texts_left after))
+  goes_on test e = ap (find test) (first_line n bytes front after parts) ∙ ap (λ here. cond here (Some (line_at n front)) (find test (numbered (n + 1) (texts_left after)))) e
+
+  pub bytes_on : (read : List ℕ → Option (List ℕ)) → bytes_of read (numbered n (slice_split is_line_feed bytes)) ≡ flat_map (λ word. unwrap_or (read word) []) (words (line_at n front)) ++ bytes_of read (numbered (n + 1) (texts_left after))
+  unfolding bytes_of
+  bytes_on read = ap (bytes_of read) (first_line n bytes front after parts)
+
+pub no_bytes : (read : List ℕ → Option (List ℕ)) (n : ℕ) → bytes_of read (numbered n []) ≡ []
+unfolding bytes_of
+no_bytes read n = refl
+
+-- ---- an empty line at the end
+
+pub numbered_append : (n : ℕ) (front back : List (List ℕ)) → numbered n (front ++ back) ≡ numbered n front ++ numbered (n + length front) back
+numbered_append n [] back = ap (λ m. numbered m back) (omega arith)
+numbered_append n (text ∷ front) back =
+    let same : n + 1 + length front ≡ n + length (text ∷ front) = omega arith in
+    ap (λ rest. line_at n text ∷ rest) (numbered_append (n + 1) front back ∙ ap (λ m. numbered (n + 1) front ++ numbered m back) same)
+
+find_last : (test : Line → Bool) (lines : List Line) (last : ℕ) → test (line_at last []) ≡ false → find test (with_empty lines last) ≡ find test lines
+find_last test lines last e =
+    find-append test lines (line_at last [] ∷ []) ∙ ap (λ here. option_or (find test lines) (cond here (Some (line_at last [])) None)) e ∙ or_none (find test lines)
+  where
+    or_none : (one : Option Line) → option_or one None ≡ one
+    or_none None = refl
+    or_none (Some x) = refl
+
+empty_plain : (last : ℕ) → has_bad_byte (line_at last []) ≡ false
+unfolding before_comment cut
+empty_plain last = refl
+
+empty_words : (last : ℕ) → words (line_at last []) ≡ []
+unfolding words_between before_comment cut
+empty_words last = refl
+
+pub shown_bad_byte : (lines : List Line) (last : ℕ) → find has_bad_byte (with_empty lines last) ≡ find has_bad_byte lines
+shown_bad_byte lines last = find_last has_bad_byte lines last (empty_plain last)
+
+pub shown_bad_word : (read : List ℕ → Option (List ℕ)) (lines : List Line) (last : ℕ) → find (has_bad_word read) (with_empty lines last) ≡ find (has_bad_word read) lines
+shown_bad_word read lines last = find_last (has_bad_word read) lines last (ap (list_any (λ word. is_none (read word))) (empty_words last))
+
+pub shown_bytes : (read : List ℕ → Option (List ℕ)) (lines : List Line) (last : ℕ) → bytes_of read (with_empty lines last) ≡ bytes_of read lines
+unfolding bytes_of
+shown_bytes read lines last =
+    let f : Line → List ℕ = λ line. flat_map (λ word. unwrap_or (read word) []) (words line) in
+    flat_map-append f lines (line_at last [] ∷ [])
+    ∙ ap (λ none. flat_map f lines ++ (flat_map (λ word. unwrap_or (read word) []) none ++ [])) (empty_words last)
+    ∙ append-nil (flat_map f lines)
+
+-- ---- the bytes of lines
+
+-- lines, each ended by a line feed
+abbrev pub joined : List (List ℕ) → List ℕ
+joined texts = flat_map (λ text. text ++ 10 ∷ []) texts
+
+pub text_is : (n : ℕ) (texts : List (List ℕ)) → text_of (numbered n texts) ≡ joined texts
+unfolding text_of
+text_is n [] = refl
+text_is n (text ∷ texts) = ap (λ rest. (text ++ 10 ∷ []) ++ rest) (text_is (n + 1) texts)

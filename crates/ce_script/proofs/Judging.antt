@@ -1,0 +1,238 @@
+-- How the reader's tests are those of the definitions.
+use Rattle.std.proofs.Common.{◌≡◌, ℕ, suc, ◌+◌, ◌<◌, ◌≤◌, List, [], ◌∷◌, ◌++◌, length, get_or, Bool, true, false, not, cond, ◌&&◌, ◌||◌, ◌==◌, Option, Some, None, refl, sym, ap, ◌∙◌, arith, nat_lt, map}
+use Rattle.std.proofs.lemmas.Bool.Decides.{nat_tests}
+use Rattle.std.proofs.lemmas.List.{length-append}
+use Rattle.std.proofs.lemmas.Slice.Eq.{bytes_eq-Decides}
+use Rattle.std.specs.Prelude.{is_none, is_some, unwrap_or, position, bytes_eq}
+use Rattle.std.proofs.lemmas.Str.{IsUtf8-from_ascii}
+use Rattle.std.proofs.lemmas.Str.Ascii.{IsAscii-nil, IsAscii-cons}
+use Rattle.std.specs.Char.{is_ascii_alphabetic}
+use Rattle.std.specs.Str.{IsAscii, IsUtf8}
+use Rattle.std.specs.Option.{option_or, option_map_or}
+use Rattle.std.specs.List.{list_any, list_all, position_or_len}
+use Rattle.std.proofs.lemmas.List.Folds.{list_any-append}
+use Rattle.ce_model.specs.Limits.{greatest_users, greatest_images, greatest_users_lem, greatest_images_lem}
+use Rattle.ce_script.specs.declared.grammar.Verb.{Verb}
+use Rattle.ce_script.specs.declared.reader.state.Reader.{Reader}
+use Rattle.ce_script.specs.declared.script.ScriptKind.{ScriptKind}
+use Rattle.ce_script.specs.declared.script.ScriptKind.TheVariants.{BadByte, UnknownWord, WordCount, BadName, NameTaken, TooMany, UnknownImage}
+use Rattle.ce_script.specs.Lines.{words, has_bad_byte}
+use Rattle.ce_script.specs.Names.{is_name, is_name_byte}
+use Rattle.ce_script.specs.Verbs.{verbs, verb_of, look_up, is_image, operands_of, OldImage, NewImage}
+use Rattle.ce_script.specs.Statements.{Statement, operand, is_of}
+use Rattle.ce_script.specs.Sayings.{number_of}
+use Rattle.ce_script.specs.Faults.{refused, has_unknown_form, is_unknown, has_wrong_count, is_among, operand_fault}
+use Rattle.ce_script.specs.Reading.{word_fault, with_name, user_fault}
+use Rattle.ce_script.specs.Standing.{new_image_fault, with_user}
+
+-- ---- names among names
+
+any_place : {A : Type 0} (test : A → Bool) (all : List A) → list_any test all ≡ nat_lt (position_or_len test all) (length all)
+any_place test [] = refl
+any_place {A} test (one ∷ others) =
+    let more = any_place test others in
+    elim (test one) as (λ here. here || list_any test others ≡ nat_lt (cond (not here) (1 + position_or_len test others) 0) (suc (length others))) [
+      | true ↦ above
+      | false ↦ more ∙ below (position_or_len test others) (length others)
+    ]
+  where
+    above : true ≡ nat_lt 0 (suc (length others))
+    above = grind (arith, nat_tests)
+
+    below : (m n : ℕ) → nat_lt m n ≡ nat_lt (1 + m) (suc n)
+    below m n = grind (arith, nat_tests)
+
+some_is : {A : Type 0} (test : Bool) (one : A) → is_some (cond test (Some one) None) ≡ test
+some_is true one = refl
+some_is false one = refl
+
+-- a name is among names where it has a place
+pub among_place : (names : List (List ℕ)) (name : List ℕ) → is_some (position (bytes_eq name) names) ≡ is_among names name
+among_place names name = some_is (nat_lt (position_or_len (bytes_eq name) names) (length names)) _ ∙ sym (any_place (bytes_eq name) names)
+
+pub among_there : (names : List (List ℕ)) (name : List ℕ) (n : ℕ) → position (bytes_eq name) names ≡ Some n → is_among names name ≡ true
+among_there names name n e = sym (among_place names name) ∙ ap is_some e
+
+pub among_missing : (names : List (List ℕ)) (name : List ℕ) → position (bytes_eq name) names ≡ None → is_among names name ≡ false
+among_missing names name e = sym (among_place names name) ∙ ap is_some e
+
+pub number_there : (names : List (List ℕ)) (name : List ℕ) (n : ℕ) → position (bytes_eq name) names ≡ Some n → number_of name names ≡ n
+number_there names name n e = ap (λ found. unwrap_or found 0) e
+
+below_by : (n size : ℕ) (within : Bool) (found : ℕ) → nat_lt n size ≡ within → cond within (Some n) None ≡ Some found → found < size
+below_by n size true found e f = let same : n ≡ found = cc in let lt : n < size = grind (arith, nat_tests) in omega arith
+below_by n size false found e f = absurd cc
+
+pub place_below : (names : List (List ℕ)) (name : List ℕ) (n : ℕ) → position (bytes_eq name) names ≡ Some n → n < length names
+place_below names name n e = below_by (position_or_len (bytes_eq name) names) (length names) (nat_lt (position_or_len (bytes_eq name) names) (length names)) n refl e
+
+-- ---- images
+
+pub old_there : (names : List (List ℕ)) (name : List ℕ) (n : ℕ) → is_name name ≡ true → position (bytes_eq name) names ≡ Some n
+    → (operand_fault names OldImage name ≡ None) × (Some (number_of name names) ≡ Some n)
+old_there names name n e f = let among = among_there names name n f in (rw (e, among) refl, ap Some (number_there names name n f))
+
+pub old_missing : (names : List (List ℕ)) (name : List ℕ) → is_name name ≡ true → position (bytes_eq name) names ≡ None → operand_fault names OldImage name ≡ Some UnknownImage
+old_missing names name e f = let among = among_missing names name f in rw (e, among) refl
+
+more_than : (most n : ℕ) → most < n → nat_lt most n ≡ true
+more_than most n lt = grind (arith, nat_tests)
+
+no_more_than : (most n : ℕ) → n ≤ most → nat_lt most n ≡ false
+no_more_than most n le = grind (arith, nat_tests)
+
+pub image_taken : (names : List (List ℕ)) (name : List ℕ) → is_name name ≡ true → is_among names name ≡ true → new_image_fault names name ≡ Some NameTaken
+image_taken names name e f = rw (e, f) refl
+
+pub image_over : (names : List (List ℕ)) (name : List ℕ) → is_name name ≡ true → is_among names name ≡ false → 64 ≤ length names → new_image_fault names name ≡ Some TooMany
+image_over names name e f le =
+    let many = more_than greatest_images (length (names ++ name ∷ [])) (omega (arith, greatest_images_lem, length-append names (name ∷ []))) in
+    rw (e, f, many) refl
+
+pub image_fits : (names : List (List ℕ)) (name : List ℕ) → is_name name ≡ true → is_among names name ≡ false → length names < 64 → new_image_fault names name ≡ None
+image_fits names name e f lt =
+    let few = no_more_than greatest_images (length (names ++ name ∷ [])) (omega (arith, greatest_images_lem, length-append names (name ∷ []))) in
+    rw (e, f, few) refl
+
+-- ---- users
+
+pub known_user : (names : List (List ℕ)) (name : List ℕ) (n : ℕ) → length names ≤ greatest_users → is_name name ≡ true → position (bytes_eq name) names ≡ Some n
+    → user_fault names name ≡ None
+known_user names name n le e f =
+    let among = among_there names name n f in
+    let few = no_more_than greatest_users (length names) le in
+    rw (e, among, few) refl
+
+pub user_over : (names : List (List ℕ)) (name : List ℕ) → is_name name ≡ true → position (bytes_eq name) names ≡ None → 8 ≤ length names → user_fault names name ≡ Some TooMany
+user_over names name e f le =
+    let among = among_missing names name f in
+    let many = more_than greatest_users (length (names ++ name ∷ [])) (omega (arith, greatest_users_lem, length-append names (name ∷ []))) in
+    rw (e, among, many) refl
+
+pub user_fits : (names : List (List ℕ)) (name : List ℕ) → is_name name ≡ true → position (bytes_eq name) names ≡ None → length names < 8 → user_fault names name ≡ None
+user_fits names name e f lt =
+    let among = among_missing names name f in
+    let few = no_more_than greatest_users (length (names ++ name ∷ [])) (omega (arith, greatest_users_lem, length-append names (name ∷ []))) in
+    rw (e, among, few) refl
+
+same : (name : List ℕ) → bytes_eq name name ≡ true
+same name = (bytes_eq-Decides name name).1 refl
+
+both_not : (a b : Bool) → a || b ≡ false → (a ≡ false) × (b ≡ false)
+both_not true b e = absurd cc
+both_not false b e = (refl, e)
+
+last_place : (names : List (List ℕ)) (name : List ℕ) → is_among names name ≡ false → position_or_len (bytes_eq name) (names ++ name ∷ []) ≡ length names
+last_place [] name e = ap (λ same. cond (not same) (1 + 0) 0) (same name)
+last_place (one ∷ names) name e =
+    let both = both_not (bytes_eq name one) (is_among names name) e in
+    let more = last_place names name both.1 in
+    ap (λ here. cond (not here) (1 + position_or_len (bytes_eq name) (names ++ name ∷ [])) 0) both.0 ∙ omega (arith, more)
+
+last_number : (names : List (List ℕ)) (name : List ℕ) → is_among names name ≡ false → number_of name (names ++ name ∷ []) ≡ length names
+last_number names name e =
+    let place = last_place names name e in
+    let within : nat_lt (length names) (length (names ++ name ∷ [])) ≡ true = more_than _ _ (omega (arith, length-append names (name ∷ []))) in
+    rw (place, within) refl
+
+pub known_speaks : (reader : Reader) (name : List ℕ) (n : ℕ) → position (bytes_eq name) reader.script.users ≡ Some n
+    → record { script = reader.script; user = Some n } ≡ with_user reader name
+known_speaks reader name n e =
+    let names = reader.script.users in
+    let among = among_there names name n e in
+    let number = number_there names name n e in
+    rw (among, number) refl
+
+pub new_speaks : (reader : Reader) (name : List ℕ) (n : ℕ) → position (bytes_eq name) reader.script.users ≡ None → n ≡ length reader.script.users
+    → record { script = record { dim = reader.script.dim; images = reader.script.images; users = reader.script.users ++ name ∷ []; commands = reader.script.commands }; user = Some n } ≡ with_user reader name
+new_speaks reader name n e f =
+    let names = reader.script.users in
+    let among = among_missing names name e in
+    let number = last_number names name among in
+    rw (among, number, f) refl
+
+-- ---- words
+
+first_word : (all : List (List ℕ)) → look_up verbs (get_or all 0 []) ≡ verb_of all
+unfolding verb_of verbs
+first_word [] = refl
+first_word (word ∷ words) = refl
+
+pub verb_found : (here : Statement) (found : Option Verb) → found ≡ look_up verbs (operand 0 here) → verb_of (words here.line) ≡ found
+verb_found here found e = sym (e ∙ first_word (words here.line))
+
+abbrev judged_by : (here : Statement) (found : Option Verb) → Option ScriptKind
+judged_by here found =
+    option_or (refused (has_bad_byte here.line) BadByte)
+    (option_or (refused (is_none found || (option_map_or is_image found false && has_unknown_form (words here.line))) UnknownWord)
+    (refused (not (length (words here.line) == 1 + length (option_map_or operands_of found []))) WordCount))
+
+judged_is : (here : Statement) (found : Option Verb) → verb_of (words here.line) ≡ found → word_fault here ≡ judged_by here found
+unfolding word_fault
+judged_is here found e = ap (judged_by here) e
+
+pub bad_byte : (here : Statement) → has_bad_byte here.line ≡ true → word_fault here ≡ Some BadByte
+unfolding word_fault
+bad_byte here e = rw e refl
+
+pub no_verb : (here : Statement) → has_bad_byte here.line ≡ false → verb_of (words here.line) ≡ None → word_fault here ≡ Some UnknownWord
+no_verb here e f = judged_is here None f ∙ rw e refl
+
+pub no_form : (here : Statement) (verb : Verb) → has_bad_byte here.line ≡ false → verb_of (words here.line) ≡ Some verb → is_image verb && has_unknown_form (words here.line) ≡ true
+    → word_fault here ≡ Some UnknownWord
+no_form here verb e f unknown = judged_is here (Some verb) f ∙ rw (e, unknown) refl
+
+and_no : (a : Bool) → a && false ≡ false
+and_no true = refl
+and_no false = refl
+
+-- an image has a form or no third word
+abbrev pub HasForm : Verb → Statement → Type 0
+HasForm verb here = is_image verb && has_unknown_form (words here.line) ≡ false
+
+differ : (m n : ℕ) → (m ≡ n → ⊥) → m == n ≡ false
+differ m n h = grind (arith, nat_tests)
+
+agree : (m n : ℕ) → m ≡ n → m == n ≡ true
+agree m n h = grind (arith, nat_tests)
+
+pub wrong_count : (here : Statement) (verb : Verb) → has_bad_byte here.line ≡ false → verb_of (words here.line) ≡ Some verb → HasForm verb here
+    → (length (words here.line) ≡ 1 + length (operands_of verb) → ⊥) → word_fault here ≡ Some WordCount
+wrong_count here verb e f form ne =
+    let count = differ (length (words here.line)) (1 + length (operands_of verb)) ne in
+    judged_is here (Some verb) f ∙ rw (e, form, count) refl
+
+pub right_words : (here : Statement) (verb : Verb) → has_bad_byte here.line ≡ false → verb_of (words here.line) ≡ Some verb → HasForm verb here
+    → length (words here.line) ≡ 1 + length (operands_of verb) → word_fault here ≡ None
+right_words here verb e f form same =
+    let count = agree (length (words here.line)) (1 + length (operands_of verb)) same in
+    judged_is here (Some verb) f ∙ rw (e, form, count) refl
+
+-- ---- names as text
+
+ascii_byte : (byte : ℕ) → is_name_byte byte ≡ true → byte < 128
+ascii_byte byte e = grind (arith, nat_tests)
+
+ascii_letter : (byte : ℕ) → is_ascii_alphabetic byte ≡ true → byte < 128
+ascii_letter byte e = grind (arith, nat_tests)
+
+and_first : (a b : Bool) → a && b ≡ true → a ≡ true
+and_first true b e = refl
+and_first false b e = absurd cc
+
+and_second : (a b : Bool) → a && b ≡ true → b ≡ true
+and_second true b e = e
+and_second false b e = absurd cc
+
+ascii_bytes : (bytes : List ℕ) → list_all is_name_byte bytes ≡ true → IsAscii bytes
+ascii_bytes [] e = IsAscii-nil
+ascii_bytes (byte ∷ bytes) e =
+    IsAscii-cons byte bytes (ascii_byte byte (and_first (is_name_byte byte) _ e)) (ascii_bytes bytes (and_second (is_name_byte byte) _ e))
+
+pub name_is_text : (name : List ℕ) → is_name name ≡ true → IsUtf8 name
+unfolding is_name
+name_is_text [] e = absurd cc
+name_is_text (byte ∷ bytes) e =
+    let front = and_first (is_ascii_alphabetic byte && list_all is_name_byte bytes) _ e in
+    IsUtf8-from_ascii (byte ∷ bytes)
+    (IsAscii-cons byte bytes (ascii_letter byte (and_first (is_ascii_alphabetic byte) _ front)) (ascii_bytes bytes (and_second (is_ascii_alphabetic byte) _ front)))

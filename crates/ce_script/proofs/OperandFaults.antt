@@ -1,0 +1,80 @@
+-- What is wrong with the operands behind each verb.
+use Rattle.std.proofs.Common.{◌≡◌, ℕ, ◌+◌, List, [], ◌∷◌, Option, Some, None, refl, sym, ap, ◌∙◌}
+use Rattle.std.specs.Prelude.{is_none}
+use Rattle.std.specs.Option.{option_or}
+use Rattle.ce_model.specs.Limits.{greatest_dim, greatest_count}
+use Rattle.ce_script.specs.declared.grammar.Verb.TheVariants.{Machine, Getcube, Peek, Freecube, Trace, Spawn, Kill, Send, Run, Recv, Dump}
+use Rattle.ce_script.specs.declared.script.ScriptKind.{ScriptKind}
+use Rattle.ce_script.specs.declared.script.ScriptKind.TheVariants.{BadNumber, BadHex}
+use Rattle.ce_script.specs.Spellings.{greatest_number, number_to, data_in}
+use Rattle.ce_script.specs.Verbs.{OldImage}
+use Rattle.ce_script.specs.Statements.{Statement, operand}
+use Rattle.ce_script.specs.Faults.{first_some, refused, operand_fault}
+use Rattle.ce_script.specs.Reading.{operands_judged}
+
+or_none : {A : Type 0} (one : Option A) → option_or one None ≡ one
+or_none None = refl
+or_none (Some x) = refl
+
+or_assoc : {A : Type 0} (one two three : Option A) → option_or (option_or one two) three ≡ option_or one (option_or two three)
+or_assoc None two three = refl
+or_assoc (Some x) two three = refl
+
+-- the number at a place is none, or above this
+abbrev pub number_fault : ℕ → ℕ → Statement → Option ScriptKind
+number_fault place most here = refused (is_none (number_to most (operand place here))) BadNumber
+
+-- the numbers of a place
+abbrev pub place_fault_at : ℕ → Statement → Option ScriptKind
+place_fault_at place here = first_some (number_fault place greatest_number here ∷ number_fault (place + 1) greatest_number here ∷ [])
+
+module _ (names : List (List ℕ)) (here : Statement) where
+  pub machine_fault : operands_judged names Machine here ≡ number_fault 1 6 here
+  unfolding operands_judged greatest_dim
+  machine_fault = or_none (number_fault 1 6 here)
+
+  pub getcube_fault : operands_judged names Getcube here ≡ number_fault 1 6 here
+  unfolding operands_judged greatest_dim
+  getcube_fault = or_none (number_fault 1 6 here)
+
+  pub run_fault : operands_judged names Run here ≡ number_fault 1 1000000 here
+  unfolding operands_judged greatest_count
+  run_fault = or_none (number_fault 1 1000000 here)
+
+  pub recv_fault : operands_judged names Recv here ≡ number_fault 1 1000000 here
+  unfolding operands_judged greatest_count
+  recv_fault = or_none (number_fault 1 1000000 here)
+
+  pub kill_fault : operands_judged names Kill here ≡ place_fault_at 1 here
+  unfolding operands_judged
+  kill_fault = refl
+
+  pub dump_fault : operands_judged names Dump here ≡ place_fault_at 1 here
+  unfolding operands_judged
+  dump_fault = refl
+
+  pub spawn_fault : operands_judged names Spawn here ≡ option_or (operand_fault names OldImage (operand 1 here)) (place_fault_at 2 here)
+  unfolding operands_judged
+  spawn_fault = refl
+
+  pub send_fault : operands_judged names Send here ≡ option_or (place_fault_at 1 here) (refused (is_none (data_in (operand 3 here))) BadHex)
+  unfolding operands_judged
+  send_fault =
+      let node = number_fault 1 greatest_number here in
+      let pid = number_fault 2 greatest_number here in
+      let hex = refused (is_none (data_in (operand 3 here))) BadHex in
+      ap (λ last. option_or node (option_or pid last)) (or_none hex)
+      ∙ ap (λ rest. option_or node (option_or rest hex)) (sym (or_none pid))
+      ∙ sym (or_assoc node (option_or pid None) hex)
+
+  pub peek_fault : operands_judged names Peek here ≡ None
+  unfolding operands_judged
+  peek_fault = refl
+
+  pub freecube_fault : operands_judged names Freecube here ≡ None
+  unfolding operands_judged
+  freecube_fault = refl
+
+  pub trace_fault : operands_judged names Trace here ≡ None
+  unfolding operands_judged
+  trace_fault = refl

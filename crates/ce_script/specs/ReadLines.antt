@@ -1,0 +1,90 @@
+-- The lines that the reader has, as the definitions see them.
+use Rattle.std.specs.Prelude.{◌≡◌, ℕ, ◌+◌, ◌<◌, ◌≤◌, ◌==◌, Bool, true, false, ◌||◌, if◌then◌else◌, List, [], ◌∷◌, ◌++◌, Option, Some, None, map, length, option_map, suc}
+use Rattle.std.specs.List.{enumerate_from, slice_split}
+use Rattle.std.specs.Borrow.{Bor}
+use Rattle.ce_text.specs.Bytes.{is_line_feed}
+use Rattle.ce_script.specs.declared.reader.line.WordedLine.{WordedLine}
+use Rattle.ce_script.specs.declared.reader.rest.Rest.{Rest}
+use Rattle.ce_script.specs.declared.reader.rest.Body.{Body}
+use Rattle.ce_script.specs.Lines.{Line, words}
+use Rattle.ce_script.specs.Statements.{Statement, is_end, begins_image, body_in}
+use Rattle.ce_script.specs.Bodies.{text_of}
+
+-- the line
+abbrev pub line_of : WordedLine → Line
+line_of line = record { number = line.number; text = line.text.now }
+
+-- the statement of the line, but for the body of an image
+abbrev pub here_of : WordedLine → Statement
+here_of line = record { line = line_of line; body = None }
+
+-- the texts of the lines of what is left of a text
+abbrev pub texts_left : Option (List ℕ) → List (List ℕ)
+texts_left None = []
+texts_left (Some text) = slice_split is_line_feed text
+
+-- lines with these texts, the first of which has this number
+abbrev pub numbered : ℕ → List (List ℕ) → List Line
+numbered first texts = map (λ line. record { number = line.0; text = line.1 }) (enumerate_from first texts)
+
+-- the bytes that are left
+abbrev pub left_of : Rest → Option (List ℕ)
+left_of rest = option_map (λ text. text.now) rest.text
+
+-- the lines that are left
+abbrev pub lines_left : Rest → List Line
+lines_left rest = numbered (rest.before + 1) (texts_left (left_of rest))
+
+-- one more than how many bytes are left, and 0 at the end
+abbrev pub size_of : Option (List ℕ) → ℕ
+size_of None = 0
+size_of (Some text) = suc (length text)
+
+-- how many lines are done, and how many bytes are left
+abbrev pub reach_of : Rest → ℕ
+reach_of rest = rest.before + size_of (left_of rest)
+
+-- these lines are left behind those, or are the same
+pub record IsLater (rest next : Rest) : Type 0 where
+  pub lines : rest.before ≤ next.before
+  pub reach : reach_of next ≤ reach_of rest
+
+-- ---- statements, line by line
+
+-- whether what follows a line stands inside an image, where the line does or does not
+abbrev pub inside_behind : Bool → Line → Bool
+inside_behind inside line = if is_end line then false else (inside || begins_image line)
+
+-- the statements on lines, where the first stands inside an image or not
+unfoldable pub statements_from : Bool → List Line → List Statement
+statements_from inside [] = []
+statements_from inside (line ∷ lines) =
+    let others = statements_from (inside_behind inside line) lines in
+    if (length (words line) == 0) || inside then others
+    else record { line = line; body = if begins_image line then body_in lines else None } ∷ others
+
+-- ---- bodies
+
+-- the lines of a body, and an empty one behind its last line feed
+abbrev pub lines_shown : Body → List Line
+lines_shown body = numbered (body.at + 1) (slice_split is_line_feed body.text.now)
+
+-- an empty line behind others
+abbrev pub with_empty : List Line → ℕ → List Line
+with_empty lines number = lines ++ record { number = number; text = [] } ∷ []
+
+-- the body has these lines
+pub record IsBody (body : Body) (lines : List Line) : Type 0 where
+  pub text : text_of lines ≡ body.text.now
+  pub last : ℕ
+  pub shown : lines_shown body ≡ with_empty lines last
+
+-- the body of the image whose line stands before what is left, and what is left behind its `end`
+pub record IsBodyIn (rest : Rest) (body : Body) (after : Rest) : Type 0 where
+  pub lines : List Line
+  pub here : body_in (lines_left rest) ≡ Some lines
+  pub is : IsBody body lines
+  pub at : body.at ≡ rest.before
+  pub past : statements_from true (lines_left rest) ≡ statements_from false (lines_left after)
+  pub later : IsLater rest after
+  pub room : body.at + length body.text.now < reach_of rest

@@ -1,0 +1,51 @@
+//! The reader of scripts.
+ghost use Rattle.std.specs.Prelude.{◌≡◌, ◌≢◌, ◌<◌, ◌^◌, length, IfOk, IfErr, Some};
+ghost use Rattle.rv_model.specs.declared.memory.NoMemory.{NoMemory};
+ghost use Rattle.rv_asm.specs.declared.fault.AsmKind.TheVariants as asm;
+ghost use Rattle.ce_script.specs.declared.script.ScriptKind.TheVariants.{Assembly};
+ghost use Rattle.ce_script.specs.Bounds.{IsWithinLimits};
+ghost use Rattle.ce_script.specs.Faults.{first_fault};
+ghost use Rattle.ce_script.specs.Scripts.{IsScript, IsNoMemory};
+
+mod body;
+mod line;
+mod names;
+mod operand;
+mod rest;
+mod state;
+
+use crate::script::{Script, ScriptFault};
+use ce_text::cut_at;
+use rest::Rest;
+use state::Reader;
+use std::alloc::Global;
+
+/// The script that a text says, or its first fault: statements are judged in order, each by its own line before its body.
+/// `Memory` may come at any line. There are fewer than 2^31 bytes.
+pub fn read_script(alloc: Global, bytes: &[u8]) -> Result<Script, ScriptFault>
+    requires { length bytes.now < 2 ^ 31 }
+    ensures script { IfOk result (λ script. IsScript bytes.now script) }
+    ensures within { IfOk result IsWithinLimits }
+    ensures fault { IfErr result (λ fault. ¬ IsNoMemory fault.kind
+        → first_fault bytes.now ≡ Some fault) }
+    ensures told { IfErr result (λ fault. (want : NoMemory)
+        → fault.kind ≢ Assembly (asm.Memory want)) }
+{
+    let mut reader = Reader::new(alloc);
+    let mut rest = Rest {
+        before: 0,
+        text: Some(bytes),
+    };
+    while let Some(text) = rest.text {
+        let (line, behind) = cut_at(text, b'\n');
+        let next = Rest {
+            before: rest.before + 1,
+            text: behind,
+        };
+        rest = reader.line(alloc, line, next)?;
+    }
+    Ok(reader.script)
+}
+
+#[cfg(test)]
+mod tests;

@@ -1,0 +1,78 @@
+//! Lines and their words.
+ghost use Rattle.std.specs.Prelude.{◌≡◌, ◌≤◌, ◌<◌, ◌+◌, ◌^◌, ◌∷◌, ◌++◌, [], codes, length, map, IfOk, IfSome, Some, OnOk, MatchResult};
+ghost use Rattle.ce_text.specs.Line.{before_comment};
+ghost use Rattle.ce_text.specs.Words.{words as words_between};
+ghost use Rattle.ce_script.specs.Statements.{are_only};
+
+use ce_model::NoMemory;
+use ce_text::{before_comment, next_word};
+use std::alloc::Global;
+
+/// A line, with its words.
+#[derive(Drop)]
+pub struct WordedLine<'a> {
+    /// Its number, counted from 1.
+    pub number: u32,
+    /// Its bytes.
+    pub text: &'a [u8],
+    /// Its words.
+    pub words: Vec<&'a [u8]>,
+    ghost split: { map (λ word. word.now) words.items ≡ words_between (before_comment text.now) },
+}
+
+/// The words between blanks.
+fn words_of(alloc: Global, code: &[u8]) -> Result<Vec<&[u8]>, NoMemory>
+    ensures { IfOk result (λ list. map (λ word. word.now) list.items ≡ words_between code.now) }
+{
+    let mut list = Vec::new(alloc);
+    let mut rest = code;
+    while let Some((word, behind)) = next_word(rest) {
+        list.push(word)?;
+        rest = behind;
+    }
+    Ok(list)
+}
+
+/// Whether a line's only word is `end`.
+pub fn is_end(line: &[u8]) -> bool
+    ensures { result ≡ are_only (codes "end") (words_between (before_comment line.now)) }
+{
+    match next_word(before_comment(line)) {
+        Some((word, behind)) => word == b"end".as_slice() && next_word(behind).is_none(),
+        None => false,
+    }
+}
+
+impl<'a> WordedLine<'a> {
+    ghost use Rattle.ce_script.specs.Statements.{operand};
+    ghost use Rattle.ce_script.specs.ReadLines.{line_of, here_of};
+
+    /// The line with this number and these bytes.
+    pub fn new(alloc: Global, number: u32, text: &'a [u8]) -> Result<WordedLine<'a>, NoMemory>
+        ensures { IfOk result (λ line. line_of line ≡ record { number = number; text = text.now }) }
+    {
+        let words = words_of(alloc, before_comment(text))?;
+        Ok(WordedLine {
+            number,
+            text,
+            words,
+        })
+    }
+
+    /// The word at this place behind the first; nothing where there is none.
+    pub fn operand(&self, place: usize) -> &'a [u8]
+        ensures { result.now ≡ operand place (here_of self.now) }
+    {
+        match self.words.get(place) {
+            Some(word) => *word,
+            None => &[],
+        }
+    }
+
+    /// How many words it has.
+    pub fn count(&self) -> usize
+        ensures { result ≡ length (words_between (before_comment self.now.text.now)) }
+    {
+        self.words.len()
+    }
+}

@@ -1,0 +1,105 @@
+//! The operands of statements.
+ghost use Rattle.std.specs.Prelude.{◌≡◌, ◌∷◌, [], ◌+◌, ◌<◌, ◌^◌, length, IsTrue, ℕ, List, IfSome, Some, None, is_none, option_map, position, bytes_eq, map};
+ghost use Rattle.ce_script.specs.declared.script.ScriptKind.TheVariants.{BadNumber, BadHex};
+ghost use Rattle.ce_script.specs.Spellings.{number_to, data_in, greatest_number};
+ghost use Rattle.ce_script.specs.Statements.{operand};
+ghost use Rattle.ce_script.specs.Sayings.{number_at, place_at, command_by};
+ghost use Rattle.ce_script.specs.Verbs.{OldImage, is_command};
+ghost use Rattle.ce_script.specs.Faults.{first_some, refused, operand_fault};
+ghost use Rattle.ce_script.specs.Sayings.{number_of};
+ghost use Rattle.ce_script.specs.Reading.{Judges, operands_judged};
+ghost use Rattle.ce_script.specs.ReadLines.{here_of};
+
+use crate::grammar::Verb;
+use crate::reader::line::WordedLine;
+use crate::reader::names::place_of_image;
+use crate::script::{Named, ScriptKind};
+use crate::spelling::{data_in, is_name, number_to};
+use ce_host::Command;
+use ce_model::{Bytes, GREATEST_COUNT, GREATEST_DIMENSION, Place};
+use std::alloc::Global;
+
+/// The number at a place, at most this.
+#[tactic(auto, using(crate::proofs::Numbers::number_there, crate::proofs::Numbers::number_missing))]
+pub fn number(line: &WordedLine, place: usize, most: u32) -> Result<u32, ScriptKind>
+    ensures { Judges result (refused (is_none (number_to most (operand place (here_of line.now)))) BadNumber)
+        (Some (number_at place (here_of line.now))) }
+{
+    match number_to(line.operand(place), most) {
+        Some(number) => Ok(number),
+        None => Err(ScriptKind::BadNumber),
+    }
+}
+
+/// The node and the process id at a place and behind it.
+fn place(line: &WordedLine, place: usize) -> Result<Place, ScriptKind>
+    requires { place < 2 ^ 32 }
+    ensures { Judges result (first_some
+        (refused (is_none (number_to greatest_number (operand place (here_of line.now)))) BadNumber
+        ∷ refused (is_none (number_to greatest_number (operand (place + 1) (here_of line.now)))) BadNumber ∷ []))
+        (Some (place_at place (here_of line.now))) }
+{
+    let node = number(line, place, u32::MAX)?;
+    let pid = number(line, place + 1, u32::MAX)?;
+    Ok(Place { node, pid })
+}
+
+/// The number of an earlier image.
+fn old_image(images: &[Named], word: &[u8]) -> Result<u32, ScriptKind>
+    requires { length images.now < 2 ^ 32 }
+    ensures { let names = map (λ named. named.name) images.now in
+        Judges result (operand_fault names OldImage word.now) (Some (number_of word.now names)) }
+{
+    if !is_name(word) {
+        return Err(ScriptKind::BadName);
+    }
+    match place_of_image(images, word) {
+        Some(number) => Ok(number as u32),
+        None => Err(ScriptKind::UnknownImage),
+    }
+}
+
+/// The bytes of a message.
+fn data(alloc: Global, line: &WordedLine, place: usize) -> Result<Bytes, ScriptKind>
+    ensures { Judges result (refused (is_none (data_in (operand place (here_of line.now)))) BadHex)
+        (data_in (operand place (here_of line.now))) }
+{
+    match data_in(alloc, line.operand(place))? {
+        Some(bytes) => Ok(bytes),
+        None => Err(ScriptKind::BadHex),
+    }
+}
+
+/// The command of a line that begins with this verb, behind these images.
+#[tactic(auto, using(crate::proofs::OperandFaults::getcube_fault, crate::proofs::OperandFaults::peek_fault, crate::proofs::OperandFaults::freecube_fault, crate::proofs::OperandFaults::trace_fault, crate::proofs::OperandFaults::run_fault, crate::proofs::OperandFaults::recv_fault, crate::proofs::OperandFaults::kill_fault, crate::proofs::OperandFaults::dump_fault, crate::proofs::OperandFaults::spawn_fault, crate::proofs::OperandFaults::send_fault))]
+pub fn command(
+    alloc: Global,
+    verb: Verb,
+    line: &WordedLine,
+    images: &[Named],
+) -> Result<Command, ScriptKind>
+    requires few { length images.now < 2 ^ 32 }
+    requires command { IsTrue (is_command verb) }
+    ensures { let names = map (λ named. named.name) images.now in
+        Judges result (operands_judged names verb (here_of line.now)) (command_by verb names (here_of line.now)) }
+{
+    match verb {
+        Verb::Getcube => Ok(Command::Getcube(number(line, 1, GREATEST_DIMENSION)?)),
+        Verb::Peek => Ok(Command::Peek),
+        Verb::Freecube => Ok(Command::Freecube),
+        Verb::Spawn => {
+            let image = old_image(images, line.operand(1))?;
+            Ok(Command::Spawn(image, place(line, 2)?))
+        }
+        Verb::Kill => Ok(Command::Kill(place(line, 1)?)),
+        Verb::Send => {
+            let to = place(line, 1)?;
+            Ok(Command::Send(to, data(alloc, line, 3)?))
+        }
+        Verb::Run => Ok(Command::Run(number(line, 1, GREATEST_COUNT)?)),
+        Verb::Recv => Ok(Command::Recv(number(line, 1, GREATEST_COUNT)?)),
+        Verb::Dump => Ok(Command::Dump(place(line, 1)?)),
+        Verb::Trace => Ok(Command::Trace),
+        Verb::Machine | Verb::Image | Verb::User => unreachable!(),
+    }
+}
