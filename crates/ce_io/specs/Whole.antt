@@ -41,6 +41,6 @@ pub record HasReadToEnd {S : Type 0} (source : Reading S) (limit piece : ℕ) (r
   pub gave : HasGiven source bytes
   -- what is answered is all that it gave, and where it tells what is left, nothing is
   pub whole : IfOk result (λ text. (text.items ≡ bytes) × IsAtEnd (source.left source.new))
-  -- it gave more than the limit exactly where that is answered, and then by less than a piece more
+  -- it gave more than the limit exactly where that is answered, and then by a piece more at most
   pub too_long : IsErrOf result TooLong ↔ (limit < length bytes)
   pub bounded : length bytes ≤ limit + piece

@@ -1,17 +1,14 @@
-pub mod Body
-pub mod BodyText
-pub mod Digits
+pub mod Pieces
 pub mod Ends
-pub mod HelloRow
-pub mod InnerSteps
-pub mod LineCuts
-pub mod NameBytes
-pub mod OneCubeFacts
-pub mod OneCubeLegal
-pub mod OneCubeSteps
-pub mod OneScript
-pub mod Reaching
-pub mod ReportParts
-pub mod Saying
-pub mod Small
-pub mod UserSteps
+mod Calling
+mod Seating
+mod Further
+mod AtOnce
+mod Peeking
+mod Looking
+mod Sent
+mod Granted
+mod Returned
+mod Carrying
+mod Going
+mod Answering

@@ -1,22 +1,22 @@
 -- Why a run ended as it did.
-use Rattle.std.specs.Prelude.{◌≡◌, ℕ, List, [], ◌∷◌, Option, Some, None, Bool, false, codes, take}
-use Rattle.std.specs.Str.{bytes_eq}
+use Rattle.std.specs.Prelude.{◌≡◌, ℕ, List, Option, Some, None, true, take}
 use Rattle.std.specs.Io.KnownBytes.{append_known}
+use Rattle.ce_words.specs.Line.{IsAccepted, line_of}
 use Rattle.ce_run.specs.declared.ended.Fault.{Fault}
 use Rattle.ce_run.specs.declared.ended.Fault.TheVariants.{Usage, Write, Memory}
 use Rattle.ce_run.specs.Fault.{status_of}
 
--- the line is the single word `--serial`
-abbrev pub is_serial : List (List ℕ) → Bool
-is_serial (word ∷ []) = bytes_eq word (codes "--serial")
-is_serial other = false
+-- the words are a line that the program takes, and it asks for a run on one thread
+pub record IsServed (words : List (List ℕ)) : Type 0 where
+  pub accepted : IsAccepted words
+  pub serial : (line_of words).serial ≡ true
 
 -- the exit status
 abbrev pub status_of_end : Option Fault → ℕ
 status_of_end None = 0
 status_of_end (Some fault) = status_of fault
 
--- the script was read and run to its end: there is no fault, or only the writing of the report failed
+-- the script was run to its end: there is no fault, or only the writing failed
 abbrev pub RanToEnd : Option Fault → Type 0
 RanToEnd None = Unit {0}
 RanToEnd (Some Write) = Unit {0}
@@ -32,7 +32,7 @@ EndsReading Usage = ⊥
 EndsReading Write = ⊥
 EndsReading other = Unit {0}
 
--- what was written at the end: the whole report, or, where the sink failed, a front part of it
+-- what was written at the end: the whole text, or, where the sink failed, a front part of it
 abbrev pub Reports : Option Fault → List ℕ → Option (List ℕ) → Option (List ℕ) → Type 0
 Reports None text before now = now ≡ append_known before text
 Reports (Some Write) text before now = (n : ℕ) × (now ≡ append_known before (take n text))

@@ -1,5 +1,5 @@
 -- What the program promises of each run, in three clauses: how it ended, what it did, and that it did it.
-use Rattle.std.specs.Prelude.{◌≡◌, ◌↔◌, ◌⊎◌, ◌<◌, ◌≤◌, ◌+◌, ℕ, List, Option, Some, None, Result, IsSome, IfSome, IfOk, IsErrOf, true, false, length, take}
+use Rattle.std.specs.Prelude.{◌≡◌, ◌↔◌, ◌⊎◌, ◌<◌, ◌≤◌, ◌+◌, ℕ, Bool, true, if◌then◌else◌, List, [], Option, Some, None, Result, IsSome, IfSome, IfOk, IsErrOf, length, take}
 use Rattle.std.specs.Io.KnownBytes.{append_known, IsAtEnd}
 use Rattle.std.specs.IoError.{error_kind}
 use Rattle.std.specs.declared.io.Error.{Error}
@@ -7,18 +7,24 @@ use Rattle.std.specs.declared.io.ErrorKind.TheVariants.{OutOfMemory}
 use Rattle.ce_io.specs.Faults.{Rose}
 use Rattle.ce_io.specs.Whole.{Reading, Writing, HasGiven}
 use Rattle.ce_io.specs.declared.whole.TheConstants.{PIECE}
+use Rattle.ce_words.specs.Line.{line_of as asked_by}
+use Rattle.ce_words.specs.declared.line.Line.{Line}
+use Rattle.ce_script.specs.Faults.{first_fault}
+use Rattle.ce_script.specs.Scripts.{IsScript}
+use Rattle.ce_script.specs.Load.{load}
+use Rattle.ce_script.specs.Rounds.{RoundKind, serial, threaded}
+use Rattle.ce_script.specs.Legal.{IsLegal}
+use Rattle.ce_script.specs.Serial.{IsSerial}
+use Rattle.ce_script.specs.Texts.{report, summary}
+use Rattle.ce_script.specs.declared.record.Record.{Record}
+use Rattle.ce_script.specs.declared.script.Script.{Script}
+use Rattle.ce_script.specs.declared.script.ScriptFault.{ScriptFault}
 use Rattle.ce_run.specs.declared.ended.Ended.{Ended}
 use Rattle.ce_run.specs.declared.ended.Fault.{Fault}
-use Rattle.ce_run.specs.declared.ended.Fault.TheVariants.{TooLong, NotBuilt, Usage, Read, Write}
-use Rattle.ce_run.specs.declared.form.BuiltForm.{BuiltForm}
-use Rattle.ce_run.specs.declared.form.TheConstants.{SCRIPT_LIMIT}
-use Rattle.ce_run.specs.declared.record.Record.{Record}
-use Rattle.ce_run.specs.BuiltForm.{IsBuilt, Says}
-use Rattle.ce_run.specs.Causes.{is_serial, status_of_end, IsMemory, RanToEnd, Reports}
+use Rattle.ce_run.specs.declared.ended.Fault.TheVariants.{TooLong, Script as Refused, Usage, Read, Write}
+use Rattle.ce_run.specs.declared.program.TheConstants.{SCRIPT_LIMIT}
+use Rattle.ce_run.specs.Causes.{status_of_end, IsServed, IsMemory, RanToEnd, Reports}
 use Rattle.ce_run.specs.Fault.{line_of}
-use Rattle.ce_run.specs.Legal.{IsLegal, IsSerial}
-use Rattle.ce_run.specs.Script.{Script, IsScript}
-use Rattle.ce_run.specs.Text.{report}
 
 -- How a run ended: the status of each fault, the cause of each fault but Memory, which is free, what was read, and what was
 -- written. It holds of a source and a sink that tell nothing, too.
@@ -27,18 +33,23 @@ pub record HasEnded {S K : Type 0} (words : List (List ℕ)) (source : Reading S
   pub status : end.status ≡ status_of_end end.fault
   -- the record is there exactly with the statuses 0 and 5
   pub kept : IsSome end.kept ↔ RanToEnd end.fault
-  -- Usage comes exactly where the words are refused, and then nothing is read
-  pub usage : (end.fault ≡ Some Usage) ↔ (is_serial words ≡ false)
+  -- Usage comes exactly where the words are refused or ask for threads; and then nothing is read
+  pub usage : end.fault ≡ Some Usage → ¬ IsServed words
+  pub served : IsServed words ⊎ ((end.fault ≡ Some Usage) ⊎ IsMemory end.fault)
   pub unread : end.fault ≡ Some Usage → source.new ≡ source.old
-  -- what the source gave in the call
+  -- what the source gave in the call, which is nothing where a load is asked for
   pub bytes : List ℕ
   pub gave : HasGiven source bytes
+  pub load_unread : IsServed words → IsSome (asked_by words).load → source.new ≡ source.old
+  -- and then nothing but the sink and memory can fail
+  pub load_runs : IsServed words → IsSome (asked_by words).load → RanToEnd end.fault ⊎ IsMemory end.fault
   -- TooLong comes exactly where it gave more than a script may have, and then by a piece more at most
   pub too_long : (end.fault ≡ Some TooLong) ↔ (SCRIPT_LIMIT < length bytes)
   pub bounded : length bytes ≤ SCRIPT_LIMIT + PIECE
-  -- where it was read to its end, NotBuilt comes exactly where its bytes are no script of the built form
-  pub not_built : end.fault ≡ Some NotBuilt → IsAtEnd (source.left source.new) × ¬ IsBuilt bytes
-  pub built : RanToEnd end.fault → IsAtEnd (source.left source.new) × IsBuilt bytes
+  -- where it was read to its end, Script comes exactly where its bytes are no script, with their first fault
+  pub faulty : (fault : ScriptFault) → end.fault ≡ Some (Refused fault)
+      → IsAtEnd (source.left source.new) × (first_fault bytes ≡ Some fault)
+  pub faultless : RanToEnd end.fault → (asked_by words).load ≡ None → IsAtEnd (source.left source.new) × (first_fault bytes ≡ None)
   -- Read comes exactly where a read failed: its count rose, or stands at the end of its type; with each other end it stands
   pub read : end.fault ≡ Some Read → Rose (source.faults source.old) (source.faults source.new)
   pub no_read_failed : (end.fault ≡ Some Read) ⊎ (source.faults source.new ≡ source.faults source.old)
@@ -48,40 +59,70 @@ pub record HasEnded {S K : Type 0} (words : List (List ℕ)) (source : Reading S
   -- with the statuses 1 to 4 the sink stays as it was
   pub unwritten : RanToEnd end.fault ⊎ (sink.new ≡ sink.old)
 
--- What a run did that left this record: there is a text, and a script that it is, of which all this holds.
-pub record HasRun {S K : Type 0} (source : Reading S) (sink : Writing K) (fault : Option Fault) (kept : Record) : Type 0 where
-  pub text : List ℕ
+-- the script of a run: the one that the source was read as, to its end; or the load of a seed, and then the source stays as it was
+abbrev pub HasScript : {S : Type 0} → Option ℕ → Reading S → Script → Type 0
+HasScript None source script = (text : List ℕ) × IsScript text script × HasGiven source text × IsAtEnd (source.left source.new)
+HasScript (Some seed) source script = (script ≡ load seed) × (source.new ≡ source.old)
+
+-- what a run writes: the report, or the summary of the load
+abbrev pub text_of : Option ℕ → Script → Record → List ℕ
+text_of None script kept = report script kept
+text_of (Some seed) script kept = summary seed kept
+
+-- how the nodes take their turns in the rounds of a run
+abbrev pub kind_of : Line → RoundKind
+kind_of line = if line.serial then serial else threaded
+
+-- What a run did that left this record: there is a script of which all this holds.
+pub record HasRun {S K : Type 0} (line : Line) (source : Reading S) (sink : Writing K) (fault : Option Fault) (kept : Record) : Type 0 where
   pub script : Script
-  pub is_script : IsScript text script
-  -- the source was read as this text, to its end
-  pub read : HasGiven source text
-  pub at_end : IsAtEnd (source.left source.new)
+  pub has_script : HasScript line.load source script
   -- The record is one that the model allows: the script's users and commands, and each cube's trace and replies as the cube
-  -- gives them alone; and the commands were carried out one after another.
-  pub legal : IsLegal script kept
-  pub serial : IsSerial script kept
-  -- what was appended is the report, or with the fault Write a front part of it
-  pub reported : Reports fault (report script kept) (sink.written sink.old) (sink.written sink.new)
+  -- gives them alone, each block with one owner, and messages in order.
+  pub legal : IsLegal (kind_of line) script kept
+  -- on one thread the commands were carried out one after another, in the script's order
+  pub serial : line.serial ≡ true → IsSerial script kept
+  -- what was appended is the run's text, or with the fault Write a front part of it
+  pub reported : Reports fault (text_of line.load script kept) (sink.written sink.old) (sink.written sink.new)
+
+-- there is something to run: a load, or a source that tells its bytes, and these are a script that isn't too long
+abbrev pub HasWork : {S : Type 0} → Option ℕ → Reading S → Type 0
+HasWork (Some seed) source = Unit {0}
+HasWork None source =
+    (text : List ℕ) × (source.left source.old ≡ Some text) × (length text ≤ SCRIPT_LIMIT) × (first_fault text ≡ None)
 
 -- What is accepted is run and reported to its end, unless the source, the sink or memory fails.
 pub record IsComplete {S K : Type 0} (words : List (List ℕ)) (source : Reading S) (sink : Writing K) (fault : Option Fault) : Type 0 where
-  pub answered : is_serial words ≡ true → (text : List ℕ) → source.left source.old ≡ Some text → length text ≤ SCRIPT_LIMIT → IsBuilt text
-      → ¬ Rose (source.faults source.old) (source.faults source.new) → ¬ Rose (sink.faults sink.old) (sink.faults sink.new)
-      → (fault ≡ None) ⊎ IsMemory fault
+  pub answered : IsServed words → HasWork (asked_by words).load source → ¬ Rose (source.faults source.old) (source.faults source.new)
+      → ¬ Rose (sink.faults sink.old) (sink.faults sink.new) → (fault ≡ None) ⊎ IsMemory fault
 
 -- how the reading of a script went
-pub record HasReadScript {S : Type 0} (source : Reading S) (result : Result BuiltForm Fault) : Type 0 where
+pub record HasReadScript {S : Type 0} (source : Reading S) (result : Result Script Fault) : Type 0 where
   pub bytes : List ℕ
   pub gave : HasGiven source bytes
   pub too_long : IsErrOf result TooLong ↔ (SCRIPT_LIMIT < length bytes)
   pub bounded : length bytes ≤ SCRIPT_LIMIT + PIECE
-  pub says : IfOk result (λ form. IsAtEnd (source.left source.new) × Says bytes form)
-  pub not_built : IsErrOf result NotBuilt → IsAtEnd (source.left source.new) × ¬ IsBuilt bytes
+  pub is_script : IfOk result (λ script. IsAtEnd (source.left source.new) × IsScript bytes script)
+  pub faulty : (fault : ScriptFault) → IsErrOf result (Refused fault)
+      → IsAtEnd (source.left source.new) × (first_fault bytes ≡ Some fault)
+
+-- how a run of this script ended that was written, or began to be written: with this record, whose text was appended; or memory was
+-- wanting before anything was written
+pub record HasFinished {K : Type 0} (script : Script) (seed : Option ℕ) (sink : Writing K) (end : Ended) : Type 0 where
+  pub status : end.status ≡ status_of_end end.fault
+  pub kept : IsSome end.kept ↔ RanToEnd end.fault
+  pub legal : IfSome end.kept (IsLegal serial script)
+  pub serial : IfSome end.kept (IsSerial script)
+  pub reported : IfSome end.kept (λ kept. Reports end.fault (text_of seed script kept) (sink.written sink.old) (sink.written sink.new))
+  pub fault : RanToEnd end.fault ⊎ IsMemory end.fault
+  pub write : end.fault ≡ Some Write → Rose (sink.faults sink.old) (sink.faults sink.new)
+  pub no_write_failed : (end.fault ≡ Some Write) ⊎ (sink.faults sink.new ≡ sink.faults sink.old)
+  pub unwritten : RanToEnd end.fault ⊎ (sink.new ≡ sink.old)
 
 -- the three clauses of a run together
 pub record IsPromised {S K : Type 0} (words : List (List ℕ)) (source : Reading S) (sink : Writing K) (end : Ended) : Type 0 where
   pub ended : HasEnded words source sink end
-  pub headline : IfSome end.kept (HasRun source sink end.fault)
+  pub headline : IfSome end.kept (HasRun (asked_by words) source sink end.fault)
   pub complete : IsComplete words source sink end.fault
 
 -- How the words of a command line that can't be read end it: for want of memory as Memory, and else as Usage, and nothing is read

@@ -1,33 +1,44 @@
--- What a script says.
-use Rattle.std.specs.Prelude.{◌≡◌, ℕ, List, [], ◌∷◌, Option, Some}
-use Rattle.rv_model.specs.Image.{ImageParts}
-use Rattle.ce_run.specs.declared.record.Command.{Command}
-use Rattle.ce_run.specs.declared.record.Command.TheVariants.{Getcube, Spawn, Run}
-use Rattle.ce_run.specs.declared.form.BuiltForm.{BuiltForm}
-use Rattle.ce_run.specs.BuiltForm.{Says}
+-- A script while its commands are carried out.
+use Rattle.std.specs.Prelude.{◌≡◌, ℕ, ◌<◌, List, [], ◌∷◌, ◌++◌, Option, None, IsSomeAnd, length, map, slice_index_or}
+use Rattle.ce_model.specs.Machine.{IsLawful}
+use Rattle.ce_machine.specs.Meanings.{MachineFacts}
+use Rattle.ce_host.specs.declared.command.Command.{Command}
+use Rattle.ce_script.specs.declared.record.UserRecord.{UserRecord}
+use Rattle.ce_script.specs.declared.script.Script.{Script}
+use Rattle.ce_script.specs.Rounds.{serial}
+use Rattle.ce_script.specs.Doings.{Doing}
+use Rattle.ce_script.specs.Legal.{machine_of}
+use Rattle.ce_record.specs.Run.{IsRunSoFar, AreReplies}
+use Rattle.ce_cube.specs.Crews.{IsHostAtHome}
+use Rattle.ce_run.specs.declared.seat.Seat.{Seat}
+use Rattle.ce_run.specs.declared.seat.Seat.TheVariants.{Free}
+use Rattle.ce_run.specs.Seats.{IsSeatAt}
 
--- an image with its name
-pub record Named : Type 0 where
-  pub name : List ℕ
-  pub image : ImageParts
+-- All users did all this on the machine of a script: its history is lawful and made up of it, each user has a seat behind it, and the record
+-- of each user has what that user did.
+pub record IsRunBehind (script : Script) (machine : MachineFacts) (seats : List (Option Seat)) (users : List UserRecord) (all : List (ℕ × Doing)) : Type 0 where
+  pub parts : machine.parts ≡ machine_of script
+  pub lawful : IsLawful machine.parts machine.history
+  pub so_far : IsRunSoFar serial machine.parts machine.history all
+  pub places : length seats ≡ length script.users
+  pub seated : (user : ℕ) → user < length script.users → IsSomeAnd (slice_index_or seats user None) (IsSeatAt machine.parts machine.history user)
+  pub names : map (λ user. user.name) users ≡ script.users
+  pub replies : AreReplies all (map (λ user. user.done) users)
 
--- the machine's dimension, which a script without statements lacks; the images, the users' names, and each command with its
--- user's number
-pub record Script : Type 0 where
-  pub dim : Option ℕ
-  pub images : List Named
-  pub users : List (List ℕ)
-  pub commands : List (ℕ × Command)
+-- one command more was carried out by this user
+pub record HasGoneFurther (before behind : MachineFacts) (seats seats' : List (Option Seat)) (users users' : List UserRecord) (user : ℕ)
+    (command : Command) : Type 0 where
+  pub doing : Doing
+  pub command_is : doing.command ≡ command
+  pub is : (script : Script) (all : List (ℕ × Doing)) → IsRunBehind script before seats users all → IsRunBehind script behind seats' users' (all ++ (user, doing) ∷ [])
 
--- the script that says this
-abbrev pub script_of_form : BuiltForm → Script
-script_of_form form = record {
-  dim = Some 0;
-  images = record { name = form.image; image = form.program } ∷ [];
-  users = form.user ∷ [];
-  commands = (0, Getcube 0) ∷ (0, Spawn 0 (record { node = 0; pid = 0 })) ∷ (0, Run form.count) ∷ [];
-}
+-- a user holds no cube, and its host is at home
+abbrev pub IsFreeSeat : ℕ → Seat → Type 0
+IsFreeSeat user (Free host) = IsHostAtHome user host
+IsFreeSeat user other = ⊥
 
--- a text is a script, and this is the script
-abbrev pub IsScript : List ℕ → Script → Type 0
-IsScript text script = (form : BuiltForm) × Says text form × (script ≡ script_of_form form)
+-- these are the seats of so many users that hold no cube
+abbrev pub AreOpenSeats : ℕ → List (Option Seat) → Type 0
+AreOpenSeats count seats =
+    (length seats ≡ count)
+    × ((user : ℕ) → user < count → IsSomeAnd (slice_index_or seats user None) (IsFreeSeat user))

@@ -3,29 +3,36 @@ ghost use Rattle.std.specs.Prelude.{◌≡◌, ◌↔◌, ◌⊎◌, ◌≤◌, 
 ghost use Rattle.std.specs.String.{string_bytes};
 ghost use Rattle.ce_io.specs.Faults.{Rose};
 ghost use Rattle.ce_io.specs.Whole.{reading, writing};
-ghost use Rattle.ce_run.specs.Causes.{is_serial, status_of_end, EndsReading, IsMemory, RanToEnd, Reports};
+ghost use Rattle.ce_words.specs.Line.{line_of};
+ghost use Rattle.ce_script.specs.Bounds.{IsWithinLimits};
+ghost use Rattle.ce_script.specs.Legal.{IsLegal};
+ghost use Rattle.ce_script.specs.Rounds.{serial};
+ghost use Rattle.ce_script.specs.Serial.{IsSerial};
+ghost use Rattle.ce_run.specs.Causes.{status_of_end, EndsReading, IsMemory, IsServed, RanToEnd, Reports};
 ghost use Rattle.ce_run.specs.Fault.{status_of};
-ghost use Rattle.ce_run.specs.Legal.{IsLegal, IsSerial};
-ghost use Rattle.ce_run.specs.Promise.{HasEnded, HasReadScript, HasRun, IsComplete};
-ghost use Rattle.ce_run.specs.Script.{script_of_form};
-ghost use Rattle.ce_run.specs.Text.{report};
-ghost use Rattle.ce_run.specs.declared.ended.Fault.TheVariants.{Read, Write};
+ghost use Rattle.ce_run.specs.Promise.{HasEnded, HasReadScript, HasRun, HasFinished, IsComplete, text_of};
+ghost use Rattle.ce_script.specs.Load.{load};
+ghost use Rattle.ce_run.specs.declared.ended.Fault.TheVariants.{Read, Usage, Write};
 
 use crate::ended::{Ended, Fault};
-use crate::form::{BuiltForm, FormError, SCRIPT_LIMIT, read_form};
-use crate::report::write_report;
-use crate::session::run_script;
+use crate::serial::run_serial;
 use ce_gate::Gate;
 use ce_io::{ReadError, Sink, Source, read_to_end, write_all};
-use ce_model::GREATEST_COUNT;
+use ce_model::NoMemory;
+use ce_script::{Record, Script, ScriptKind, make, read_script};
+use ce_trace::{write_report, write_summary};
+use ce_words::{Line, LineError, read_line};
 use std::alloc::Global;
 use std::thread::Threads;
 
-/// Runs the script that the source gives, and writes the report to the sink. `words` are the words of the command
-/// line behind the program's name.
+/// How many bytes a script may have.
+pub const SCRIPT_LIMIT: usize = 1_048_576;
+
+/// Runs the script that the source gives, and writes the report to the sink; or the load of a number, and writes its
+/// summary. `words` are the words of the command line behind the program's name: `--serial`, and `--load N` for a load.
 ///
-/// Today the one line that is accepted is the single word `--serial`, so nothing runs on further threads, and the
-/// gate is not called. The faults are those of `Fault`, and `Ended` says what each leaves.
+/// Lines without `--serial` are refused as `Usage`: nothing runs on further threads yet, and the gate is not called. The
+/// faults are those of `Fault`, and `Ended` says what each leaves.
 pub fn top<R: Threads + Sync, S: Source, K: Sink, G: Gate>(
     _rt: &R,
     alloc: Global,
@@ -37,7 +44,7 @@ pub fn top<R: Threads + Sync, S: Source, K: Sink, G: Gate>(
     ensures ended { HasEnded (map string_bytes words.now)
         (reading S.left S.given S.faults source.old source.new)
         (writing K.written K.faults sink.old sink.new) result }
-    ensures headline { IfSome result.kept (HasRun
+    ensures headline { IfSome result.kept (HasRun (line_of (map string_bytes words.now))
         (reading S.left S.given S.faults source.old source.new)
         (writing K.written K.faults sink.old sink.new) result.fault) }
     ensures complete { IsComplete (map string_bytes words.now)
@@ -47,8 +54,7 @@ pub fn top<R: Threads + Sync, S: Source, K: Sink, G: Gate>(
     serial_call(alloc, words, source, sink)
 }
 
-/// Does what `top` does where the one word is `--serial`, and refuses every other line as `Usage`. It always
-/// returns.
+/// Does what `top` does on lines with `--serial`, and refuses every other line as `Usage`. It always returns.
 pub fn serial_call<S: Source, K: Sink>(
     alloc: Global,
     words: &[String],
@@ -58,29 +64,35 @@ pub fn serial_call<S: Source, K: Sink>(
     ensures ended { HasEnded (map string_bytes words.now)
         (reading S.left S.given S.faults source.old source.new)
         (writing K.written K.faults sink.old sink.new) result }
-    ensures headline { IfSome result.kept (HasRun
+    ensures headline { IfSome result.kept (HasRun (line_of (map string_bytes words.now))
         (reading S.left S.given S.faults source.old source.new)
         (writing K.written K.faults sink.old sink.new) result.fault) }
     ensures complete { IsComplete (map string_bytes words.now)
         (reading S.left S.given S.faults source.old source.new)
         (writing K.written K.faults sink.old sink.new) result.fault }
 {
-    if !is_serial(words) {
-        return refused(Fault::Usage);
-    }
-    match read_script(alloc, source) {
-        Ok(form) => run_form(alloc, &form, sink),
+    match load_asked(alloc, words) {
         Err(fault) => refused(fault),
+        Ok(Some(seed)) => run_load(alloc, seed, sink),
+        Ok(None) => match read_source(alloc, source) {
+            Err(fault) => refused(fault),
+            Ok(script) => run_script(alloc, &script, None, sink),
+        },
     }
 }
 
-/// Whether a line is the single word `--serial`.
-fn is_serial(words: &[String]) -> bool
-    ensures { result ≡ is_serial (map string_bytes words.now) }
+/// The load that a line with `--serial` asks for, if it asks for one; other lines are refused as `Usage`.
+fn load_asked(alloc: Global, words: &[String]) -> Result<Option<u32>, Fault>
+    ensures served { IfOk result (λ _. IsServed (map string_bytes words.now)) }
+    ensures load { IfOk result (λ load. (line_of (map string_bytes words.now)).load ≡ load) }
+    ensures refused { IfErr result (λ fault. fault ≡ Usage
+        → ¬ IsServed (map string_bytes words.now)) }
+    ensures fault { IfErr result (λ fault. (fault ≡ Usage) ⊎ IsMemory (Some fault)) }
 {
-    match words {
-        [word] => word.as_str() == "--serial",
-        _ => false,
+    match read_line(alloc, words) {
+        Ok(Line { serial: true, load }) => Ok(load),
+        Ok(_) | Err(LineError::Refused) => Err(Fault::Usage),
+        Err(LineError::Memory(fault)) => Err(Fault::Memory(fault)),
     }
 }
 
@@ -96,10 +108,22 @@ pub(crate) fn refused(fault: Fault) -> Ended
     }
 }
 
-/// Reads a script of the built form from a source.
-fn read_script<S: Source>(alloc: Global, source: &mut S) -> Result<BuiltForm, Fault>
+/// Runs the load of a seed and writes its summary.
+fn run_load<K: Sink>(alloc: Global, seed: u32, sink: &mut K) -> Ended
+    ensures { HasFinished (load seed) (Some seed)
+        (writing K.written K.faults sink.old sink.new) result }
+{
+    let script = match make(alloc, seed) {
+        Ok(script) => script,
+        Err(fault) => return refused(Fault::Memory(fault)),
+    };
+    run_script(alloc, &script, Some(seed), sink)
+}
+
+/// Reads a script from a source.
+fn read_source<S: Source>(alloc: Global, source: &mut S) -> Result<Script, Fault>
     ensures read { HasReadScript (reading S.left S.given S.faults source.old source.new) result }
-    ensures counted { IfOk result (λ form. form.count ≤ GREATEST_COUNT) }
+    ensures within { IfOk result IsWithinLimits }
     ensures failed { IsErrOf result Read → Rose (S.faults source.old) (S.faults source.new) }
     ensures passed { IsErrOf result Read ⊎ (S.faults source.new ≡ S.faults source.old) }
     ensures fault { IfErr result EndsReading }
@@ -110,42 +134,61 @@ fn read_script<S: Source>(alloc: Global, source: &mut S) -> Result<BuiltForm, Fa
         Err(ReadError::Read) => return Err(Fault::Read),
         Err(ReadError::Memory(fault)) => return Err(Fault::Memory(fault)),
     };
-    match read_form(alloc, text.as_slice()) {
-        Ok(form) => Ok(form),
-        Err(FormError::NotBuilt) => Err(Fault::NotBuilt),
-        Err(FormError::Memory(fault)) => Err(Fault::Memory(fault)),
+    match read_script(alloc, text.as_slice()) {
+        Ok(script) => Ok(script),
+        Err(fault) => match fault.kind {
+            ScriptKind::Memory(fault) => Err(Fault::Memory(fault)),
+            _ => Err(Fault::Script(fault)),
+        },
     }
 }
 
-/// Runs a script and writes its report.
-fn run_form<K: Sink>(alloc: Global, form: &BuiltForm, sink: &mut K) -> Ended
-    requires { form.now.count ≤ GREATEST_COUNT }
+/// Runs a script and writes its report, or, where it is the load of a seed, the summary.
+fn run_script<K: Sink>(alloc: Global, script: &Script, seed: Option<u32>, sink: &mut K) -> Ended
+    requires { IsWithinLimits script.now }
+    ensures { HasFinished script.now seed (writing K.written K.faults sink.old sink.new) result }
+{
+    match record_and_text(alloc, script, seed) {
+        Ok((kept, text)) => write_text(kept, text, sink),
+        Err(fault) => refused(Fault::Memory(fault)),
+    }
+}
+
+/// The record of a script's run, and the text that is written about it.
+fn record_and_text(
+    alloc: Global,
+    script: &Script,
+    seed: Option<u32>,
+) -> Result<(Record, Vec<u8>), NoMemory>
+    requires { IsWithinLimits script.now }
+    ensures legal { IfOk result (λ made. IsLegal serial script.now made.0) }
+    ensures serial { IfOk result (λ made. IsSerial script.now made.0) }
+    ensures text { IfOk result (λ made. made.1.items ≡ text_of seed script.now made.0) }
+{
+    let kept = run_serial(alloc, script)?;
+    let text = match seed {
+        None => write_report(alloc, script, &kept)?,
+        Some(seed) => write_summary(alloc, seed, &kept)?,
+    };
+    Ok((kept, text))
+}
+
+/// Writes the text of a run, which has left this record.
+fn write_text<K: Sink>(kept: Record, text: Vec<u8>, sink: &mut K) -> Ended
     ensures status { result.status ≡ status_of_end result.fault }
-    ensures kept { IsSome result.kept ↔ RanToEnd result.fault }
-    ensures reported { IfSome result.kept (λ kept. Reports result.fault
-        (report (script_of_form form.now) kept) (K.written sink.old) (K.written sink.new)) }
-    ensures legal { IfSome result.kept (IsLegal (script_of_form form.now)) }
-    ensures serial { IfSome result.kept (IsSerial (script_of_form form.now)) }
-    ensures fault { RanToEnd result.fault ⊎ IsMemory result.fault }
+    ensures kept { result.kept ≡ Some kept }
+    ensures ran { RanToEnd result.fault }
+    ensures reported { Reports result.fault text.items (K.written sink.old) (K.written sink.new) }
     ensures failed { result.fault ≡ Some Write → Rose (K.faults sink.old) (K.faults sink.new) }
     ensures passed { (result.fault ≡ Some Write) ⊎ (K.faults sink.new ≡ K.faults sink.old) }
-    ensures unwritten { RanToEnd result.fault ⊎ (sink.new ≡ sink.old) }
 {
-    let record = match run_script(alloc, form) {
-        Ok(record) => record,
-        Err(fault) => return refused(Fault::Memory(fault)),
-    };
-    let text = match write_report(alloc, form, &record) {
-        Ok(text) => text,
-        Err(fault) => return refused(Fault::Memory(fault)),
-    };
-    let fault = match write_all(sink, text.as_bytes()) {
-        Ok(()) => None,
-        Err(_) => Some(Fault::Write),
+    let (status, fault) = match write_all(sink, text.as_slice()) {
+        Ok(()) => (0, None),
+        Err(_) => (5, Some(Fault::Write)),
     };
     Ended {
-        status: if fault.is_some() { 5 } else { 0 },
-        kept: Some(record),
+        status,
+        kept: Some(kept),
         fault,
     }
 }

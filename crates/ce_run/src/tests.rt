@@ -1,31 +1,23 @@
-//! The worked rows, each through `serial_call` over memory.
-ghost use Rattle.std.specs.Prelude.{◌≡◌, ◌≤◌};
-ghost use Rattle.ce_run.specs.BuiltForm.{Says};
-ghost use Rattle.ce_run.specs.Script.{script_of_form};
-ghost use Rattle.ce_run.specs.Text.{report};
-ghost use Rattle.ce_run.specs.Hello.{hello_text, hello_form, hello_record, hello_report};
+//! Whole scripts, each through a call that the program makes, over memory.
+ghost use Rattle.std.specs.Prelude.{◌≤◌};
+
+mod rows;
 
 use super::*;
 use ce_gate::Open;
 use ce_io::{MemSink, MemSource};
+use rows::ROWS;
 use std::alloc::Global;
 use std::io;
 use std::test::Fail;
+use std::thread::Threads;
 
-const HELLO: &str =
-    "machine 0\nimage hello hex\n02A00513 00E00893 00000073 00D00893 00000073\nend\n\
-    user alice\ngetcube 0\nspawn hello 0 0\nrun 10\n";
-
-const HELLO_REPORT: &str =
-    "machine 0\nuser alice\ngetcube 0\n= granted mask 0 base 0\nspawn hello 0 0\n= ok\n\
-    run 10\n= quiet\ncube 0 user alice dim 0 mask 0 base 0\nhost spawn 0 hello 0.0 ok\nhost arm 10\n\
-    node 0 take 0 0 - start 0 hello\nnode 0 note 0 42\nnode 0 take 0 1 - idle\nhost look quiet\nend\n";
-
-/// What a line does to a script, over a source and a sink in memory.
+/// What a line of words does to a script.
 #[derive(Drop)]
 struct Ran {
     status: u8,
     written: Vec<u8>,
+    told: Vec<u8>,
 }
 
 /// How the memory behaves: which calls fail, and how many bytes a call moves at most.
@@ -42,7 +34,14 @@ const SOUND: Ends<'static> = Ends {
     most: 4096,
 };
 
-fn run_line(alloc: Global, line: &[&str], script: &[u8], ends: Ends) -> Result<Ran, Fail>
+/// The whole program but for its `main`.
+fn run_line<R: Threads + Sync>(
+    rt: &R,
+    alloc: Global,
+    line: &[&str],
+    script: &[u8],
+    ends: Ends,
+) -> Result<Ran, Fail>
     requires { 1 ≤ ends.most }
 {
     let words = words_of(alloc, line)?;
@@ -50,165 +49,277 @@ fn run_line(alloc: Global, line: &[&str], script: &[u8], ends: Ends) -> Result<R
     let reads = Vec::from_slice(alloc, ends.failing_read)?;
     let writes = Vec::from_slice(alloc, ends.failing_write)?;
     let mut source = MemSource::new(bytes, reads, ends.most);
-    let mut sink = MemSink::new(alloc, 131_072, writes, ends.most).map_err(|_| "no memory")?;
-    let ended = serial_call(alloc, words.as_slice(), &mut source, &mut sink);
-    let written = Vec::from_slice(alloc, sink.bytes())?;
+    let mut sink = memory_sink(alloc, writes, ends.most)?;
+    let mut errors = memory_sink(alloc, Vec::new(alloc), 4096)?;
+    let status = run_command(
+        rt,
+        alloc,
+        Ok(words),
+        &mut source,
+        &mut sink,
+        &mut errors,
+        &Open,
+    );
     Ok(Ran {
-        status: ended.status,
-        written,
+        status,
+        written: Vec::from_slice(alloc, sink.bytes())?,
+        told: Vec::from_slice(alloc, errors.bytes())?,
     })
 }
 
-fn run_script(alloc: Global, script: &str) -> Result<Ran, Fail> {
-    run_line(alloc, &["--serial"], script.as_bytes(), SOUND)
+fn words_of(alloc: Global, line: &[&str]) -> Result<Vec<String>, Fail> {
+    let mut words = Vec::new(alloc);
+    for word in line {
+        words.push(String::from_str(alloc, word)?)?;
+    }
+    Ok(words)
 }
 
-fn text(alloc: Global, parts: &[&str]) -> Result<String, Fail> {
+fn memory_sink(alloc: Global, fails: Vec<u64>, most: usize) -> Result<MemSink, Fail>
+    requires { 1 ≤ most }
+{
+    Ok(MemSink::new(alloc, 262_144, fails, most).map_err(|_| "no memory")?)
+}
+
+fn run_script<R: Threads + Sync>(rt: &R, alloc: Global, script: &str) -> Result<Ran, Fail> {
+    run_line(rt, alloc, &["--serial"], script.as_bytes(), SOUND)
+}
+
+/// Texts one behind the other, each so many times.
+fn text(alloc: Global, parts: &[(&str, u32)]) -> Result<String, Fail> {
     let mut text = String::new(alloc);
-    for part in parts {
-        text.push_str(part)?;
+    for (part, times) in parts {
+        for _ in 0..*times {
+            text.push_str(part)?;
+        }
     }
     Ok(text)
 }
 
-/// The definitions, computed on this row.
-#[tactic(auto, using(crate::proofs::HelloRow::hello_is_built, crate::proofs::HelloRow::hello_is_reported))]
-fn hello_by_definition()
-    ensures script { Says hello_text hello_form }
-    ensures report { report (script_of_form hello_form) hello_record ≡ hello_report }
-{}
-
 #[test]
-fn hello(rt: HostRuntime) -> Result<(), Fail> {
-    hello_by_definition();
-    let ran = run_script(rt.alloc(), HELLO)?;
-    assert_eq!(rt; ran.status, 0);
-    assert_eq!(rt; ran.written.as_slice(), HELLO_REPORT.as_bytes());
+fn worked_rows(rt: HostRuntime) -> Result<(), Fail> {
+    for row in &ROWS {
+        let ran = run_script(&rt, rt.alloc(), row.script)?;
+        assert_eq!(rt; ran.status, 0, "{}", row.title);
+        assert_eq!(rt;
+            ran.written.as_slice(),
+            row.report.as_bytes(),
+            "{}",
+            row.title
+        );
+        assert_eq!(rt; ran.told.len(), 0, "{}", row.title);
+    }
     Ok(())
 }
 
-/// The image of the example, as RKI1.
-const HELLO_RKI1: &str =
-    "machine 0\nimage hello rki\n524b4931 00000100 14000000 00000000 1305a002 9308e000 73000000 9308d000 73000000\nend\n\
+const HELLO: &str =
+    "machine 0\nimage hello hex\n02A00513 00E00893 00000073 00D00893 00000073\nend\n\
     user alice\ngetcube 0\nspawn hello 0 0\nrun 10\n";
 
+const HELLO_REPORT: &str =
+    "machine 0\nuser alice\ngetcube 0\n= granted mask 0 base 0\nspawn hello 0 0\n= ok\n\
+    run 10\n= quiet\ncube 0 user alice dim 0 mask 0 base 0\nhost spawn 0 hello 0.0 ok\nhost arm 10\n\
+    node 0 take 0 0 - start 0 hello\nnode 0 note 0 42\nnode 0 take 0 1 - idle\nhost look quiet\nend\n";
+
+/// Both public calls, over a source and a sink that move a few bytes at a time.
 #[test]
-fn hello_through_top(rt: HostRuntime) -> Result<(), Fail> {
+fn hello_by_both_calls(rt: HostRuntime) -> Result<(), Fail> {
     let alloc = rt.alloc();
-    for script in [HELLO, HELLO_RKI1] {
-        let mut words = Vec::new(alloc);
-        words.push(String::from_str(alloc, "--serial")?)?;
-        let bytes = Vec::from_slice(alloc, script.as_bytes())?;
+    for through_top in [true, false] {
+        let words = words_of(alloc, &["--serial"])?;
+        let bytes = Vec::from_slice(alloc, HELLO.as_bytes())?;
         let mut source = MemSource::new(bytes, Vec::new(alloc), 7);
-        let mut sink = MemSink::new(alloc, 4096, Vec::new(alloc), 7).map_err(|_| "no memory")?;
-        let ended = top(&rt, alloc, words.as_slice(), &mut source, &mut sink, &Open);
+        let mut sink = memory_sink(alloc, Vec::new(alloc), 7)?;
+        let ended = if through_top {
+            top(&rt, alloc, words.as_slice(), &mut source, &mut sink, &Open)
+        } else {
+            serial_call(alloc, words.as_slice(), &mut source, &mut sink)
+        };
         assert_eq!(rt; ended.status, 0);
         assert_eq!(rt; sink.bytes(), HELLO_REPORT.as_bytes());
     }
     Ok(())
 }
 
-const HEAD: &str = "machine 0\nimage hello hex\n02A00513 00E00893 00000073 00D00893 00000073\nend\n\
-    user alice\ngetcube 0\nspawn hello 0 0\n";
-
-const HEAD_REPORT: &str =
-    "machine 0\nuser alice\ngetcube 0\n= granted mask 0 base 0\nspawn hello 0 0\n= ok\n";
-
-const CUBE: &str = "cube 0 user alice dim 0 mask 0 base 0\nhost spawn 0 hello 0.0 ok\n";
-
+/// A process that polls is told 0 until the dispatches are used up.
 #[test]
-fn nothing_allowed(rt: HostRuntime) -> Result<(), Fail> {
-    let alloc = rt.alloc();
-    let ran = run_script(alloc, text(alloc, &[HEAD, "run 0\n"])?.as_str())?;
-    let rest = "host arm 0\nnode 0 take 0 0 - spent\nhost look spent\nend\n";
-    let want = text(alloc, &[HEAD_REPORT, "run 0\n= spent\n", CUBE, rest])?;
+fn polling(rt: HostRuntime) -> Result<(), Fail> {
+    let script =
+        "machine 0\nimage poll asm\nloop: li a7, 6\necall\nj loop\nend\nuser alice\ngetcube 0\n\
+        spawn poll 0 0\nrun 100\ndump 0 0\n";
+    let head = "machine 0\nuser alice\ngetcube 0\n= granted mask 0 base 0\nspawn poll 0 0\n= ok\n\
+        run 100\n= spent\ndump 0 0\n= polling\ncube 0 user alice dim 0 mask 0 base 0\n\
+        host spawn 0 poll 0.0 ok\nhost arm 100\nnode 0 take 0 0 - start 0 poll\n";
+    let tail = "node 0 take 1 0 0 spent\nhost look spent\nend\n";
+    let poll = "node 0 take 1 0 0 poll 0\n";
+    let ran = run_script(&rt, rt.alloc(), script)?;
+    let want = text(rt.alloc(), &[(head, 1), (poll, 99), (tail, 1)])?;
     assert_eq!(rt; ran.status, 0);
     assert_eq!(rt; ran.written.as_slice(), want.as_bytes());
     Ok(())
 }
 
+/// A host sends 32 messages, and then its store is empty.
 #[test]
-fn tie(rt: HostRuntime) -> Result<(), Fail> {
+fn no_store(rt: HostRuntime) -> Result<(), Fail> {
     let alloc = rt.alloc();
-    let ran = run_script(alloc, text(alloc, &[HEAD, "run 0000000001"])?.as_str())?;
-    let rest = "host arm 1\nnode 0 take 0 0 - start 0 hello\nnode 0 note 0 42\n\
-        node 0 take 0 1 - idle\nhost look quiet\nend\n";
-    let want = text(alloc, &[HEAD_REPORT, "run 1\n= quiet\n", CUBE, rest])?;
+    let script = text(
+        alloc,
+        &[("machine 0\nuser a\ngetcube 0\n", 1), ("send 0 7 -\n", 33)],
+    )?;
+    let head = "machine 0\nuser a\ngetcube 0\n= granted mask 0 base 0\n";
+    let refused = "send 0 7 -\n= no store\ncube 0 user a dim 0 mask 0 base 0\n";
+    let ran = run_script(&rt, alloc, script.as_str())?;
+    let mut want = text(
+        alloc,
+        &[(head, 1), ("send 0 7 -\n= ok\n", 32), (refused, 1)],
+    )?;
+    for index in 0..32 {
+        let entry = format!(in alloc; "host send 0 {index} 0.7=host.{index} -\n")?;
+        want.push_str(entry.as_str())?;
+    }
+    want.push_str("end\n")?;
     assert_eq!(rt; ran.status, 0);
     assert_eq!(rt; ran.written.as_slice(), want.as_bytes());
     Ok(())
 }
 
-/// Images that end without a note: by a call that doesn't exist, and by a turn that would never end.
+/// A process takes all blocks of its node, each at the next window, and one more where it has freed one.
 #[test]
-fn images_without_a_note(rt: HostRuntime) -> Result<(), Fail> {
+fn store(rt: HostRuntime) -> Result<(), Fail> {
     let alloc = rt.alloc();
-    let rest =
-        "host arm 10\nnode 0 take 0 0 - start 0 hello\nnode 0 take 0 1 - idle\nhost look quiet\nend\n";
-    let want = text(alloc, &[HEAD_REPORT, "run 10\n= quiet\n", CUBE, rest])?;
-    let head = "machine 0\nimage hello hex\n";
-    let commands = "\nend\nuser alice\ngetcube 0\nspawn hello 0 0\nrun 10\n";
-    for word in ["00000073", "0000006F"] {
-        let ran = run_script(alloc, text(alloc, &[head, word, commands])?.as_str())?;
-        assert_eq!(rt; ran.status, 0, "{word}");
-        assert_eq!(rt; ran.written.as_slice(), want.as_bytes(), "{word}");
+    let script =
+        "machine 0\nimage store asm\nli s0, 33\nagain: li a0, 16\nli a7, 1\necall\nli a7, 14\necall\n\
+        addi s0, s0, -1\nbne s0, zero, again\nli a0, 0x80000000\nli a7, 2\necall\nli a0, 16\nli a7, 1\n\
+        ecall\nli a7, 14\necall\nli a7, 13\necall\nend\nuser a\ngetcube 0\nspawn store 0 0\nrun 10\n";
+    let head =
+        "machine 0\nuser a\ngetcube 0\n= granted mask 0 base 0\nspawn store 0 0\n= ok\nrun 10\n= quiet\n\
+        cube 0 user a dim 0 mask 0 base 0\nhost spawn 0 store 0.0 ok\nhost arm 10\n\
+        node 0 take 0 0 - start 0 store\n";
+    let tail =
+        "node 0 note 0 0\nnode 0 note 0 2149580800\nnode 0 take 0 1 - idle\nhost look quiet\nend\n";
+    let mut want = text(alloc, &[(head, 1)])?;
+    for window in 0..32_u64 {
+        let address = 0x8000_0000 + 0x1_0000 * window;
+        let entry = format!(in alloc; "node 0 note 0 {address}\n")?;
+        want.push_str(entry.as_str())?;
+    }
+    want.push_str(tail)?;
+    let ran = run_script(&rt, alloc, script)?;
+    assert_eq!(rt; ran.status, 0);
+    assert_eq!(rt; ran.written.as_slice(), want.as_bytes());
+    Ok(())
+}
+
+const LOAD_0: &str = "load 0\nu0 message 3.0 6f1a6f3c00000000\nu1 message 3.0 4250504700000000\n\
+    u2 message 3.0 f91dcdd100000000\nu3 message 3.0 447af9aa00000000\n";
+
+/// The load of 0, asked for in three ways.
+#[test]
+fn load(rt: HostRuntime) -> Result<(), Fail> {
+    let lines: [&[&str]; 3] = [
+        &["--load", "0", "--serial"],
+        &["--serial", "--load", "0"],
+        &["--serial", "--load=00"],
+    ];
+    for line in lines {
+        let ran = run_line(&rt, rt.alloc(), line, b"not read".as_slice(), SOUND)?;
+        assert_eq!(rt; ran.status, 0);
+        assert_eq!(rt; ran.written.as_slice(), LOAD_0.as_bytes());
     }
     Ok(())
 }
 
+/// Lines of words that are refused; those without `--serial` ask for threads, which aren't there yet.
+#[test]
+fn usage(rt: HostRuntime) -> Result<(), Fail> {
+    let lines: [&[&str]; 8] = [
+        &["--fast"],
+        &["--load", "4294967296"],
+        &["--load", "4294967296", "--serial"],
+        &["--serial", "--load"],
+        &["--serial", "hello.ce"],
+        &["--serial", "--serial"],
+        &["--load", "0"],
+        &[],
+    ];
+    let told = b"ce: usage: ce [--serial] [--load N]\n".as_slice();
+    for line in lines {
+        let ran = run_line(&rt, rt.alloc(), line, HELLO.as_bytes(), SOUND)?;
+        assert_eq!(rt; ran.status, 2);
+        assert_eq!(rt; ran.written.len(), 0);
+        assert_eq!(rt; ran.told.as_slice(), told);
+    }
+    Ok(())
+}
+
+/// Texts that are no script: nothing runs, and the first fault is told.
+#[test]
+fn no_script(rt: HostRuntime) -> Result<(), Fail> {
+    let alloc = rt.alloc();
+    let users = "user a\nuser b\nuser c\nuser d\nuser e\nuser f\nuser g\nuser h\nuser i\n";
+    let ninth = text(alloc, &[("machine 0\n", 1), (users, 1)])?;
+    let rows = [
+        ("fly\n", "ce: line 1: unknown word\n"),
+        (
+            "machine 0\nuser a\ngetcube 0\nfly\n",
+            "ce: line 4: unknown word\n",
+        ),
+        (ninth.as_str(), "ce: line 10: too many\n"),
+        ("machine 0\nimage x asm\nnop\n", "ce: line 2: no end line\n"),
+        (
+            "machine 0\nimage x asm\nnop\naddi a0\nend\n",
+            "ce: line 4: assembly: operands\n",
+        ),
+        (
+            "machine 0\nuser a\nspawn x 0 0\n",
+            "ce: line 3: unknown image\n",
+        ),
+    ];
+    for (script, told) in rows {
+        let ran = run_script(&rt, alloc, script)?;
+        assert_eq!(rt; ran.status, 1, "{script}");
+        assert_eq!(rt; ran.written.len(), 0, "{script}");
+        assert_eq!(rt; ran.told.as_slice(), told.as_bytes(), "{script}");
+    }
+    Ok(())
+}
+
+/// A script may have 1,048,576 bytes, and a text of one more is refused, whatever it says.
 #[test]
 fn script_limits(rt: HostRuntime) -> Result<(), Fail> {
     let alloc = rt.alloc();
-    for (len, fault) in [
-        (SCRIPT_LIMIT, Fault::NotBuilt),
-        (SCRIPT_LIMIT + 1, Fault::TooLong),
-    ] {
-        let script = vec![in alloc; b'#'; len]?;
-        let mut words = Vec::new(alloc);
-        words.push(String::from_str(alloc, "--serial")?)?;
-        let mut source = MemSource::new(script, Vec::new(alloc), 4096);
-        let mut sink = MemSink::new(alloc, 64, Vec::new(alloc), 64).map_err(|_| "no memory")?;
-        let ended = serial_call(alloc, words.as_slice(), &mut source, &mut sink);
-        assert_eq!(rt; ended.status, 1);
-        assert_eq!(rt; ended.fault, Some(fault));
-        assert_eq!(rt; sink.bytes().len(), 0);
-    }
-    Ok(())
-}
-
-/// The longest script, most of which is comments.
-#[test]
-fn a_script_of_the_greatest_length(rt: HostRuntime) -> Result<(), Fail> {
-    let alloc = rt.alloc();
-    let head = "machine 0\nimage hello asm\n";
-    let body = "\nli a0, 42\nli a7, 14\necall\nli a7, 13\necall\nend\n";
-    let mut script = text(alloc, &[head])?;
-    for _ in head.len() + body.len() + COMMANDS.len()..SCRIPT_LIMIT {
+    let head = "machine 0\n";
+    let mut script = text(alloc, &[(head, 1)])?;
+    for _ in head.len()..SCRIPT_LIMIT {
         script.push('#')?;
     }
-    script.push_str(body)?;
-    script.push_str(COMMANDS)?;
-    assert_eq!(rt; script.len(), SCRIPT_LIMIT);
-    let ran = run_script(alloc, script.as_str())?;
+    let ran = run_script(&rt, alloc, script.as_str())?;
     assert_eq!(rt; ran.status, 0);
-    assert_eq!(rt; ran.written.as_slice(), HELLO_REPORT.as_bytes());
+    assert_eq!(rt; ran.written.as_slice(), b"machine 0\nend\n".as_slice());
+    script.push('#')?;
+    let ran = run_script(&rt, alloc, script.as_str())?;
+    assert_eq!(rt; ran.status, 1);
+    assert_eq!(rt; ran.written.len(), 0);
+    assert_eq!(rt; ran.told.as_slice(), b"ce: script too long\n".as_slice());
     Ok(())
 }
 
-/// An image that fills the private memory up to the stack: 30,720 words.
+/// An image that fills its room: 30,720 words. One more is refused.
 #[test]
 fn an_image_of_the_greatest_length(rt: HostRuntime) -> Result<(), Fail> {
     let alloc = rt.alloc();
-    let mut body = text(alloc, &["02A00513 00E00893 00000073 00D00893 00000073\n"])?;
-    for _ in 5..30_720 {
-        body.push_str("00000000\n")?;
-    }
-    let ran = run_image(alloc, "hex", body.as_str())?;
+    let head = "machine 0\nimage hello hex\n02A00513 00E00893 00000073 00D00893 00000073\n";
+    let rest = "end\nuser alice\ngetcube 0\nspawn hello 0 0\nrun 10\n";
+    let zeros = "00000000\n";
+    let script = text(alloc, &[(head, 1), (zeros, 30_715), (rest, 1)])?;
+    let ran = run_script(&rt, alloc, script.as_str())?;
     assert_eq!(rt; ran.status, 0);
     assert_eq!(rt; ran.written.as_slice(), HELLO_REPORT.as_bytes());
-    body.push_str("00000000\n")?;
-    let ran = run_image(alloc, "hex", body.as_str())?;
+    let script = text(alloc, &[(head, 1), (zeros, 30_716), (rest, 1)])?;
+    let ran = run_script(&rt, alloc, script.as_str())?;
     assert_eq!(rt; ran.status, 1);
+    assert_eq!(rt; ran.told.as_slice(), b"ce: line 2: bad image\n".as_slice());
     Ok(())
 }
 
@@ -216,22 +327,25 @@ fn an_image_of_the_greatest_length(rt: HostRuntime) -> Result<(), Fail> {
 #[test]
 fn a_turn_of_the_most_notes(rt: HostRuntime) -> Result<(), Fail> {
     let alloc = rt.alloc();
-    let ran = run_image(
+    let script =
+        "machine 0\nimage notes asm\nli a0, 42\nli a7, 14\nagain: ecall\nj again\nend\nuser a\n\
+        getcube 0\nspawn notes 0 0\nrun 10\ndump 0 0\n";
+    let head =
+        "machine 0\nuser a\ngetcube 0\n= granted mask 0 base 0\nspawn notes 0 0\n= ok\nrun 10\n= quiet\n\
+        dump 0 0\n= stopped turn spent\ncube 0 user a dim 0 mask 0 base 0\nhost spawn 0 notes 0.0 ok\n\
+        host arm 10\nnode 0 take 0 0 - start 0 notes\n";
+    let tail = "node 0 take 0 1 - idle\nhost look quiet\nend\n";
+    let want = text(
         alloc,
-        "asm",
-        "li a0, 42\nli a7, 14\nagain: ecall\nj again\n",
+        &[(head, 1), ("node 0 note 0 42\n", 4_096), (tail, 1)],
     )?;
-    let mut want = text(alloc, &[HEAD_REPORT, "run 10\n= quiet\n", CUBE])?;
-    want.push_str("host arm 10\nnode 0 take 0 0 - start 0 hello\n")?;
-    for _ in 0..4_096 {
-        want.push_str("node 0 note 0 42\n")?;
-    }
-    want.push_str("node 0 take 0 1 - idle\nhost look quiet\nend\n")?;
+    let ran = run_script(&rt, alloc, script)?;
     assert_eq!(rt; ran.status, 0);
     assert_eq!(rt; ran.written.as_slice(), want.as_bytes());
     Ok(())
 }
 
+/// Reads and writes that fail end the run, and are told.
 #[test]
 fn faults(rt: HostRuntime) -> Result<(), Fail> {
     let alloc = rt.alloc();
@@ -240,286 +354,44 @@ fn faults(rt: HostRuntime) -> Result<(), Fail> {
         failing_write: &[],
         most: 4096,
     };
-    let ran = run_line(alloc, &["--serial"], HELLO.as_bytes(), broken_source)?;
+    let ran = run_line(&rt, alloc, &["--serial"], HELLO.as_bytes(), broken_source)?;
     assert_eq!(rt; ran.status, 3);
     assert_eq!(rt; ran.written.len(), 0);
+    assert_eq!(rt; ran.told.as_slice(), b"ce: read fault\n".as_slice());
     let broken_sink = Ends {
         failing_read: &[],
         failing_write: &[2],
         most: 8,
     };
-    let ran = run_line(alloc, &["--serial"], HELLO.as_bytes(), broken_sink)?;
+    let ran = run_line(&rt, alloc, &["--serial"], HELLO.as_bytes(), broken_sink)?;
     assert_eq!(rt; ran.status, 5);
     assert_eq!(rt; ran.written.as_slice(), b"machine 0\nuser a".as_slice());
+    assert_eq!(rt; ran.told.as_slice(), b"ce: write fault\n".as_slice());
     Ok(())
 }
 
+/// Words that can't be read: for want of memory, or since one is no text.
 #[test]
-fn usage(rt: HostRuntime) -> Result<(), Fail> {
-    let lines: [&[&str]; 4] = [
-        &["--fast"],
-        &["--load", "4294967296"],
-        &[],
-        &["--serial", "--serial"],
-    ];
-    for line in lines {
-        let ran = run_line(rt.alloc(), line, HELLO.as_bytes(), SOUND)?;
-        assert_eq!(rt; ran.status, 2);
-        assert_eq!(rt; ran.written.len(), 0);
-    }
-    Ok(())
-}
-
-#[test]
-fn not_built(rt: HostRuntime) -> Result<(), Fail> {
+fn words_that_cannot_be_read(rt: HostRuntime) -> Result<(), Fail> {
     let alloc = rt.alloc();
-    for script in [
-        "",
-        "machine 1\n",
-        "machine 0\nimage 1x hex\n00000073\nend\nuser a\ngetcube 0\nspawn 1x 0 0\nrun 1\n",
-        "machine 0\nimage x hex\nend\nuser a\ngetcube 0\nspawn x 0 0\nrun 1\n",
-        "machine 0\nimage x hex\n0000003\nend\nuser a\ngetcube 0\nspawn x 0 0\nrun 1\n",
-        "machine 0\nimage x hex\n00000073  00000073\nend\nuser a\ngetcube 0\nspawn x 0 0\nrun 1\n",
-        "machine 0\nimage x hex\n00000073\nuser a\ngetcube 0\nspawn x 0 0\nrun 1\n",
-        "machine 0\nimage x hex\n00000073\nend\nuser a\ngetcube 0\nspawn y 0 0\nrun 1\n",
-        "machine 0\nimage x hex\n00000073\nend\nuser a\ngetcube 0\nspawn x 0 0\nrun 1000001\n",
-        "machine 0\nimage x hex\n00000073\nend\nuser a\ngetcube 0\nspawn x 0 0\nrun 1\n\n",
+    for (kind, status) in [
+        (io::ErrorKind::InvalidData, 2),
+        (io::ErrorKind::OutOfMemory, 4),
     ] {
-        let ran = run_script(alloc, script)?;
-        assert_eq!(rt; ran.status, 1, "{script}");
-        assert_eq!(rt; ran.written.len(), 0, "{script}");
-    }
-    Ok(())
-}
-
-const COMMANDS: &str = "user alice\ngetcube 0\nspawn hello 0 0\nrun 10\n";
-
-/// A script whose image has this form and body, with the line that ends it.
-fn run_body(alloc: Global, form: &str, body: &str, end: &str) -> Result<Ran, Fail> {
-    let parts = ["machine 0\nimage hello ", form, "\n", body, end, COMMANDS];
-    run_script(alloc, text(alloc, &parts)?.as_str())
-}
-
-/// A script whose image has this form and body.
-fn run_image(alloc: Global, form: &str, body: &str) -> Result<Ran, Fail> {
-    run_body(alloc, form, body, "end\n")
-}
-
-/// The image of the example, as RKI1, with its entry and zero length as they are given.
-fn run_rki(alloc: Global, entry: &str, zero: &str) -> Result<Ran, Fail> {
-    let parts = [
-        "524b4931 ",
-        entry,
-        " 14000000 ",
-        zero,
-        " 1305a002 9308e000 73000000 9308d000 73000000\n",
-    ];
-    run_image(alloc, "rki", text(alloc, &parts)?.as_str())
-}
-
-/// The same image in each form, written in several ways.
-#[test]
-fn forms_of_an_image(rt: HostRuntime) -> Result<(), Fail> {
-    let alloc = rt.alloc();
-    let bodies = [
-        ("hex", "02a00513 00E00893\n00000073\n00D00893 00000073\n"),
-        (
-            "rki",
-            "524b4931 00000100 14000000 00000000 1305a002 9308e000 73000000 9308d000 73000000\n",
-        ),
-        (
-            "rki",
-            "524B49310000010014000000000000001305A0029308E000730000009308D00073000000\n",
-        ),
-        (
-            "rki",
-            "52 4b4931 000001\n00 14000000 0000000013\n05a0 02 9308e000 73000000 9308d000 7300 0000\n",
-        ),
-        ("asm", "li a0, 42\nli a7, 14\necall\nli a7, 13\necall\n"),
-        (
-            "asm",
-            "# A note, and the end.\n\n\tli a0, 42\nstart: nop\n  j begin # end\nbegin: li a0, 42\nli a7, 14\r\necall\nli a7, 13\necall\n",
-        ),
-    ];
-    for (form, body) in bodies {
-        let ran = run_image(alloc, form, body)?;
-        assert_eq!(rt; ran.status, 0, "{body}");
-        assert_eq!(rt; ran.written.as_slice(), HELLO_REPORT.as_bytes(), "{body}");
-    }
-    Ok(())
-}
-
-/// What ends a body, and what may stand in one, in each form.
-#[test]
-fn bodies(rt: HostRuntime) -> Result<(), Fail> {
-    let alloc = rt.alloc();
-    let words = "02A00513 00E00893 00000073 00D00893 00000073\n";
-    let assembly = "li a0, 42\nli a7, 14\necall\nli a7, 13\necall\n";
-    let rki =
-        "# RKI1 \x01\n\n\t524b4931  00000100\t14000000 00000000 # header\r\n1305a002 9308e000 73000000 9308d000 73000000#\n";
-    let rows = [
-        ("asm", assembly, "end", 0),
-        ("asm", assembly, " \tend\r", 0),
-        ("asm", assembly, "end # of it", 0),
-        ("asm", assembly, "end#", 0),
-        ("asm", assembly, "end: nop\nend", 0),
-        ("asm", assembly, "end end\nend", 1),
-        ("asm", assembly, "End\nend", 1),
-        ("rki", rki, "end", 0),
-        ("rki", rki, "\tend # of it", 0),
-        ("rki", rki, "e nd\nend", 1),
-        ("hex", words, "end", 0),
-        ("hex", words, " end", 1),
-        ("hex", words, "end#", 1),
-        ("hex", words, "# end\nend", 1),
-        ("hex", words, "\nend", 1),
-    ];
-    for (form, body, end, status) in rows {
-        let ran = run_body(alloc, form, body, text(alloc, &[end, "\n"])?.as_str())?;
-        assert_eq!(rt; ran.status, status, "{form} {end}");
-    }
-    Ok(())
-}
-
-/// Zero bytes change nothing, up to as many as an image has room for; and the entry may be any word.
-#[test]
-fn parts_of_an_image(rt: HostRuntime) -> Result<(), Fail> {
-    let alloc = rt.alloc();
-    for zero in ["00000000", "01000000", "ecdf0100"] {
-        let ran = run_rki(alloc, "00000100", zero)?;
-        assert_eq!(rt; ran.status, 0, "{zero}");
-        assert_eq!(rt; ran.written.as_slice(), HELLO_REPORT.as_bytes(), "{zero}");
-    }
-    let ran = run_rki(alloc, "04000100", "00000000")?;
-    let noted = HELLO_REPORT.replace(alloc, "node 0 note 0 42", "node 0 note 0 0")?;
-    assert_eq!(rt; ran.status, 0);
-    assert_eq!(rt; ran.written.as_slice(), noted.as_bytes());
-    for (entry, zero) in [
-        ("02000100", "00000000"),
-        ("14000100", "00000000"),
-        ("00000100", "eddf0100"),
-    ] {
-        let ran = run_rki(alloc, entry, zero)?;
-        assert_eq!(rt; ran.status, 1, "{entry} {zero}");
-        assert_eq!(rt; ran.written.len(), 0, "{entry} {zero}");
-    }
-    Ok(())
-}
-
-/// A store over later code takes effect at once, and a jump to a half word ends the process.
-#[test]
-fn code_as_it_stands(rt: HostRuntime) -> Result<(), Fail> {
-    let alloc = rt.alloc();
-    let stores =
-        "li t0, 0x02A00513\nla t1, later\nsw t0, 0(t1)\nlater: li a0, 7\nli a7, 14\necall\nli a7, 13\necall\n";
-    let jumps = "j half\n.byte 1, 2\nhalf: .byte 0x13, 0x05\nli a7, 14\necall\n";
-    let silent = HELLO_REPORT.replace(alloc, "node 0 note 0 42\n", "")?;
-    for (body, report) in [(stores, HELLO_REPORT), (jumps, silent.as_str())] {
-        let ran = run_image(alloc, "asm", body)?;
-        assert_eq!(rt; ran.status, 0, "{body}");
-        assert_eq!(rt; ran.written.as_slice(), report.as_bytes(), "{body}");
-    }
-    Ok(())
-}
-
-/// An image that is refused, in each form.
-#[test]
-fn refused_images(rt: HostRuntime) -> Result<(), Fail> {
-    let alloc = rt.alloc();
-    let bodies = [
-        ("hex", ""),
-        ("hex", "\n"),
-        ("hex", "02A005130000\n"),
-        ("hex", "02A0051g\n"),
-        ("asm", ""),
-        ("asm", "what\n"),
-        ("asm", "addi a0, a0, 2048\n"),
-        ("asm", "j nowhere\n"),
-        ("asm", ".byte 1\nnop\n"),
-        ("asm", ".zero 122880\nnop\n"),
-        ("asm", "nop\nstart:\n"),
-        ("rki", ""),
-        ("rki", "524b49\n"),
-        (
-            "rki",
-            "524b4931 00000100 14000000 00000000 1305a002 9308e000 73000000 9308d000 730000\n",
-        ),
-        (
-            "rki",
-            "524b4931 00000100 14000000 00000000 1305a002 9308e000 73000000 9308d000 73000000 00\n",
-        ),
-        ("rki", "524b4932 00000100 04000000 00000000 73000000\n"),
-        ("rki", "524b4931 00000100 04000000 00000000 7300000\n"),
-        ("rki", "524b4931 00000100 04000000 00000000 7300000g\n"),
-        ("raw", "02A00513\n"),
-        ("hex hex", "02A00513\n"),
-    ];
-    for (form, body) in bodies {
-        let ran = run_image(alloc, form, body)?;
-        assert_eq!(rt; ran.status, 1, "{form} {body}");
-        assert_eq!(rt; ran.written.len(), 0, "{form} {body}");
-    }
-    Ok(())
-}
-
-/// The whole command: what its status and its line of standard error are, by its words and its script.
-#[test]
-fn commands_end(rt: HostRuntime) -> Result<(), Fail> {
-    let alloc = rt.alloc();
-    let no_memory = Err(io::Error::from(io::ErrorKind::OutOfMemory));
-    let no_text = Err(io::Error::from(io::ErrorKind::InvalidData));
-    for (words, script, status, line) in [
-        (words_of(alloc, &["--serial"]), HELLO, 0, ""),
-        (words_of(alloc, &["--serial"]), "", 1, "ce: not built\n"),
-        (words_of(alloc, &[]), HELLO, 2, USAGE),
-        (no_text, HELLO, 2, USAGE),
-        (no_memory, HELLO, 4, "ce: no memory\n"),
-    ] {
-        let bytes = Vec::from_slice(alloc, script.as_bytes())?;
-        let mut source = MemSource::new(bytes, Vec::new(alloc), 64);
-        let mut sink = MemSink::new(alloc, 4096, Vec::new(alloc), 64).map_err(|_| "no memory")?;
-        let mut errors = MemSink::new(alloc, 64, Vec::new(alloc), 3).map_err(|_| "no memory")?;
+        let mut source = MemSource::new(Vec::new(alloc), Vec::new(alloc), 1);
+        let mut sink = memory_sink(alloc, Vec::new(alloc), 1)?;
+        let mut errors = memory_sink(alloc, Vec::new(alloc), 3)?;
         let ended = run_command(
             &rt,
             alloc,
-            words,
+            Err(io::Error::from(kind)),
             &mut source,
             &mut sink,
             &mut errors,
             &Open,
         );
         assert_eq!(rt; ended, status);
-        assert_eq!(rt; errors.bytes(), line.as_bytes());
-        let report = if status == 0 { HELLO_REPORT } else { "" };
-        assert_eq!(rt; sink.bytes(), report.as_bytes());
-    }
-    Ok(())
-}
-
-fn words_of(alloc: Global, line: &[&str]) -> io::Result<Vec<String>> {
-    let mut words = Vec::new(alloc);
-    for word in line {
-        words.push(String::from_str(alloc, word)?)?;
-    }
-    Ok(words)
-}
-
-const USAGE: &str = "ce: usage: ce [--serial] [--load N]\n";
-
-#[test]
-fn fault_lines(rt: HostRuntime) -> Result<(), Fail> {
-    let alloc = rt.alloc();
-    for (fault, line) in [
-        (Fault::TooLong, "ce: script too long\n"),
-        (Fault::NotBuilt, "ce: not built\n"),
-        (Fault::Usage, USAGE),
-        (Fault::Read, "ce: read fault\n"),
-        (Fault::Write, "ce: write fault\n"),
-        (Fault::Memory(ce_model::NoMemory), "ce: no memory\n"),
-    ] {
-        let mut sink = MemSink::new(alloc, 64, Vec::new(alloc), 3).map_err(|_| "no memory")?;
-        assert!(rt; write_fault(&fault, &mut sink).is_ok());
-        assert_eq!(rt; sink.bytes(), line.as_bytes());
+        assert_eq!(rt; sink.bytes().len(), 0);
     }
     Ok(())
 }

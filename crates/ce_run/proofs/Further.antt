@@ -1,0 +1,330 @@
+-- A script's run, one command further.
+use Rattle.std.proofs.Common.{◌≡◌, ◌≢◌, ◌⊎◌, ℕ, zero, suc, ◌+◌, ◌<◌, Bool, true, false, ◌==◌, List, [], ◌∷◌, ◌++◌, length, map, take, drop, get_or, slice_index_or, slice_set, set, Option, Some, None, option_map, refl, ap, ap₂, sym, ◌∙◌, subst, inl, inr, IsSomeAnd, arith, length-append, append-nil}
+use Rattle.std.proofs.lemmas.List.{length-map, map-append, map-set, get_or-map, get_or-set_same, get_or-set_other, get_or_append_left}
+use Rattle.std.proofs.Math.Seq.{take-suc, map-set_same, get_or-append_seam}
+use Rattle.std.proofs.Math.ListN.{length-set}
+use Rattle.std.specs.Prelude.{replicate}
+use Rattle.std.specs.List.{AllByRecursion}
+use Rattle.std.proofs.lemmas.Bool.{cases_eq, ne_eqb}
+use Rattle.rv_model.specs.Image.{ImageParts}
+use Rattle.ce_model.specs.declared.entry.Entry.{Entry}
+use Rattle.ce_model.specs.Views.{view}
+use Rattle.ce_model.specs.Machine.{MachineParts, IsMachine, IsLawful, HeldCube, after, held_by}
+use Rattle.ce_machine.specs.Meanings.{MachineFacts}
+use Rattle.ce_model.specs.Limits.{home_blocks, host_home}
+use Rattle.ce_model.specs.Blocks.{blocks_of_home}
+use Rattle.xm_block.specs.Stores.{ids_of}
+use Rattle.ce_host.specs.Hosts.{host_room}
+use Rattle.ce_host.specs.declared.host.Host.{Host}
+use Rattle.ce_host.specs.declared.command.Command.{Command}
+use Rattle.ce_host.specs.declared.answer.Answer.{Answer}
+use Rattle.ce_cube.specs.declared.crew.SerialCrew.{SerialCrew}
+use Rattle.ce_cube.specs.Crews.{IsCrewInStep, IsHostAtHome}
+use Rattle.ce_cube.proofs.Homes.{length-home}
+use Rattle.ce_script.specs.declared.record.UserRecord.{UserRecord}
+use Rattle.ce_script.specs.declared.record.Record.{Record}
+use Rattle.ce_script.specs.declared.script.Script.{Script}
+use Rattle.ce_script.specs.Bounds.{IsWithinLimits, IsCommandWithin, IsOwnCommandWithin}
+use Rattle.ce_script.specs.Legal.{IsLegal, machine_of}
+use Rattle.ce_script.specs.Rounds.{serial}
+use Rattle.ce_script.specs.Serial.{IsSerial}
+use Rattle.ce_script.specs.Moments.{Holding as Held}
+use Rattle.ce_script.specs.Doings.{Doing}
+use Rattle.ce_record.specs.Held.{holding_of, held_now}
+use Rattle.ce_record.specs.Run.{IsRunSoFar, AreReplies, doing_behind}
+use Rattle.ce_record.proofs.Held.{others_stay}
+use Rattle.ce_record.proofs.Legal.{script_has_machine, run_is_legal, no_user_is_legal}
+use Rattle.ce_record.proofs.Run.{run_begins, run_goes_on}
+use Rattle.ce_record.proofs.Replies.{replies_begin, replies_go_on}
+use Rattle.ce_run.specs.declared.seat.Seat.{Seat}
+use Rattle.ce_run.specs.declared.seat.Seat.TheVariants.{Free, Holding}
+use Rattle.ce_run.specs.Seats.{HasDone, IsSeatAt}
+use Rattle.ce_run.specs.Script.{IsRunBehind, HasGoneFurther, IsFreeSeat, AreOpenSeats}
+use Rattle.ce_run.proofs.Seating.{crew-keeps}
+
+-- ---- the seats of the others
+
+abbrev trace_in : Option Held → List Entry
+trace_in None = []
+trace_in (Some held) = held.trace
+
+-- a user that holds the same cube, by what is held now, has the same trace
+same-trace : (h h' : List Entry) (user : ℕ) (cube : HeldCube) → held_by (after h) user ≡ Some cube → held_by (after h') user ≡ held_by (after h) user
+    → held_now h' user ≡ held_now h user → view h' cube.number ≡ view h cube.number
+same-trace h h' user cube holds same now =
+    ap (λ held. trace_in (option_map (holding_of h') held)) (sym (same ∙ holds)) ∙ ap trace_in now ∙ ap (λ held. trace_in (option_map (holding_of h) held)) holds
+
+pub seat-stays : (parts : MachineParts) (h h' : List Entry) (user : ℕ) (seat : Seat) → held_by (after h') user ≡ held_by (after h) user
+    → held_now h' user ≡ held_now h user → IsSeatAt parts h user seat → IsSeatAt parts h' user seat
+seat-stays parts h h' user (Free host) same now seated = (same ∙ seated.0, seated.1)
+seat-stays parts h h' user (Holding crew) same now seated =
+    let held = seated.1.held in
+    let at = ap (held_by (after h)) (sym seated.0) ∙ held.held in
+    let trace = same-trace h h' user held.cube at same now in (
+      seated.0,
+      crew-keeps parts h h' crew (ap (held_by (after h')) seated.0 ∙ same ∙ ap (held_by (after h)) (sym seated.0))
+          (subst (λ n. view h' n ≡ view h n) held.number_is trace) seated.1,
+    )
+
+some-stays : (parts : MachineParts) (h h' : List Entry) (user : ℕ) (seat : Option Seat) → held_by (after h') user ≡ held_by (after h) user
+    → held_now h' user ≡ held_now h user → IsSomeAnd seat (IsSeatAt parts h user) → IsSomeAnd seat (IsSeatAt parts h' user)
+some-stays parts h h' user None same now is = is
+some-stays parts h h' user (Some seat) same now is = seat-stays parts h h' user seat same now is
+
+-- ---- one command further
+
+-- one user's seat is as given, and the others are what they were
+pub record IsSeatedAt (user : ℕ) (seat : Seat) (seats seats' : List (Option Seat)) : Type 0 where
+  pub all : length seats' ≡ length seats
+  pub here : slice_index_or seats' user None ≡ Some seat
+  pub others : (other : ℕ) → other ≢ user → slice_index_or seats' other None ≡ slice_index_or seats other None
+
+-- one user's record has this command more
+pub record HasNoted (user : ℕ) (command : Command) (answer : Answer) (users users' : List UserRecord) : Type 0 where
+  pub names : map (λ (one : UserRecord). one.name) users' ≡ map (λ one. one.name) users
+  pub replies : map (λ (one : UserRecord). one.done) users'
+      ≡ slice_set (map (λ one. one.done) users) user (slice_index_or (map (λ one. one.done) users) user [] ++ (command, answer) ∷ [])
+
+module _ (before behind : MachineFacts) (seats seats' : List (Option Seat)) (users users' : List UserRecord) (user : ℕ) (command : Command)
+    (answer : Answer) (seat : Seat) (machine : IsMachine before.parts) (below : user < length users) (done : HasDone before behind user command answer seat)
+    (seated : IsSeatedAt user seat seats seats') (noted : HasNoted user command answer users users') where
+  abbrev doing : Doing
+  doing = doing_behind before.history command answer done.made
+
+  now-seated : (script : Script) (all : List (ℕ × Doing)) → IsRunBehind script before seats users all → (other : ℕ) → other < length script.users
+      → IsSomeAnd (slice_index_or seats' other None) (IsSeatAt before.parts behind.history other)
+  now-seated script all run other inside =
+      elim (cases_eq user other) [
+        | inl same ↦
+            subst (λ u. IsSomeAnd (slice_index_or seats' u None) (IsSeatAt before.parts behind.history u)) same
+            (subst (λ place. IsSomeAnd place (IsSeatAt before.parts behind.history user)) (sym seated.here) done.seated)
+        | inr differ ↦
+            let stay = others_stay before.parts before.history user other done.made machine
+            (subst (IsLawful before.parts) done.history done.lawful) done.next.own (ne_eqb user other differ) in
+            subst (λ h. IsSomeAnd (slice_index_or seats' other None) (IsSeatAt before.parts h other)) (sym done.history)
+            (subst (λ place. IsSomeAnd place (IsSeatAt before.parts (before.history ++ done.made) other)) (sym (seated.others other (λ e. differ (sym e))))
+            (some-stays before.parts before.history (before.history ++ done.made) other (slice_index_or seats other None) stay.0 stay.1 (run.seated other inside)))
+      ]
+
+  pub further : (script : Script) (all : List (ℕ × Doing)) → IsRunBehind script before seats users all → IsRunBehind script behind seats' users' (all ++ (user, doing) ∷ [])
+  further script all run =
+      let back = sym done.parts in
+      let few : user < length (map (λ (one : UserRecord). one.done) users) = omega (arith, below, length-map users (λ (one : UserRecord). one.done)) in
+      record {
+        parts = done.parts ∙ run.parts;
+        lawful = subst (λ parts. IsLawful parts behind.history) back done.lawful;
+        so_far = subst (λ parts. IsRunSoFar serial parts behind.history (all ++ (user, doing) ∷ [])) back
+            (subst (λ h. IsRunSoFar serial before.parts h (all ++ (user, doing) ∷ [])) (sym done.history)
+            (run_goes_on serial before.parts before.history all user command answer done.made machine run.lawful run.so_far done.next));
+        places = seated.all ∙ run.places;
+        seated = λ other inside. subst (λ parts. IsSomeAnd (slice_index_or seats' other None) (IsSeatAt parts behind.history other)) back (now-seated script all run other inside);
+        names = noted.names ∙ run.names;
+        replies = subst (AreReplies (all ++ (user, doing) ∷ [])) (sym noted.replies) (replies_go_on all (map (λ one. one.done) users) user doing few run.replies);
+      }
+
+  pub gone-further : HasGoneFurther before behind seats seats' users users' user command
+  gone-further = record { doing = doing; command_is = refl; is = further }
+
+-- ---- one command of a user
+
+module _ (script : Script) (machine : MachineFacts) (seats : List (Option Seat)) (users : List UserRecord) (all : List (ℕ × Doing))
+    (run : IsRunBehind script machine seats users all) where
+  users-all : length users ≡ length script.users
+  users-all = sym (length-map users (λ (one : UserRecord). one.name)) ∙ ap length run.names
+
+module _ (script : Script) (machine : MachineFacts) (seats : List (Option Seat)) (users : List UserRecord) (all : List (ℕ × Doing))
+    (run : IsRunBehind script machine seats users all) (user : ℕ) (below : user < length users) where
+  every : length users ≡ length script.users
+  every = users-all script machine seats users all run
+
+  pub has-place : user < length seats
+  has-place = omega (arith, below, every, run.places)
+
+-- a seat is taken, and the one that the user has then put back
+pub seated-again : (seats : List (Option Seat)) (user : ℕ) (seat : Seat) → user < length seats
+    → IsSeatedAt user seat seats (set (set seats user None) user (Some seat))
+seated-again seats user seat below = record {
+  all = length-set (set seats user None) user (Some seat) ∙ length-set seats user None;
+  here = get_or-set_same (set seats user None) user (Some seat) None (omega (arith, below, length-set seats user None));
+  others = λ other differ. get_or-set_other (set seats user None) user other (Some seat) None differ ∙ get_or-set_other seats user other None None differ;
+}
+
+pub noted-more : (users : List UserRecord) (user : ℕ) (one : UserRecord) (command : Command) (answer : Answer) → user < length users → one ≡ get_or users user one
+    → HasNoted user command answer users (set users user (record one { done = one.done ++ (command, answer) ∷ [] }))
+noted-more users user one command answer below is =
+    let new = record one { done = one.done ++ (command, answer) ∷ [] } in
+    let done : one.done ≡ get_or (map (λ (one : UserRecord). one.done) users) user [] =
+    ap (λ (one : UserRecord). one.done) is ∙ sym (get_or-map (λ (one : UserRecord). one.done) users user one [] below) in
+    record {
+      names = map-set_same (λ (one : UserRecord). one.name) users user new one (ap (λ (one : UserRecord). one.name) is);
+      replies = map-set (λ (one : UserRecord). one.done) users user new
+          ∙ ap (λ done. set (map (λ (one : UserRecord). one.done) users) user (done ++ (command, answer) ∷ [])) done;
+    }
+
+-- the record of the user of a command, in its place
+pub noted-in-place : (users : List UserRecord) (user : ℕ) (one : UserRecord) (command : Command) (answer : Answer) (done : List (Command × Answer)) → user < length users
+    → one ≡ get_or users user one → done ≡ (get_or users user one).done ++ (command, answer) ∷ []
+    → HasNoted user command answer users (set users user (record { name = (get_or users user one).name; done = done }))
+noted-in-place users user one command answer done below is more =
+    let here = get_or users user one in
+    subst (λ (done : List (Command × Answer)). HasNoted user command answer users (set users user (record { name = here.name; done = done }))) (sym more)
+    (noted-more users user here command answer below (ap (get_or users user) is))
+
+-- ---- a whole run
+
+-- a command of a user, without what it did
+abbrev pub own_command : ℕ × Doing → ℕ × Command
+own_command own = (own.0, own.1.command)
+
+-- the first commands of a script, so many, were carried out
+pub record IsPartDone (script : Script) (machine : MachineFacts) (seats : List (Option Seat)) (users : List UserRecord) (count : ℕ) : Type 0 where
+  pub all : List (ℕ × Doing)
+  pub commands : map own_command all ≡ take count script.commands
+  pub behind : IsRunBehind script machine seats users all
+
+free-at : (parts : MachineParts) (user : ℕ) (seat : Seat) → IsFreeSeat user seat → IsSeatAt parts [] user seat
+unfolding after
+free-at parts user (Free host) free = (refl, free)
+free-at parts user (Holding crew) free = absurd free
+
+some-free : (parts : MachineParts) (user : ℕ) (seat : Option Seat) → IsSomeAnd seat (IsFreeSeat user) → IsSomeAnd seat (IsSeatAt parts [] user)
+some-free parts user None is = is
+some-free parts user (Some seat) is = free-at parts user seat is
+
+-- a host that was just made is at home
+pub at-home : (user : ℕ) (host : Host) → ids_of host.store.blocks ≡ blocks_of_home (host_home + user) → host.store.spare + home_blocks ≡ host_room
+    → host.spare ≡ Some [] → IsHostAtHome user host
+at-home user host blocks room spare =
+    let count : length host.store.blocks ≡ home_blocks =
+    sym (length-map host.store.blocks (λ block. block.id)) ∙ ap length blocks ∙ length-home (host_home + user) in
+    record { blocks = blocks; room = ap (λ n. host.store.spare + n) count ∙ room; spare = spare }
+
+-- one user more has a seat
+pub seats-more : (count : ℕ) (seats : List (Option Seat)) (seat : Seat) → AreOpenSeats count seats → IsFreeSeat count seat
+    → AreOpenSeats (count + 1) (seats ++ Some seat ∷ [])
+seats-more count seats seat opened free = (
+  length-append seats (Some seat ∷ []) ∙ ap (λ n. n + 1) opened.0,
+  λ user below. elim (cases_eq user count) [
+    | inl same ↦
+        let here : slice_index_or (seats ++ Some seat ∷ []) user None ≡ Some seat =
+        subst (λ place. slice_index_or (seats ++ Some seat ∷ []) place None ≡ Some seat) (opened.0 ∙ sym same) (get_or-append_seam seats (Some seat) [] None) in
+        subst (λ place. IsSomeAnd place (IsFreeSeat user)) (sym here) (subst (λ user. IsFreeSeat user seat) (sym same) free)
+    | inr differ ↦
+        let less : user < count = omega (arith, below, differ) in
+        subst (λ place. IsSomeAnd place (IsFreeSeat user)) (sym (get_or_append_left seats (Some seat ∷ []) None user (omega (arith, less, opened.0)))) (opened.1 user less)
+  ],
+)
+
+-- a user who did nothing
+abbrev pub blank : List ℕ → UserRecord
+blank name = record { name = name; done = [] }
+
+blank-names : (names : List (List ℕ)) → map (λ (one : UserRecord). one.name) (map blank names) ≡ names
+blank-names [] = refl
+blank-names (name ∷ names) = ap (λ more. name ∷ more) (blank-names names)
+
+blank-dones : (names : List (List ℕ)) → map (λ (one : UserRecord). one.done) (map blank names) ≡ replicate (length names) []
+blank-dones [] = refl
+blank-dones (name ∷ names) = ap (λ more. [] ∷ more) (blank-dones names)
+
+pub run-opens : (script : Script) (seats : List (Option Seat)) → AreOpenSeats (length script.users) seats
+    → IsPartDone script (record { parts = machine_of script; history = [] }) seats (map blank script.users) 0
+run-opens script seats opened = record {
+  all = [];
+  commands = refl;
+  behind = record {
+    parts = refl;
+    lawful = tt;
+    so_far = run_begins serial (machine_of script);
+    places = opened.0;
+    seated = λ user below. some-free (machine_of script) user (slice_index_or seats user None) (opened.1 user below);
+    names = blank-names script.users;
+    replies = subst (AreReplies []) (sym (blank-dones script.users)) (replies_begin (length script.users));
+  };
+}
+
+-- with what was opened
+pub run-opens-by : (script : Script) (machine : MachineFacts) (seats : List (Option Seat)) (users : List UserRecord) (count : ℕ) (names : List (List ℕ))
+    → machine ≡ record { parts = machine_of script; history = [] } → count ≡ length script.users → AreOpenSeats count seats → names ≡ script.users
+    → users ≡ map blank names → IsPartDone script machine seats users 0
+run-opens-by script machine seats users count names machine_is count_is opened names_is users_is =
+    subst (λ machine. IsPartDone script machine seats users 0) (sym machine_is)
+    (subst (λ users. IsPartDone script (record { parts = machine_of script; history = [] }) seats users 0) (sym (users_is ∙ ap (map blank) names_is))
+    (run-opens script seats (subst (λ n. AreOpenSeats n seats) count_is opened)))
+
+-- the run of a script without users
+pub empty-run : (script : Script) (users : List UserRecord) (history : List Entry) → IsWithinLimits script → script.users ≡ [] → users ≡ [] → history ≡ []
+    → IsLegal serial script (record { users = users; history = history }) × IsSerial script (record { users = users; history = history })
+empty-run script users history within nobody no_users no_history =
+    subst (λ (kept : Record). IsLegal serial script kept × IsSerial script kept) (λ i. record { users = sym no_users i; history = sym no_history i })
+    (no_user_is_legal script within nobody)
+
+pub no-dim : (dim : Option ℕ) → ((d : ℕ) → dim ≡ Some d → ⊥) → dim ≡ None
+no-dim None other = refl
+no-dim (Some d) other = absurd (other d refl)
+
+take-all : {X : Type 0} (xs : List X) → take (length xs) xs ≡ xs
+take-all [] = refl
+take-all (x ∷ xs) = ap (λ more. x ∷ more) (take-all xs)
+
+-- a list that was lent as a whole, and came back with as many items
+pub whole-again : {X : Type 0} (n : ℕ) (old new : List X) → n ≡ length old → length new ≡ length old → take n (new ++ drop (length new) old) ≡ new
+whole-again n old new all same =
+    let count : n ≡ length new = all ∙ sym same in
+    let rest : drop (length new) old ≡ [] = ap (λ k. drop k old) same ∙ drop-all old in
+    ap₂ (λ k more. take k (new ++ more)) count rest ∙ ap (take (length new)) (append-nil new) ∙ take-all new
+  where
+    drop-all : {X : Type 0} (xs : List X) → drop (length xs) xs ≡ []
+    drop-all [] = refl
+    drop-all (x ∷ xs) = drop-all xs
+
+all-at : {X : Type 0} (P : X → Type 0) (xs : List X) (i : ℕ) (x : X) → i < length xs → x ≡ get_or xs i x → AllByRecursion P xs → P x
+all-at P [] i x below is all = absurd (omega (arith, below))
+all-at P (y ∷ ys) zero x below is all = subst P (sym is) all.0
+all-at P (y ∷ ys) (suc i) x below is all = all-at P ys i x (omega (arith, below)) is all.1
+
+module _ (script : Script) (machine : MachineFacts) (seats : List (Option Seat)) (users : List UserRecord) (count : ℕ) (part : IsPartDone script machine seats users count) where
+  commanders : length users ≡ length script.users
+  commanders = users-all script machine seats users part.all part.behind
+
+  -- the next command is one of the script's users, and keeps its limits
+  pub next-within : IsWithinLimits script → (user : ℕ) (command : Command) → count < length script.commands
+      → (user, command) ≡ get_or script.commands count (user, command)
+      → (user < length users) × IsCommandWithin (length machine.parts.images) command
+  next-within within user command below is =
+      let own = all-at (IsOwnCommandWithin (length script.users) (length script.images)) script.commands count (user, command) below is within.commands in
+      let images : length machine.parts.images ≡ length script.images =
+      ap (λ (parts : MachineParts). length parts.images) part.behind.parts ∙ length-map script.images (λ named. named.image) in (
+        subst (λ n. user < n) (sym commanders) own.0,
+        subst (λ n. IsCommandWithin n command) (sym images) own.1,
+      )
+
+  pub part-more : (machine' : MachineFacts) (seats' : List (Option Seat)) (users' : List UserRecord) (user : ℕ) (command : Command) → count < length script.commands
+      → (user, command) ≡ get_or script.commands count (user, command) → HasGoneFurther machine machine' seats seats' users users' user command
+      → IsPartDone script machine' seats' users' (suc count)
+  part-more machine' seats' users' user command below is gone = record {
+    all = part.all ++ (user, gone.doing) ∷ [];
+    commands = map-append own_command part.all ((user, gone.doing) ∷ []) ∙ ap₂ (λ front command. front ++ (user, command) ∷ []) part.commands gone.command_is
+        ∙ ap (λ own. take count script.commands ++ own ∷ []) is ∙ sym (take-suc script.commands count (user, command) below);
+    behind = gone.is script part.all part.behind;
+  }
+
+  pub within-machine : IsWithinLimits script → 0 < length script.users → IsMachine machine.parts
+  within-machine within some = subst IsMachine (sym part.behind.parts) (script_has_machine script within some)
+
+  pub same-images : (images : List ImageParts) → images ≡ map (λ named. named.image) script.images → images ≡ machine.parts.images
+  same-images images is = is ∙ ap (λ (parts : MachineParts). parts.images) (sym part.behind.parts)
+
+  -- the record of the whole script
+  pub whole-run : IsWithinLimits script → count ≡ length script.commands → (history : List Entry) → history ≡ machine.history
+      → IsLegal serial script (record { users = users; history = history }) × IsSerial script (record { users = users; history = history })
+  whole-run within end history same =
+      run_is_legal script (record { users = users; history = history }) part.all within
+      (subst (IsLawful (machine_of script)) (sym same) (subst (λ parts. IsLawful parts machine.history) part.behind.parts part.behind.lawful))
+      (subst (λ h. IsRunSoFar serial (machine_of script) h part.all) (sym same)
+      (subst (λ parts. IsRunSoFar serial parts machine.history part.all) part.behind.parts part.behind.so_far))
+      (record {
+        commands = part.commands ∙ ap (λ n. take n script.commands) end ∙ take-all script.commands;
+        users = part.behind.names;
+        replies = part.behind.replies;
+      })

@@ -1,0 +1,281 @@
+-- Rounds of a crew, and the commands that run them.
+use Rattle.std.proofs.Common.{◌≡◌, ℕ, zero, suc, ◌+◌, ◌-◌, ◌^◌, ◌<◌, ◌≤◌, Bool, true, false, ◌==◌, ◌&&◌, ◌||◌, not, if◌then◌else◌, IsTrue, List, [], ◌∷◌, ◌++◌, map, flat_map, is_some, Option, Some, None, refl, ap, ap₂, sym, ◌∙◌, subst, arith, append-nil, append_assoc, inr}
+use Rattle.std.specs.List.{AllByRecursion, list_any, list_all, range_with_len}
+use Rattle.std.proofs.lemmas.Bool.{ne_eqb}
+use Rattle.std.proofs.lemmas.List.{map-append}
+use Rattle.std.proofs.lemmas.Grind.{flat_map-append}
+use Rattle.rv_model.specs.Image.{ImageParts}
+use Rattle.ce_model.specs.declared.topology.TheConstants.{HOST}
+use Rattle.ce_model.specs.declared.entry.Entry.{Entry}
+use Rattle.ce_model.specs.declared.entry.What.{What}
+use Rattle.ce_model.specs.declared.entry.Found.{Found}
+use Rattle.ce_model.specs.declared.entry.What.TheVariants.{Look, HostTake}
+use Rattle.ce_model.specs.declared.entry.Found.TheVariants.{Quiet, Busy}
+use Rattle.ce_model.specs.Node.{looks}
+use Rattle.ce_model.specs.Parcels.{Item, is_eligible}
+use Rattle.ce_model.specs.Trace.{Mark, Standing, standing, waiting, mark, armed, dispatched}
+use Rattle.ce_model.specs.Answers.{answer, call_of, found_where, is_quiet, is_quiet_node, is_used_up}
+use Rattle.ce_model.specs.Cube.{Cube, IsAlone, opening, node_numbers}
+use Rattle.ce_model.specs.Renaming.{CubeGrant, entry_inward}
+use Rattle.ce_model.specs.Views.{view}
+use Rattle.ce_model.specs.Machine.{MachineParts, HeldCube, after, held_by, standing_of, cube_of}
+use Rattle.ce_model.proofs.OneMore.{mark-more, waiting-stays, armed-more, dispatched-more}
+use Rattle.ce_solo.proofs.Lists.{all-append}
+use Rattle.ce_solo.proofs.Fresh.{fresh_sound}
+use Rattle.ce_solo.proofs.Projection.Numbers.{IsPlaced, what_outward, relative_host, few_relative}
+use Rattle.ce_solo.proofs.Projection.Answers.{answer-outward}
+use Rattle.ce_solo.proofs.Projection.Law.{projected, found_alone}
+use Rattle.ce_daemon.specs.declared.grant.Grant.{Grant}
+use Rattle.ce_machine.specs.Meanings.{MachineFacts}
+use Rattle.ce_cube.specs.declared.crew.SerialCrew.{SerialCrew}
+use Rattle.ce_cube.specs.Boxes.{IsHeldAs, IsMadeBy}
+use Rattle.ce_cube.specs.Crews.{IsLawfulMachine, IsCrewInStep, HasGoneOn, HasMadeRound, AreCallsOf, cube_grant}
+use Rattle.ce_cube.specs.Rounds.{dispatches_left}
+use Rattle.ce_cube.proofs.Adds.{answer-made}
+use Rattle.ce_cube.proofs.Crewing.{still-sound}
+use Rattle.ce_cube.proofs.Held.{seen, by_cube}
+use Rattle.ce_cube.proofs.Resting.{rounds-rest}
+use Rattle.ce_script.specs.Rounds.{serial, joined, IsRoundWithoutWork}
+use Rattle.ce_script.specs.Commands.{host_take}
+use Rattle.ce_record.specs.CubeRounds.{IsRoundOf}
+use Rattle.ce_record.proofs.Turns.{work-inward}
+use Rattle.ce_run.specs.Rounds.{HasTakenNone, HasRunRounds}
+use Rattle.ce_run.specs.Seats.{HasUser}
+
+-- ---- a crew that goes on
+
+pub user-stays : (before behind : MachineFacts) (crew crew' : SerialCrew) (made : List Entry) → HasGoneOn before behind crew crew' made
+    → HasUser before crew.grant.user → HasUser behind crew'.grant.user
+user-stays before behind crew crew' made on user = record {
+  book = still-sound before behind crew crew' made user.book on;
+  within = subst (λ (g : Grant). g.user < behind.parts.users) (sym on.grant)
+      (subst (λ (p : MachineParts). crew.grant.user < p.users) (sym on.parts) user.within);
+}
+
+pub images-stay : (before behind : MachineFacts) (crew crew' : SerialCrew) (made : List Entry) (images : List ImageParts) → HasGoneOn before behind crew crew' made
+    → images ≡ before.parts.images → images ≡ behind.parts.images
+images-stay before behind crew crew' made images on is = is ∙ ap (λ (p : MachineParts). p.images) (sym on.parts)
+
+-- what a crew did, and what it did behind that, by the grant that it still has
+pub gone-both : (m now now' : MachineFacts) (crew crew' crew'' : SerialCrew) (made more : List Entry) → HasGoneOn m now crew crew' made
+    → HasGoneOn now now' crew' crew'' more → HasGoneOn m now' crew crew'' (made ++ more)
+gone-both m now now' crew crew' crew'' made more on next =
+    let inner = entry_inward crew.grant.sub in
+    record {
+      parts = next.parts ∙ on.parts;
+      history = next.history ∙ ap (λ h. h ++ more) on.history ∙ append_assoc m.history made more;
+      lawful = next.lawful;
+      calls = all-append (λ (entry : Entry). (entry.user ≡ crew.grant.user) × IsTrue (is_some (call_of entry.what))) made more on.calls
+          (subst (λ (g : Grant). AreCallsOf g.user more) on.grant next.calls);
+      grant = next.grant ∙ on.grant;
+      trace = subst (λ (g : Grant). view now'.history g.number ≡ view now.history g.number ++ map (entry_inward g.sub) more) on.grant next.trace
+          ∙ ap (λ t. t ++ map inner more) on.trace ∙ append_assoc (view m.history crew.grant.number) (map inner made) (map inner more)
+          ∙ ap (λ t. view m.history crew.grant.number ++ t) (sym (map-append inner made more));
+      in_step = next.in_step;
+    }
+
+-- a crew that has done nothing yet
+pub stands-still : (m : MachineFacts) (crew : SerialCrew) → IsLawfulMachine m → IsCrewInStep m.parts m.history crew → HasGoneOn m m crew crew []
+stands-still m crew sound step = record {
+  parts = refl;
+  history = sym (append-nil m.history);
+  lawful = sound.lawful;
+  calls = tt;
+  grant = refl;
+  trace = sym (append-nil (view m.history crew.grant.number));
+  in_step = step;
+}
+
+-- ---- rounds
+
+-- the dispatches that are left to a crew
+abbrev pub left_to : MachineFacts → SerialCrew → ℕ
+left_to m crew = dispatches_left m.parts m.history crew.grant.number (cube_grant crew.grant)
+
+-- a crew's round, as one of its user's cube
+abbrev pub IsOwnRound : SerialCrew → Bool → List Entry → Type 0
+IsOwnRound crew work round = IsRoundOf serial crew.grant.user (cube_grant crew.grant) work round
+
+module _ (now behind : MachineFacts) (crew crew' : SerialCrew) (work : Bool) (made : HasMadeRound now behind crew crew' work) where
+  pub round-of : IsOwnRound crew work made.round
+  round-of = record {
+    calls = made.goes_on.calls;
+    is_round = made.is_round;
+    works = sym (work-inward crew.grant.sub made.round) ∙ made.works;
+  }
+
+  pub left-behind : left_to behind crew' + (if work then 1 else 0) ≤ left_to now crew
+  left-behind =
+      subst (λ (g : Grant). dispatches_left behind.parts behind.history g.number (cube_grant g) + (if work then 1 else 0) ≤ left_to now crew) (sym made.goes_on.grant) made.left
+
+pub by-grant : (crew crew' : SerialCrew) (work : Bool) (round : List Entry) → crew'.grant ≡ crew.grant → IsOwnRound crew' work round → IsOwnRound crew work round
+by-grant crew crew' work round same is = subst (λ (g : Grant). IsRoundOf serial g.user (cube_grant g) work round) same is
+
+pub all-by-grant : (crew crew' : SerialCrew) (rounds : List (List Entry)) → crew'.grant ≡ crew.grant → AllByRecursion (IsOwnRound crew' true) rounds
+    → AllByRecursion (IsOwnRound crew true) rounds
+all-by-grant crew crew' rounds same is = subst (λ (g : Grant). AllByRecursion (IsRoundOf serial g.user (cube_grant g) true) rounds) same is
+
+pub flat-last : (f : List Entry → List Entry) (rounds : List (List Entry)) (round : List Entry) → flat_map f (rounds ++ round ∷ []) ≡ flat_map f rounds ++ f round
+flat-last f rounds round = flat_map-append f rounds (round ∷ []) ∙ ap (λ more. flat_map f rounds ++ more) (append-nil (f round))
+
+-- rounds with work were made so far
+pub record HasMadeRounds (before now : MachineFacts) (crew crew' : SerialCrew) : Type 0 where
+  pub rounds : List (List Entry)
+  pub goes_on : HasGoneOn before now crew crew' (joined rounds)
+  pub with_work : AllByRecursion (IsOwnRound crew true) rounds
+
+pub no-round : (m : MachineFacts) (crew : SerialCrew) → IsLawfulMachine m → IsCrewInStep m.parts m.history crew → HasMadeRounds m m crew crew
+no-round m crew sound step = record { rounds = []; goes_on = stands-still m crew sound step; with_work = tt }
+
+module _ (before now behind : MachineFacts) (crew crew' crew'' : SerialCrew) (so_far : HasMadeRounds before now crew crew') where
+  pub one-round-more : HasMadeRound now behind crew' crew'' true → HasMadeRounds before behind crew crew''
+  one-round-more made = record {
+    rounds = so_far.rounds ++ made.round ∷ [];
+    goes_on = subst (HasGoneOn before behind crew crew'') (sym (flat-last (λ list. list) so_far.rounds made.round))
+        (gone-both before now behind crew crew' crew'' (joined so_far.rounds) made.round so_far.goes_on made.goes_on);
+    with_work = all-append (IsOwnRound crew true) so_far.rounds (made.round ∷ []) so_far.with_work
+        (by-grant crew crew' true made.round so_far.goes_on.grant (round-of now behind crew' crew'' true made), tt);
+  }
+
+  pub rounds-over : HasMadeRound now behind crew' crew'' false → HasRunRounds before behind crew crew''
+  rounds-over made = record {
+    rounds = so_far.rounds;
+    last = made.round;
+    goes_on = gone-both before now behind crew crew' crew'' (joined so_far.rounds) made.round so_far.goes_on made.goes_on;
+    with_work = so_far.with_work;
+    without_work = by-grant crew crew' false made.round so_far.goes_on.grant (round-of now behind crew' crew'' false made);
+  }
+
+-- ---- a cube that rests
+
+-- the cube is quiet, or its dispatches are used up
+abbrev pub IsResting : MachineParts → List Entry → ℕ → CubeGrant → Type 0
+IsResting parts history number grant =
+    (is_quiet (node_numbers grant.dim) (standing (opening (cube_of parts.images grant)).standing (view history number))
+    || is_used_up (standing (opening (cube_of parts.images grant)).standing (view history number))) ≡ true
+
+-- so is a crew's
+abbrev pub RestsNow : MachineFacts → SerialCrew → Type 0
+RestsNow m crew = IsResting m.parts m.history crew.grant.number (cube_grant crew.grant)
+
+-- a look at a cube that rests doesn't find it busy
+not-found : (quiet used : Bool) → (quiet || used) ≡ true → found_where quiet used ≡ Busy → ⊥
+not-found true used is e = cc
+not-found false true is e = cc
+not-found false false is e = cc
+
+look-is : (nodes : List ℕ) (standing : Standing) → answer nodes standing HOST looks ≡ Look (found_where (is_quiet nodes standing) (is_used_up standing))
+unfolding answer
+look-is nodes standing = refl
+
+abbrev found_in : What → Found
+found_in (Look found) = found
+found_in other = Quiet
+
+module _ (m : MachineFacts) (sound : IsLawfulMachine m) (cube : HeldCube) (holds : held_by (after m.history) cube.grant.user ≡ Some cube) (goes : cube.drained ≡ false) where
+  abbrev own : Cube
+  own = cube_of m.parts.images cube.grant
+
+  abbrev stands : Standing
+  stands = standing (opening own).standing (view m.history cube.number)
+
+  alone : IsAlone own (view m.history cube.number)
+  alone =
+      let all = projected m.parts m.history sound.within sound.lawful in
+      let was = all.held cube.grant.user cube holds in
+      found_alone m.parts m.history cube.number all (Some (cube.grant, was.behind)) was.found
+
+  look-made : (entry : Entry) → IsMadeBy m.parts m.history cube.grant HOST looks entry
+      → entry.what ≡ Look (found_where (is_quiet (node_numbers cube.grant.dim) stands) (is_used_up stands))
+  look-made entry made =
+      let now = seen m.parts m.history cube sound.within sound.lawful holds goes in
+      sym (answer-made m.parts m.history cube HOST looks entry holds made)
+      ∙ answer-outward m.parts.dim cube.grant now.placed (standing_of (after m.history) cube) stands now.standing HOST looks (inr refl) tt
+      ∙ ap (what_outward cube.grant) (look-is (node_numbers cube.grant.dim) stands)
+
+module _ (m : MachineFacts) (sound : IsLawfulMachine m) (number : ℕ) (grant : CubeGrant) (held : IsHeldAs m.history number grant) where
+  pub placed-of : IsPlaced m.parts.dim grant
+  placed-of =
+      by_cube (λ number grant. IsPlaced m.parts.dim grant) m.history number grant
+      (λ cube holds goes. (seen m.parts m.history cube sound.within sound.lawful holds goes).placed) held
+
+  -- behind a round without work
+  pub rests-behind : (before round : List Entry) → view m.history number ≡ before ++ round → IsRoundWithoutWork serial grant.dim round
+      → IsResting m.parts m.history number grant
+  rests-behind before round same quiet =
+      by_cube
+      (λ number grant. view m.history number ≡ before ++ round → IsRoundWithoutWork serial grant.dim round → IsResting m.parts m.history number grant)
+      m.history number grant
+      (λ cube holds goes same quiet.
+      let now = seen m.parts m.history cube sound.within sound.lawful holds goes in
+      let cube_is = cube_of m.parts.images cube.grant in
+      rounds-rest cube_is (opening cube_is) (view m.history cube.number) now.of (fresh_sound cube_is now.of)
+      (alone m sound cube holds goes) before round same quiet) held same quiet
+
+  -- a look finds that it rests
+  pub found-resting : (entry : Entry) → IsMadeBy m.parts m.history grant HOST looks entry → IsResting m.parts m.history number grant → entry.what ≡ Look Busy → ⊥
+  found-resting entry made rests busy =
+      by_cube (λ number grant. IsMadeBy m.parts m.history grant HOST looks entry → IsResting m.parts m.history number grant → ⊥) m.history number grant
+      (λ cube holds goes made rests.
+      not-found _ _ rests (ap found_in (sym (look-made m sound cube holds goes entry made) ∙ busy))) held made rests
+
+-- ---- a look for a message that finds none leaves it so
+
+module _ (o : Standing) (t : List Entry) (user : ℕ) where
+  abbrev no_message : Entry
+  no_message = host_take user None
+
+  node-kept : (r : ℕ) → (HOST == r) ≡ false → is_quiet_node ((standing o (t ++ no_message ∷ [])).node_record r) ≡ is_quiet_node ((standing o t).node_record r)
+  node-kept r other =
+      let marks : mark o r (t ++ no_message ∷ []) ≡ mark o r t = mark-more o r t no_message ∙ rw other refl in
+      let waits : waiting o r (t ++ no_message ∷ []) ≡ waiting o r t = waiting-stays o r t no_message (rw other refl) ∙ append-nil (waiting o r t) in
+      ap₂ (λ (mark : Mark) (items : List Item). mark.idle && not (list_any (is_eligible mark.asking mark.dead) items)) marks waits
+
+  used-kept : is_used_up (standing o (t ++ no_message ∷ [])) ≡ is_used_up (standing o t)
+  used-kept = ap₂ (λ (a b : ℕ). a == b) (dispatched-more o t no_message) (armed-more o t no_message)
+
+  left-kept : armed o (t ++ no_message ∷ []) - dispatched o (t ++ no_message ∷ []) ≡ armed o t - dispatched o t
+  left-kept = ap₂ (λ (a b : ℕ). a - b) (armed-more o t no_message) (dispatched-more o t no_message)
+
+  quiet-kept : (dim : ℕ) → 2 ^ dim ≤ 64 → is_quiet (node_numbers dim) (standing o (t ++ no_message ∷ [])) ≡ is_quiet (node_numbers dim) (standing o t)
+  unfolding is_quiet
+  quiet-kept dim few =
+      list_all-same (λ r. is_quiet_node ((standing o (t ++ no_message ∷ [])).node_record r)) (λ r. is_quiet_node ((standing o t).node_record r)) 0 (2 ^ dim)
+      (λ k below. node-kept k (ne_eqb HOST k (λ e. omega (arith, e, below, few))))
+    where
+      list_all-same : (p q : ℕ → Bool) (from count : ℕ) → ((r : ℕ) → r < from + count → p r ≡ q r) → list_all p (range_with_len from count) ≡ list_all q (range_with_len from count)
+      list_all-same p q from zero same = refl
+      list_all-same p q from (suc count) same =
+          ap₂ (λ a b. a && b) (same from (omega arith)) (list_all-same p q (from + 1) count (λ r below. same r (omega (arith, below))))
+
+module _ (before behind : MachineFacts) (crew crew' : SerialCrew) (sound : IsLawfulMachine before) (step : IsCrewInStep before.parts before.history crew)
+    (none : HasTakenNone before behind crew crew') where
+  abbrev grant : CubeGrant
+  grant = cube_grant crew.grant
+
+  abbrev o : Standing
+  o = (opening (cube_of before.parts.images grant)).standing
+
+  abbrev t : List Entry
+  t = view before.history crew.grant.number
+
+  placed : IsPlaced before.parts.dim grant
+  placed = placed-of before sound crew.grant.number grant step.held
+
+  trace : view behind.history crew.grant.number ≡ t ++ host_take crew.grant.user None ∷ []
+  trace =
+      none.trace ∙ ap (λ (entry : Entry). t ++ entry ∷ [])
+      (λ i. record { user = crew.grant.user; actor = relative_host before.parts.dim grant placed i; what = HostTake None })
+
+  pub rests-on : RestsNow before crew → RestsNow behind crew'
+  rests-on rests =
+      subst (λ (g : Grant). IsResting behind.parts behind.history g.number (cube_grant g)) (sym none.grant)
+      (subst (λ (p : MachineParts). IsResting p behind.history crew.grant.number grant) (sym none.parts)
+      (subst (λ t. (is_quiet (node_numbers grant.dim) (standing o t) || is_used_up (standing o t)) ≡ true) (sym trace)
+      (ap₂ (λ a b. a || b) (quiet-kept o t crew.grant.user grant.dim (few_relative before.parts.dim grant placed)) (used-kept o t crew.grant.user) ∙ rests)))
+
+  pub left-on : left_to behind crew' ≡ left_to before crew
+  left-on =
+      subst (λ (g : Grant). dispatches_left behind.parts behind.history g.number (cube_grant g) ≡ left_to before crew) (sym none.grant)
+      (subst (λ (p : MachineParts). dispatches_left p behind.history crew.grant.number grant ≡ left_to before crew) (sym none.parts)
+      (ap (λ t. armed o t - dispatched o t) trace ∙ left-kept o t crew.grant.user))

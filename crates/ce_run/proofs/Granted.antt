@@ -1,0 +1,159 @@
+-- A cube that a user asks for.
+use Rattle.std.proofs.Common.{◌≡◌, ℕ, ◌≤◌, List, [], ◌∷◌, ◌++◌, Option, Some, None, refl, ap, sym, ◌∙◌, subst}
+use Rattle.std.specs.Global.{Vec}
+use Rattle.ce_model.specs.declared.topology.TheConstants.{HOST}
+use Rattle.ce_model.specs.declared.topology.Subcube.{Subcube}
+use Rattle.ce_model.specs.declared.entry.Entry.{Entry}
+use Rattle.ce_model.specs.declared.entry.What.TheVariants.{Getcube as GetcubeMade}
+use Rattle.ce_model.specs.Limits.{greatest_dim}
+use Rattle.ce_model.specs.Subcubes.{first_free}
+use Rattle.ce_model.specs.Views.{view}
+use Rattle.ce_model.specs.Machine.{MachineState, after, held_by, is_free, getcube, answered, Fits}
+use Rattle.ce_solo.proofs.Projection.Law.{after-more}
+use Rattle.ce_daemon.specs.declared.grant.Grant.{Grant}
+use Rattle.ce_daemon.specs.Boxes.{AreBoxesOf}
+use Rattle.rk_node.specs.Boxes.{Box, IsClean}
+use Rattle.ce_host.specs.declared.host.Host.{Host}
+use Rattle.ce_host.specs.declared.command.Command.TheVariants.{Getcube}
+use Rattle.ce_host.specs.declared.answer.Answer.{Answer}
+use Rattle.ce_host.specs.declared.answer.Answer.TheVariants.{None as Nothing, Granted}
+use Rattle.ce_machine.specs.Meanings.{MachineFacts}
+use Rattle.ce_machine.specs.declared.call.Call.TheVariants as calls
+use Rattle.ce_machine.specs.declared.call.Reply.{Reply}
+use Rattle.ce_machine.specs.declared.call.Reply.TheVariants as replies
+use Rattle.ce_machine.specs.Requests.{FitsBehind}
+use Rattle.ce_machine.specs.Replies.{IsReplyTo, IsGrantReply, IsGranted, next_grant}
+use Rattle.ce_cube.specs.declared.crew.SerialCrew.{SerialCrew}
+use Rattle.ce_cube.specs.Boxes.{IsHeldAs, IsBegun}
+use Rattle.ce_cube.specs.Crews.{IsCrewInStep, IsHostAtHome, cube_grant}
+use Rattle.ce_cube.proofs.Begun.{grants-begin}
+use Rattle.ce_script.specs.Rounds.{serial}
+use Rattle.ce_script.specs.Commands.{by_host, getcube_reply}
+use Rattle.ce_record.proofs.Asked.{asked}
+use Rattle.ce_run.specs.declared.seat.Seat.{Seat}
+use Rattle.ce_run.specs.declared.seat.Seat.TheVariants.{Free, Holding}
+use Rattle.ce_run.specs.Seats.{HasUser, HasDone, IsSeatAt}
+use Rattle.ce_run.specs.Asking.{home_of, HasAsked}
+use Rattle.ce_run.proofs.Peeking.{same-what}
+
+module _ (before : MachineFacts) (user dim : ℕ) (has : HasUser before user) (free : held_by (after before.history) user ≡ None) (within : dim ≤ greatest_dim) where
+  abbrev state : MachineState
+  state = after before.history
+
+  fits : Fits before.parts before.history user HOST (getcube dim)
+  fits = (has.within, (refl, within, free))
+
+  pub getcube-fits : FitsBehind home_of IsClean before.parts before.history (record { family = user; actor = HOST }) (calls.Getcube dim)
+  getcube-fits = record { machine = has.book.within; fits = fits; boxes = tt }
+
+  module _ (behind : MachineFacts) (reply : Reply Box) (asks : HasAsked before behind user (calls.Getcube dim) reply) where
+    abbrev found_now : Option Subcube
+    found_now = first_free (is_free state) before.parts.dim dim
+
+    what-now : GetcubeMade dim found_now ≡ asks.what
+    what-now = same-what (GetcubeMade dim found_now) asks.what asks.answer
+
+    reply-now : IsGrantReply home_of IsClean state user dim found_now reply
+    reply-now = subst (λ what. IsReplyTo home_of IsClean before.parts state user HOST what reply) (sym what-now) asks.reply_is
+
+    -- the command is done by the entry of this subcube
+    module _ (sub : Option Subcube) (what : GetcubeMade dim sub ≡ asks.what) where
+      abbrev made : Entry
+      made = by_host user (GetcubeMade dim sub)
+
+      history-is : behind.history ≡ before.history ++ made ∷ []
+      history-is = asks.history ∙ ap (λ what. before.history ++ by_host user what ∷ []) (sym what)
+
+      answer-is : answered before.parts state user HOST (getcube dim) ≡ Some (GetcubeMade dim sub)
+      answer-is = asks.answer ∙ ap Some (sym what)
+
+      done-so : (answer : Answer) (seat : Seat) → getcube_reply sub ≡ answer → IsSeatAt before.parts behind.history user seat
+          → HasDone before behind user (Getcube dim) answer seat
+      done-so answer seat is seated = record {
+        made = made ∷ [];
+        parts = asks.parts;
+        history = history-is;
+        lawful = asks.lawful;
+        next = asked serial before.parts before.history user (Getcube dim) (record { home = 0; index = 0 }) (getcube dim) (GetcubeMade dim sub) answer
+            has.book.within has.book.lawful refl (record { fits = fits; answer = answer-is }) (ap Some is);
+        seated = seated;
+      }
+
+    -- ---- none is free
+
+    none-by : (sub : Option Subcube) → GetcubeMade dim sub ≡ asks.what → IsGrantReply home_of IsClean state user dim sub reply → reply ≡ replies.NoneFree
+        → (host : Host) → IsHostAtHome user host → HasDone before behind user (Getcube dim) Nothing (Free host)
+    none-by None what is none host home =
+        done-so None what Nothing (Free host) refl (
+          ap (λ h. held_by (after h) user) (history-is None what)
+              ∙ ap (λ (state : MachineState). held_by state user) (after-more before.history (by_host user (GetcubeMade dim None))) ∙ free,
+          home,
+        )
+    none-by (Some sub) what is none host home = absurd (subst (IsGranted home_of IsClean (next_grant state user dim sub)) none is)
+
+    pub none-done : reply ≡ replies.NoneFree → (host : Host) → IsHostAtHome user host → HasDone before behind user (Getcube dim) Nothing (Free host)
+    none-done = none-by found_now what-now reply-now
+
+    granted-ends : (grant : Grant) (reply : Reply Box) → IsGranted home_of IsClean grant reply
+        → ((given : Grant) (boxes : Vec Box) → reply ≡ replies.Granted given boxes → ⊥) → ⊥
+    granted-ends grant (replies.Granted given boxes) is other = other given boxes refl
+    granted-ends grant another is other = absurd is
+
+    ends-by : (sub : Option Subcube) → IsGrantReply home_of IsClean state user dim sub reply → (reply ≡ replies.NoneFree → ⊥)
+        → ((given : Grant) (boxes : Vec Box) → reply ≡ replies.Granted given boxes → ⊥) → ⊥
+    ends-by None is none other = none is
+    ends-by (Some sub) is none other = granted-ends (next_grant state user dim sub) reply is other
+
+    pub getcube-ends : (reply ≡ replies.NoneFree → ⊥) → ((given : Grant) (boxes : Vec Box) → reply ≡ replies.Granted given boxes → ⊥) → ⊥
+    getcube-ends = ends-by found_now reply-now
+
+    -- ---- one is granted
+
+    -- the grant is the next one of this subcube, and these are its boxes
+    record IsGrantedSo (grant : Grant) (boxes : List Box) : Type 0 where
+      sub : Subcube
+      what : GetcubeMade dim (Some sub) ≡ asks.what
+      grant_is : grant ≡ next_grant state user dim sub
+      boxes_are : AreBoxesOf home_of IsClean grant boxes
+
+    granted-by : (sub : Option Subcube) → GetcubeMade dim sub ≡ asks.what → IsGrantReply home_of IsClean state user dim sub reply
+        → (grant : Grant) (boxes : Vec Box) → reply ≡ replies.Granted grant boxes → IsGrantedSo grant boxes.items
+    granted-by None what is grant boxes granted = let differ : replies.NoneFree ≡ replies.Granted grant boxes = sym is ∙ granted in absurd (cc)
+    granted-by (Some sub) what is grant boxes granted =
+        let both = subst (IsGranted home_of IsClean (next_grant state user dim sub)) granted is in
+        record { sub = sub; what = what; grant_is = both.0; boxes_are = subst (λ g. AreBoxesOf home_of IsClean g boxes.items) (sym both.0) both.1 }
+
+    module _ (grant : Grant) (boxes : Vec Box) (granted : reply ≡ replies.Granted grant boxes) where
+      abbrev so : IsGrantedSo grant boxes.items
+      so = granted-by found_now what-now reply-now grant boxes granted
+
+      pub boxes-are : AreBoxesOf home_of IsClean grant boxes.items
+      boxes-are = so.boxes_are
+
+      pub user-is : grant.user ≡ user
+      user-is = ap (λ (g : Grant). g.user) so.grant_is
+
+      pub dim-within : grant.dim ≤ greatest_dim
+      dim-within = subst (λ (g : Grant). g.dim ≤ greatest_dim) (sym so.grant_is) within
+
+      pub host-home : (host : Host) → IsHostAtHome user host → IsHostAtHome grant.user host
+      host-home host home = subst (λ user. IsHostAtHome user host) (sym user-is) home
+
+      begun : IsBegun before.parts before.history (record { user = user; dim = dim; sub = so.sub })
+      begun =
+          grants-begin before.parts before.history (record { user = user; dim = dim; sub = so.sub }) has.book.within has.book.lawful fits
+          (answer-is (Some so.sub) so.what)
+
+      -- a crew that is in step wherever its cube has just begun is in step behind the entry
+      pub granted-done : (crew : SerialCrew) → crew.grant ≡ grant
+          → (IsHeldAs behind.history grant.number (cube_grant grant) → view behind.history grant.number ≡ [] → IsCrewInStep before.parts behind.history crew)
+          → HasDone before behind user (Getcube dim) (Granted grant.sub) (Holding crew)
+      granted-done crew same in_step =
+          let back = sym (history-is (Some so.sub) so.what) in
+          let held : IsHeldAs behind.history grant.number (cube_grant grant) =
+          subst (λ (g : Grant). IsHeldAs behind.history g.number (cube_grant g)) (sym so.grant_is)
+          (subst (λ h. IsHeldAs h state.grant_count (record { user = user; dim = dim; sub = so.sub })) back begun.held) in
+          let trace : view behind.history grant.number ≡ [] =
+          ap (λ (g : Grant). view behind.history g.number) so.grant_is ∙ ap (λ h. view h state.grant_count) (sym back) ∙ begun.trace in
+          done-so (Some so.sub) so.what (Granted grant.sub) (Holding crew) (ap (λ (g : Grant). Granted g.sub) (sym so.grant_is))
+          (ap (λ (g : Grant). g.user) same ∙ user-is, in_step held trace)

@@ -1,0 +1,289 @@
+-- A host allows dispatches, looks, and takes messages.
+use Rattle.std.proofs.Common.{◌≡◌, ℕ, ◌+◌, ◌-◌, ◌*◌, ◌^◌, ◌≤◌, List, [], ◌∷◌, ◌++◌, length, map, count_by, IsSomeAnd, Option, Some, None, refl, ap, sym, ◌∙◌, subst, inl, inr, arith}
+use Rattle.std.proofs.lemmas.Bool.{cases_Bool}
+use Rattle.std.proofs.lemmas.List.{length-map}
+use Rattle.std.specs.Prelude.{Contains}
+use Rattle.ce_model.specs.declared.topology.TheConstants.{HOST}
+use Rattle.ce_model.specs.declared.topology.BlockId.{BlockId}
+use Rattle.ce_model.specs.declared.entry.Entry.{Entry}
+use Rattle.ce_model.specs.declared.entry.What.TheVariants.{Arm, Look, HostTake}
+use Rattle.ce_model.specs.declared.entry.Found.{Found}
+use Rattle.ce_model.specs.declared.entry.Found.TheVariants as found
+use Rattle.ce_model.specs.Limits.{greatest_count, greatest_dim, home_blocks}
+use Rattle.ce_model.specs.Blocks.{Block, put, precedes, is_same_id}
+use Rattle.ce_model.specs.Parcels.{Item}
+use Rattle.ce_model.specs.Node.{arms, looks, takes_mail}
+use Rattle.ce_model.specs.Answers.{answer, is_quiet, is_used_up, found_where, first_number}
+use Rattle.ce_model.specs.Cube.{parcel_numbered}
+use Rattle.ce_model.specs.Renaming.{CubeGrant, block_outward}
+use Rattle.ce_model.specs.Machine.{HoldsCube, after, nodes_of, standing_of}
+use Rattle.ce_solo.proofs.Counting.{count-is}
+use Rattle.rk_node.proofs.Names.{not_contained}
+use Rattle.xm_block.specs.Stores.{ids_of, with_block}
+use Rattle.rk_node.specs.Boxes.{Box, IsClean}
+use Rattle.rk_mail.specs.Items.{parcel_of}
+use Rattle.rk_mail.specs.declared.parcel.Parcel.{Parcel as Brought}
+use Rattle.ce_host.specs.declared.host.Host.{Host}
+use Rattle.ce_host.specs.Hosts.{host_room}
+use Rattle.ce_machine.specs.Meanings.{MachineFacts}
+use Rattle.ce_machine.specs.declared.call.Call.{Call as Asking}
+use Rattle.ce_machine.specs.declared.call.Call.TheVariants as calls
+use Rattle.ce_machine.specs.declared.call.Reply.{Reply}
+use Rattle.ce_machine.specs.declared.call.Reply.TheVariants as replies
+use Rattle.ce_machine.specs.Replies.{IsReplyTo, IsMail, found_reply}
+use Rattle.ce_cube.specs.declared.crew.SerialCrew.{SerialCrew}
+use Rattle.ce_cube.specs.Boxes.{IsHeldAs, IsAccepted, store_now}
+use Rattle.ce_cube.specs.Crews.{IsLawfulMachine, IsHostInStep, IsCrewInStep, HasGoneOn, cube_grant}
+use Rattle.ce_cube.proofs.Hosts.{hosts-take}
+use Rattle.ce_script.specs.Commands.{by_host, host_take}
+use Rattle.ce_run.specs.Asking.{home_of, IsHostCall, HasCalled}
+use Rattle.ce_run.specs.Rounds.{HasAllowed, HasLooked, HasTaken, HasTakenNone}
+use Rattle.ce_run.proofs.Seating.{KeepsStore, answer-is, gone-on, gone-on-kept, may-allow, may-look, may-take}
+
+-- ---- with another host
+
+-- a crew has another host, which is in step
+pub gone-on-with : (before behind : MachineFacts) (crew crew' : SerialCrew) (call : Asking Box) (reply : Reply Box) (machine : IsLawfulMachine before)
+    (held : IsHeldAs before.history crew.grant.number (cube_grant crew.grant)) (host : IsHostCall before.parts before.history crew.grant.user call)
+    (called : HasCalled before behind crew crew' call reply) (other : Host) → IsHostInStep before.parts behind.history crew.grant other
+    → HasGoneOn before behind crew (record crew' { host = other }) (by_host crew.grant.user called.asked.what ∷ [])
+gone-on-with before behind crew crew' call reply machine held host called other stands =
+    let goes = gone-on before behind (record crew { host = other }) (record crew' { host = other }) call reply machine held host
+    (record {
+      asked = called.asked;
+      crew_is = ap (λ (c : SerialCrew). record c { host = other }) called.crew_is;
+      nodes = record { held = called.nodes.held; boxes = called.nodes.boxes; entries = called.nodes.entries };
+      trace = called.trace;
+    })
+    stands in
+    record {
+      parts = goes.parts;
+      history = goes.history;
+      lawful = goes.lawful;
+      calls = goes.calls;
+      grant = goes.grant;
+      trace = goes.trace;
+      in_step = goes.in_step;
+    }
+
+-- ---- lists of names
+
+length-put : (id : BlockId) (ids : List BlockId) → length (put id ids) ≡ length ids + 1
+length-put id [] = refl
+length-put id (x ∷ xs) = elim (cases_Bool (precedes id x)) [
+  | inl t ↦ rw t (omega arith)
+  | inr f ↦ rw f (let rest = length-put id xs in omega (arith, rest))
+]
+
+room-is : host_room ≡ (2 ^ greatest_dim + 1) * home_blocks
+unfolding host_room
+room-is = refl
+
+-- ---- what replies say
+
+same-found : (a b : Found) → found_reply {N = Box} a ≡ found_reply b → a ≡ b
+same-found a b e = sym (back a) ∙ ap found_in e ∙ back b
+  where
+    found_in : Reply Box → Found
+    found_in replies.Quiet = found.Quiet
+    found_in replies.Spent = found.Spent
+    found_in other = found.Busy
+
+    back : (a : Found) → found_in (found_reply a) ≡ a
+    back found.Quiet = refl
+    back found.Spent = refl
+    back found.Busy = refl
+
+one-found : (found : Found) (reply : Reply Box) → reply ≡ found_reply found → (reply ≡ replies.Quiet → ⊥) → (reply ≡ replies.Spent → ⊥) → (reply ≡ replies.Busy → ⊥) → ⊥
+one-found found.Quiet reply is quiet spent busy = quiet is
+one-found found.Spent reply is quiet spent busy = spent is
+one-found found.Busy reply is quiet spent busy = busy is
+
+mail-ends : (number : ℕ) (items : List Item) (reply : Reply Box) → IsMail number items reply → ((parcel : Brought) → reply ≡ replies.Mail parcel → ⊥) → ⊥
+mail-ends number items (replies.Mail parcel) is mail = mail parcel refl
+mail-ends number items other is mail = absurd is
+
+-- ---- it allows
+
+module _ (before behind : MachineFacts) (crew crew' : SerialCrew) (machine : IsLawfulMachine before) (step : IsCrewInStep before.parts before.history crew) (reply : Reply Box) where
+  pub allowed : (count : ℕ) (within : count ≤ greatest_count) → HasCalled before behind crew crew' (calls.Arm count) reply
+      → HasAllowed before behind crew crew' count
+  unfolding answer
+  allowed count within called =
+      let host = may-allow before.parts before.history crew machine.within machine.lawful step.held count within in
+      let is : Arm count ≡ called.asked.what = answer-is before.parts (after before.history) crew.grant.user (arms count) called.asked.what step.held.cube step.held.held called.asked.answer in
+      subst (λ what. HasGoneOn before behind crew crew' (by_host crew.grant.user what ∷ [])) (sym is)
+      (gone-on-kept before behind crew crew' (calls.Arm count) reply machine step.held host called step.host (subst KeepsStore is tt))
+
+  -- ---- it looks
+
+  module _ (called : HasCalled before behind crew crew' calls.Look reply) where
+    abbrev found_now : Found
+    found_now =
+        let standing = standing_of (after before.history) step.held.cube in
+        found_where (is_quiet (nodes_of step.held.cube.grant) standing) (is_used_up standing)
+
+    look-is : Look found_now ≡ called.asked.what
+    unfolding answer
+    look-is = answer-is before.parts (after before.history) crew.grant.user looks called.asked.what step.held.cube step.held.held called.asked.answer
+
+    pub look-reply : reply ≡ found_reply found_now
+    look-reply =
+        subst (λ what. IsReplyTo home_of IsClean before.parts (after before.history) crew.grant.user HOST what reply) (sym look-is) called.asked.reply_is
+
+    looked-now : HasLooked before behind crew crew' found_now
+    looked-now =
+        let host = may-look before.parts before.history crew machine.within machine.lawful step.held in
+        record {
+          goes_on = subst (λ what. HasGoneOn before behind crew crew' (by_host crew.grant.user what ∷ [])) (sym look-is)
+              (gone-on-kept before behind crew crew' calls.Look reply machine step.held host called step.host (subst KeepsStore look-is tt));
+          made = record { user = refl; actor_is = refl; what = called.asked.answer ∙ ap Some (sym look-is) };
+        }
+
+    pub looked : (found : Found) → reply ≡ found_reply found → HasLooked before behind crew crew' found
+    looked found is = subst (HasLooked before behind crew crew') (same-found found_now found (sym look-reply ∙ is)) looked-now
+
+    pub look-ends : (reply ≡ replies.Quiet → ⊥) → (reply ≡ replies.Spent → ⊥) → (reply ≡ replies.Busy → ⊥) → ⊥
+    look-ends = one-found found_now reply look-reply
+
+  -- ---- it takes a message
+
+  module _ (called : HasCalled before behind crew crew' calls.HostTake reply) where
+    abbrev items : List Item
+    items = step.held.cube.mail
+
+    abbrev take_host : IsHostCall before.parts before.history crew.grant.user calls.HostTake
+    take_host = may-take before.parts before.history crew machine.within machine.lawful step.held
+
+    take-is : HostTake (first_number items) ≡ called.asked.what
+    unfolding answer
+    take-is = answer-is before.parts (after before.history) crew.grant.user takes_mail called.asked.what step.held.cube step.held.held called.asked.answer
+
+    take-reply : IsReplyTo home_of IsClean before.parts (after before.history) crew.grant.user HOST (HostTake (first_number items)) reply
+    take-reply = subst (λ what. IsReplyTo home_of IsClean before.parts (after before.history) crew.grant.user HOST what reply) (sym take-is) called.asked.reply_is
+
+    -- what a take was answered, by the number of the message, if any
+    abbrev IsTakeReply : Option ℕ → Type 0
+    IsTakeReply None = reply ≡ replies.NoMail
+    IsTakeReply (Some number) = IsMail number items reply
+
+    take-reply-is : (number : Option ℕ) → IsReplyTo home_of IsClean before.parts (after before.history) crew.grant.user HOST (HostTake number) reply → IsTakeReply number
+    take-reply-is None is = is
+    take-reply-is (Some number) is = subst (λ held. IsSomeAnd held (λ cube. IsMail number cube.mail reply)) step.held.held is
+
+    taken-none : (number : Option ℕ) → HostTake number ≡ called.asked.what → IsTakeReply number → reply ≡ replies.NoMail
+        → HasTakenNone before behind crew crew'
+    taken-none None what is none =
+        subst (λ what. HasGoneOn before behind crew crew' (by_host crew.grant.user what ∷ [])) (sym what)
+        (gone-on-kept before behind crew crew' calls.HostTake reply machine step.held take_host called step.host (subst KeepsStore what tt))
+    taken-none (Some number) what is none = absurd (subst (IsMail number items) none is)
+
+    pub no-message : reply ≡ replies.NoMail → HasTakenNone before behind crew crew'
+    no-message none = taken-none (first_number items) take-is (take-reply-is (first_number items) take-reply) none
+
+    reply-ends : (number : Option ℕ) → IsTakeReply number → (reply ≡ replies.NoMail → ⊥) → ((parcel : Brought) → reply ≡ replies.Mail parcel → ⊥) → ⊥
+    reply-ends None is none mail = none is
+    reply-ends (Some number) is none mail = mail-ends number items reply is mail
+
+    pub take-ends : (reply ≡ replies.NoMail → ⊥) → ((parcel : Brought) → reply ≡ replies.Mail parcel → ⊥) → ⊥
+    take-ends = reply-ends (first_number items) (take-reply-is (first_number items) take-reply)
+
+    -- ---- with a message
+
+    -- the message of this number is the first that waited
+    record HasMail (parcel : Brought) : Type 0 where
+      number : ℕ
+      what : HostTake (Some number) ≡ called.asked.what
+      waits : parcel_numbered number items ≡ Some (parcel_of parcel)
+
+    mail-by : (number : Option ℕ) → HostTake number ≡ called.asked.what → IsTakeReply number → (parcel : Brought) → reply ≡ replies.Mail parcel → HasMail parcel
+    mail-by None what is parcel mail = let differ : replies.NoMail ≡ replies.Mail parcel = sym is ∙ mail in absurd (cc)
+    mail-by (Some number) what is parcel mail = record { number = number; what = what; waits = subst (IsMail number items) mail is }
+
+    module _ (parcel : Brought) (mail : reply ≡ replies.Mail parcel) where
+      abbrev has : HasMail parcel
+      has = mail-by (first_number items) take-is (take-reply-is (first_number items) take-reply) parcel mail
+
+      waited : HoldsCube before.history crew.grant.user (λ cube. parcel_numbered has.number cube.mail ≡ Some (parcel_of parcel))
+      waited = subst (λ held. IsSomeAnd held (λ cube. parcel_numbered has.number cube.mail ≡ Some (parcel_of parcel))) (sym step.held.held) has.waits
+
+      abbrev entry : Entry
+      entry = host_take crew.grant.user (Some has.number)
+
+      accepted : IsAccepted before.parts before.history crew.grant.number (cube_grant crew.grant) entry (parcel_of parcel)
+      accepted =
+          hosts-take before.parts before.history crew.grant.number (cube_grant crew.grant) machine.within machine.lawful step.held has.number (parcel_of parcel) entry
+          (record { user = refl; actor_is = refl; what = called.asked.answer ∙ ap Some (sym has.what) }) refl waited
+
+      abbrev outward : BlockId → BlockId
+      outward = block_outward (cube_grant crew.grant)
+
+      host-same : crew'.host ≡ crew.host
+      host-same = ap (λ (c : SerialCrew). c.host) called.crew_is
+
+      names : ids_of crew'.host.store.blocks ≡ map outward (store_now before.parts before.history crew.grant.number (cube_grant crew.grant))
+      names = ap (λ (host : Host). ids_of host.store.blocks) host-same ∙ step.host.blocks
+
+      full : crew'.host.store.spare + length crew'.host.store.blocks ≡ host_room
+      full = ap (λ (host : Host). host.store.spare + length host.store.blocks) host-same ∙ step.host.room
+
+      pub accept-room : 1 ≤ crew'.host.store.spare
+      accept-room =
+          omega (
+            arith,
+            full,
+            accepted.room,
+            room-is,
+            ap (λ (ids : List BlockId). length ids) names,
+            length-map crew'.host.store.blocks (λ (block : Block). block.id),
+            length-map (store_now before.parts before.history crew.grant.number (cube_grant crew.grant)) outward,
+          )
+
+      pub accept-apart : Contains (ids_of crew'.host.store.blocks) parcel.block.id → ⊥
+      accept-apart =
+          not_contained parcel.block.id (ids_of crew'.host.store.blocks)
+          (sym (count-is parcel.block.id (ids_of crew'.host.store.blocks)) ∙ ap (count_by (is_same_id parcel.block.id)) names ∙ accepted.new)
+
+      module _ (other : Host) (stored : other ≡ record crew'.host { store = record { blocks = with_block parcel.block crew'.host.store.blocks; spare = crew'.host.store.spare - 1 } })
+          (ids : ids_of other.store.blocks ≡ put parcel.block.id (ids_of crew'.host.store.blocks)) where
+        abbrev number : ℕ
+        number = has.number
+
+        abbrev grant : CubeGrant
+        grant = cube_grant crew.grant
+
+        history-is : behind.history ≡ before.history ++ entry ∷ []
+        history-is = called.asked.history ∙ ap (λ what. before.history ++ by_host crew.grant.user what ∷ []) (sym has.what)
+
+        stands : IsHostInStep before.parts behind.history crew.grant other
+        stands = record {
+          blocks = ids ∙ ap (put parcel.block.id) names ∙ sym accepted.stored
+              ∙ ap (λ h. map outward (store_now before.parts h crew.grant.number grant)) (sym history-is);
+          room =
+              omega (
+                arith,
+                full,
+                accept-room,
+                ap (λ (host : Host). host.store.spare) stored,
+                ap (λ (some : List BlockId). length some) ids,
+                length-put parcel.block.id (ids_of crew'.host.store.blocks),
+                length-map other.store.blocks (λ (block : Block). block.id),
+                length-map crew'.host.store.blocks (λ (block : Block). block.id),
+              );
+          spare = ap (λ (host : Host). host.spare) (stored ∙ host-spare) ∙ step.host.spare;
+        }
+          where
+            host-spare : record crew'.host { store = record { blocks = with_block parcel.block crew'.host.store.blocks; spare = crew'.host.store.spare - 1 } }
+                ≡ record crew.host { store = record { blocks = with_block parcel.block crew'.host.store.blocks; spare = crew'.host.store.spare - 1 } }
+            host-spare = ap (λ (host : Host). record host { store = record { blocks = with_block parcel.block crew'.host.store.blocks; spare = crew'.host.store.spare - 1 } }) host-same
+
+        pub message-taken : (bytes : List ℕ) → bytes ≡ parcel.block.bytes → HasTaken before behind crew (record crew' { host = other }) parcel.from bytes
+        message-taken bytes is = record {
+          number = number;
+          parcel = parcel_of parcel;
+          goes_on = subst (λ what. HasGoneOn before behind crew (record crew' { host = other }) (by_host crew.grant.user what ∷ [])) (sym has.what)
+              (gone-on-with before behind crew crew' calls.HostTake reply machine step.held take_host called other stands);
+          waited = waited;
+          from_is = refl;
+          bytes_are = sym is;
+        }

@@ -1,0 +1,58 @@
+-- A peek.
+use Rattle.std.proofs.Common.{◌≡◌, ℕ, [], ◌∷◌, ◌++◌, Some, refl, ap, sym, ◌∙◌, subst}
+use Rattle.ce_model.specs.declared.topology.TheConstants.{HOST}
+use Rattle.ce_model.specs.declared.entry.What.{What}
+use Rattle.ce_model.specs.declared.entry.What.TheVariants.{Peek as PeekMade}
+use Rattle.ce_model.specs.Machine.{after, peek}
+use Rattle.ce_daemon.specs.declared.grant.Peeked.{Peeked}
+use Rattle.ce_daemon.specs.Peeks.{peeked}
+use Rattle.rk_node.specs.Boxes.{Box, IsClean}
+use Rattle.ce_machine.specs.Meanings.{MachineFacts}
+use Rattle.ce_machine.specs.declared.call.Call.TheVariants as calls
+use Rattle.ce_machine.specs.declared.call.Reply.{Reply}
+use Rattle.ce_machine.specs.declared.call.Reply.TheVariants as replies
+use Rattle.ce_machine.specs.Requests.{FitsBehind}
+use Rattle.ce_machine.specs.Replies.{IsReplyTo}
+use Rattle.ce_host.specs.declared.command.Command.TheVariants.{Peek}
+use Rattle.ce_host.specs.declared.answer.Answer.TheVariants.{Peeked as PeekFound}
+use Rattle.ce_script.specs.Rounds.{serial}
+use Rattle.ce_script.specs.Commands.{by_host}
+use Rattle.ce_record.proofs.Asked.{asked}
+use Rattle.ce_run.specs.declared.seat.Seat.{Seat}
+use Rattle.ce_run.specs.Seats.{HasUser, HasDone, IsSeatAt}
+use Rattle.ce_run.specs.Asking.{home_of, HasAsked}
+use Rattle.ce_run.proofs.Seating.{seat-beside-peek}
+
+pub same-what : (a b : What) → Some a ≡ Some b → a ≡ b
+same-what a b e = cc
+
+pub peek-fits : (before : MachineFacts) (user : ℕ) → HasUser before user
+    → FitsBehind home_of IsClean before.parts before.history (record { family = user; actor = HOST }) calls.Peek
+peek-fits before user has = record { machine = has.book.within; fits = (has.within, refl); boxes = tt }
+
+-- what a reply says was found
+abbrev found-or : Peeked → Reply Box → Peeked
+found-or none (replies.Peeked found) = found
+found-or none other = none
+
+module _ (before behind : MachineFacts) (user : ℕ) (has : HasUser before user) (reply : Reply Box) (asks : HasAsked before behind user calls.Peek reply) where
+  what-is : PeekMade ≡ asks.what
+  what-is = same-what PeekMade asks.what asks.answer
+
+  pub peek-reply : reply ≡ replies.Peeked (peeked before.parts (after before.history))
+  peek-reply = subst (λ what. IsReplyTo home_of IsClean before.parts (after before.history) user HOST what reply) (sym what-is) asks.reply_is
+
+  pub peek-done : (found : Peeked) → reply ≡ replies.Peeked found → (seat : Seat) → IsSeatAt before.parts before.history user seat
+      → HasDone before behind user Peek (PeekFound found) seat
+  peek-done found is seat seated =
+      let history = asks.history ∙ ap (λ what. before.history ++ by_host user what ∷ []) (sym what-is) in
+      let same : peeked before.parts (after before.history) ≡ found = ap (found-or found) (sym peek-reply ∙ is) in
+      record {
+        made = by_host user PeekMade ∷ [];
+        parts = asks.parts;
+        history = history;
+        lawful = asks.lawful;
+        next = asked serial before.parts before.history user Peek (record { home = 0; index = 0 }) peek PeekMade (PeekFound found) has.book.within has.book.lawful refl
+            (record { fits = (has.within, refl); answer = refl }) (ap (λ found. Some (PeekFound found)) same);
+        seated = subst (λ h. IsSeatAt before.parts h user seat) (sym history) (seat-beside-peek before behind user has.book has.within seat seated);
+      }

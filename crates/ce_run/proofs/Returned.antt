@@ -1,0 +1,205 @@
+-- A cube that its user gives back.
+use Rattle.std.proofs.Common.{◌≡◌, ℕ, ◌^◌, ◌<◌, true, false, List, [], ◌∷◌, ◌++◌, map, flat_map, IsSomeAnd, Option, Some, None, refl, ap, sym, ◌∙◌, subst, append_assoc}
+use Rattle.std.specs.Global.{Vec}
+use Rattle.ce_model.specs.declared.topology.TheConstants.{HOST}
+use Rattle.ce_model.specs.declared.topology.BlockId.{BlockId}
+use Rattle.ce_model.specs.declared.entry.What.TheVariants.{Drain, Freecube as FreecubeMade}
+use Rattle.ce_model.specs.Limits.{greatest_dim}
+use Rattle.ce_model.specs.Blocks.{Block}
+use Rattle.ce_model.specs.Parcels.{Parcel}
+use Rattle.ce_model.specs.Node.{Node, blocks_of}
+use Rattle.ce_model.specs.Saying.{says}
+use Rattle.ce_model.specs.Cube.{node_numbers}
+use Rattle.ce_model.specs.Subcubes.{IsSubcube, node_of}
+use Rattle.ce_model.specs.Renaming.{CubeGrant, block_outward}
+use Rattle.ce_model.specs.Machine.{MachineState, IsMachine, IsLawful, HeldCube, after, held_by, all_parcels, Fits, freecube}
+use Rattle.ce_solo.proofs.Projection.Law.{after-more}
+use Rattle.ce_solo.proofs.Projection.Held.{held-own, left-own}
+use Rattle.ce_daemon.specs.Boxes.{AreBoxesOf}
+use Rattle.ce_daemon.specs.Peeks.{numbered}
+use Rattle.xm_block.specs.Stores.{ids_of}
+use Rattle.rk_node.specs.Boxes.{Box, IsClean}
+use Rattle.ce_host.specs.declared.host.Host.{Host}
+use Rattle.ce_host.specs.declared.command.Command.TheVariants.{Freecube}
+use Rattle.ce_host.specs.declared.answer.Answer.TheVariants.{Freed}
+use Rattle.ce_machine.specs.Meanings.{MachineFacts}
+use Rattle.ce_machine.specs.declared.call.Call.TheVariants as calls
+use Rattle.ce_machine.specs.declared.call.Reply.{Reply}
+use Rattle.ce_machine.specs.declared.call.Reply.TheVariants as replies
+use Rattle.ce_machine.specs.Requests.{FitsBehind}
+use Rattle.ce_machine.specs.Replies.{IsReplyTo, OfHeldCube, IsDrained}
+use Rattle.ce_cube.specs.declared.crew.SerialCrew.{SerialCrew}
+use Rattle.ce_cube.specs.Boxes.{node_now, store_now}
+use Rattle.ce_cube.specs.Crews.{IsLawfulMachine, IsCrewInStep, HoldAllBlocks, AreAllHome, cube_grant, box_at}
+use Rattle.ce_cube.specs.Rehoming.{AreAllBlocks, names_in}
+use Rattle.ce_cube.proofs.Held.{seen, by_cube}
+use Rattle.ce_cube.proofs.Seats.{node-said}
+use Rattle.ce_cube.proofs.Hosts.{drains-fit-held}
+use Rattle.ce_cube.proofs.Returns.{placed-sub}
+use Rattle.ce_cube.proofs.Whole.{blocks-are-whole}
+use Rattle.ce_script.specs.Rounds.{serial}
+use Rattle.ce_script.specs.Commands.{by_host}
+use Rattle.ce_record.specs.Laws.{given_back}
+use Rattle.ce_record.proofs.AtOnce.{freecube as freecube-next}
+use Rattle.ce_run.specs.declared.seat.Seat.TheVariants.{Free}
+use Rattle.ce_run.specs.Seats.{HasUser, HasDone}
+use Rattle.ce_run.specs.Asking.{home_of, HasAsked, HasCube, HasDrained}
+use Rattle.ce_run.proofs.Peeking.{same-what}
+
+-- ---- what waits is taken away
+
+module _ (before : MachineFacts) (user : ℕ) (has : HasUser before user) (holds : HasCube before.history user) where
+  pub drain-fits : FitsBehind home_of IsClean before.parts before.history (record { family = user; actor = HOST }) calls.Drain
+  drain-fits = record { machine = has.book.within; fits = (has.within, (refl, holds)); boxes = tt }
+
+  module _ (behind : MachineFacts) (reply : Reply Box) (asks : HasAsked before behind user calls.Drain reply) where
+    drain-is : Drain ≡ asks.what
+    drain-is = same-what Drain asks.what asks.answer
+
+    drain-reply : OfHeldCube (after before.history) user (λ cube. IsDrained (all_parcels (after before.history) cube) reply)
+    drain-reply = subst (λ what. IsReplyTo home_of IsClean before.parts (after before.history) user HOST what reply) (sym drain-is) asks.reply_is
+
+    pub drained-so : (blocks : Vec Block) → reply ≡ replies.Drained blocks → HasDrained before behind user blocks.items
+    drained-so blocks is = record {
+      parts = asks.parts;
+      history = asks.history ∙ ap (λ what. before.history ++ by_host user what ∷ []) (sym drain-is);
+      lawful = asks.lawful;
+      blocks_are = subst (λ reply. OfHeldCube (after before.history) user (λ cube. IsDrained (all_parcels (after before.history) cube) reply)) is drain-reply;
+    }
+
+    drained-by : (parcels : List Parcel) (reply : Reply Box) → IsDrained parcels reply → ((blocks : Vec Block) → reply ≡ replies.Drained blocks → ⊥) → ⊥
+    drained-by parcels (replies.Drained blocks) is other = other blocks refl
+    drained-by parcels another is other = absurd is
+
+    ends-by : (held : Option HeldCube) → IsSomeAnd held (λ cube. IsDrained (all_parcels (after before.history) cube) reply)
+        → ((blocks : Vec Block) → reply ≡ replies.Drained blocks → ⊥) → ⊥
+    ends-by None is other = is
+    ends-by (Some cube) is other = drained-by (all_parcels (after before.history) cube) reply is other
+
+    pub drain-ends : ((blocks : Vec Block) → reply ≡ replies.Drained blocks → ⊥) → ⊥
+    drain-ends = ends-by (held_by (after before.history) user) drain-reply
+
+-- ---- all blocks are there
+
+map-twice : {X Y Z : Type 0} (f : X → Y) (g : Y → Z) (xs : List X) → map g (map f xs) ≡ map (λ x. g (f x)) xs
+map-twice f g [] = refl
+map-twice f g (x ∷ xs) = ap (λ rest. g (f x) ∷ rest) (map-twice f g xs)
+
+module _ (before : MachineFacts) (crew : SerialCrew) (has : HasUser before crew.grant.user) (step : IsCrewInStep before.parts before.history crew) where
+  abbrev grant : CubeGrant
+  grant = cube_grant crew.grant
+
+  pub has-cube : HasCube before.history crew.grant.user
+  has-cube = subst (λ held. IsSomeAnd held (λ cube. cube.drained ≡ false)) (sym step.held.held) step.held.goes_on
+
+  sub-of : IsSubcube greatest_dim grant.dim grant.sub
+  sub-of =
+      by_cube (λ number grant. IsSubcube greatest_dim grant.dim grant.sub) before.history crew.grant.number grant
+      (λ cube holds goes. placed-sub before.parts.dim cube.grant (seen before.parts before.history cube has.book.within has.book.lawful holds goes).placed) step.held
+
+  said-home : (r : ℕ) → r < 2 ^ grant.dim → (says (node_now before.parts before.history crew.grant.number grant r)).node.home ≡ r
+  said-home r below =
+      by_cube (λ number grant. r < 2 ^ grant.dim → (says (node_now before.parts before.history number grant r)).node.home ≡ r) before.history crew.grant.number grant
+      (λ cube holds goes below.
+      let now = seen before.parts before.history cube has.book.within has.book.lawful holds goes in
+      (node-said before.parts before.history cube now r below).became.home ∙ (now.stands.sound.nodes r below).home) step.held below
+
+  module _ (behind : MachineFacts) (drained : List Block) (is : HasDrained before behind crew.grant.user drained) where
+    abbrev waiting : List Parcel
+    waiting = all_parcels (after before.history) step.held.cube
+
+    drained-is : drained ≡ map (λ parcel. parcel.block) waiting
+    drained-is = subst (λ held. IsSomeAnd held (λ cube. drained ≡ map (λ parcel. parcel.block) (all_parcels (after before.history) cube))) step.held.held is.blocks_are
+
+    whole : AreAllBlocks grant (names_in grant (λ r. (box_at crew.nodes.items r).node) waiting
+        (map (block_outward grant) (store_now before.parts before.history crew.grant.number grant)))
+    whole =
+        subst
+        (λ held. IsSomeAnd held (λ cube. AreAllBlocks grant (names_in grant (λ r. (box_at crew.nodes.items r).node) (all_parcels (after before.history) cube)
+        (map (block_outward grant) (store_now before.parts before.history crew.grant.number grant))))) step.held.held
+        (blocks-are-whole before.parts before.history crew.grant.number grant has.book.within has.book.lawful step.held
+        (λ r. (box_at crew.nodes.items r).node) step.boxes.in_step)
+
+    drained-names : map (λ parcel. parcel.block.id) waiting ≡ map (λ block. block.id) drained
+    drained-names = sym (ap (map (λ (block : Block). block.id)) drained-is ∙ map-twice (λ (parcel : Parcel). parcel.block) (λ (block : Block). block.id) waiting)
+
+    pub all-there : HoldAllBlocks grant crew.nodes.items crew.host drained
+    all-there = record {
+      sub = sub-of;
+      all = step.boxes.all;
+      ready = step.boxes.ready;
+      homes = λ r below. ap (λ (node : Node). node.home) (step.boxes.in_step r below).at_rest ∙ ap (node_of grant.sub) (said-home r below);
+      blocks =
+          let at : List BlockId = flat_map (λ r. blocks_of (box_at crew.nodes.items r).node) (node_numbers grant.dim) in
+          subst (λ drained. AreAllBlocks grant (at ++ (drained ++ ids_of crew.host.store.blocks))) drained-names
+          (subst (λ store. AreAllBlocks grant (at ++ (map (λ parcel. parcel.block.id) waiting ++ store))) (sym step.host.blocks) whole);
+      room = step.host.room;
+      spare = step.host.spare;
+    }
+
+    -- ---- and it is given back
+
+    drained-held : held_by (after behind.history) crew.grant.user ≡ Some (record step.held.cube { drained = true; mail = [] })
+    drained-held =
+        ap (λ h. held_by (after h) crew.grant.user) is.history
+        ∙ ap (λ (state : MachineState). held_by state crew.grant.user) (after-more before.history (by_host crew.grant.user Drain))
+        ∙ held-own crew.grant.user (λ one. record one { drained = true; mail = [] }) (λ one. refl) (λ one node kept. record kept { waiting = [] })
+        (after before.history) step.held.cube step.held.held
+
+    free-fits : Fits before.parts behind.history crew.grant.user HOST freecube
+    free-fits =
+        subst (λ h. Fits before.parts h crew.grant.user HOST freecube) (sym is.history)
+        (drains-fit-held before.parts before.history crew.grant.number grant has.book.within has.book.lawful step.held).2
+
+    pub sound-behind : IsLawfulMachine behind
+    sound-behind = record {
+      within = subst IsMachine (sym is.parts) has.book.within;
+      lawful = subst (λ parts. IsLawful parts behind.history) (sym is.parts) is.lawful;
+    }
+
+    module _ (boxes : Vec Box) (host : Host) (home : AreAllHome grant boxes.items host) where
+      own-boxes : AreBoxesOf home_of IsClean (numbered (step.held.cube.number, step.held.cube.grant)) boxes.items
+      own-boxes =
+          subst (λ (g : CubeGrant). AreBoxesOf home_of IsClean (numbered (step.held.cube.number, g)) boxes.items) (sym step.held.grant_is) home.0
+
+      pub freecube-fits : FitsBehind home_of IsClean behind.parts behind.history (record { family = crew.grant.user; actor = HOST }) (calls.Freecube boxes)
+      freecube-fits = record {
+        machine = subst IsMachine (sym is.parts) has.book.within;
+        fits = subst (λ parts. Fits parts behind.history crew.grant.user HOST freecube) (sym is.parts) free-fits;
+        boxes = subst (λ held. IsSomeAnd held (λ cube. AreBoxesOf home_of IsClean (numbered (cube.number, cube.grant)) boxes.items)) (sym drained-held) own-boxes;
+      }
+
+      module _ (end : MachineFacts) (reply : Reply Box) (asks : HasAsked behind end crew.grant.user (calls.Freecube boxes) reply) where
+        free-is : FreecubeMade ≡ asks.what
+        free-is = same-what FreecubeMade asks.what asks.answer
+
+        pub free-reply : reply ≡ replies.Freed
+        free-reply = subst (λ what. IsReplyTo home_of IsClean behind.parts (after behind.history) crew.grant.user HOST what reply) (sym free-is) asks.reply_is
+
+        last-is : end.history ≡ behind.history ++ by_host crew.grant.user FreecubeMade ∷ []
+        last-is = asks.history ∙ ap (λ what. behind.history ++ by_host crew.grant.user what ∷ []) (sym free-is)
+
+        both-are : end.history ≡ before.history ++ given_back crew.grant.user
+        both-are =
+            last-is ∙ ap (λ h. h ++ by_host crew.grant.user FreecubeMade ∷ []) is.history
+            ∙ append_assoc before.history (by_host crew.grant.user Drain ∷ []) (by_host crew.grant.user FreecubeMade ∷ [])
+
+        lawful-end : IsLawful before.parts end.history
+        lawful-end = subst (λ parts. IsLawful parts end.history) is.parts asks.lawful
+
+        none-left : held_by (after end.history) crew.grant.user ≡ None
+        none-left =
+            ap (λ h. held_by (after h) crew.grant.user) last-is
+            ∙ ap (λ (state : MachineState). held_by state crew.grant.user) (after-more behind.history (by_host crew.grant.user FreecubeMade))
+            ∙ left-own crew.grant.user (after behind.history)
+
+        pub freed-done : HasDone before end crew.grant.user Freecube Freed (Free host)
+        freed-done = record {
+          made = given_back crew.grant.user;
+          parts = asks.parts ∙ is.parts;
+          history = both-are;
+          lawful = lawful-end;
+          next = freecube-next serial before.parts before.history crew.grant.user step.held.cube step.held.held has.book.within
+              (subst (IsLawful before.parts) both-are lawful-end);
+          seated = (none-left, home.1);
+        }

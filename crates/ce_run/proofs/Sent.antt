@@ -1,0 +1,236 @@
+-- A message that a user sends.
+use Rattle.std.proofs.Common.{◌≡◌, ℕ, ◌+◌, ◌≤◌, true, List, [], ◌∷◌, ◌++◌, length, map, drop, slice_get, IsSomeAnd, Option, Some, None, refl, ap, sym, ◌∙◌, subst, arith}
+use Rattle.std.specs.Prelude.{◌↔◌, IsNone, IfNone}
+use Rattle.ce_model.specs.declared.topology.TheConstants.{HOST}
+use Rattle.ce_model.specs.declared.topology.BlockId.{BlockId}
+use Rattle.ce_model.specs.declared.topology.Place.{Place}
+use Rattle.ce_model.specs.declared.entry.Entry.{Entry}
+use Rattle.ce_model.specs.declared.entry.What.{What}
+use Rattle.ce_model.specs.declared.entry.What.TheVariants.{Send as SendMade}
+use Rattle.ce_model.specs.Limits.{block_room}
+use Rattle.ce_model.specs.Blocks.{Block}
+use Rattle.ce_model.specs.Parcels.{Item}
+use Rattle.ce_model.specs.Node.{Call, sends, is_place}
+use Rattle.ce_model.specs.Answers.{answer}
+use Rattle.ce_model.specs.Cube.{send_bytes}
+use Rattle.ce_model.specs.Renaming.{CubeGrant, block_outward, place_outward}
+use Rattle.ce_model.specs.Machine.{Fits, after, answered, standing_of, in_cube}
+use Rattle.xm_block.specs.Stores.{ids_of}
+use Rattle.rk_mail.specs.Targets.{targets_of, bytes_of, with_bytes}
+use Rattle.rk_mail.specs.declared.talk.Heard.{Heard}
+use Rattle.rk_mail.specs.declared.talk.Heard.TheVariants.{Posted}
+use Rattle.rk_mail.specs.declared.talk.Say.TheVariants as say
+use Rattle.rk_node.specs.Boxes.{Box, IsClean}
+use Rattle.ce_host.specs.declared.host.Host.{Host}
+use Rattle.ce_host.specs.Hosts.{message_to}
+use Rattle.ce_host.specs.declared.command.Command.TheVariants.{Send}
+use Rattle.ce_host.specs.declared.answer.Answer.TheVariants.{Ok as Done, NoStore}
+use Rattle.ce_machine.specs.Meanings.{MachineFacts}
+use Rattle.ce_machine.specs.declared.call.Call.TheVariants as calls
+use Rattle.ce_machine.specs.declared.call.Reply.{Reply}
+use Rattle.ce_machine.specs.declared.call.Reply.TheVariants as replies
+use Rattle.ce_machine.specs.Replies.{IsReplyTo, IsHeard, items_for}
+use Rattle.ce_cube.specs.declared.crew.SerialCrew.{SerialCrew}
+use Rattle.ce_cube.specs.Boxes.{store_now}
+use Rattle.ce_cube.specs.Crews.{IsLawfulMachine, IsHostInStep, IsCrewInStep, cube_grant}
+use Rattle.ce_cube.proofs.Hosts.{hosts-fit, hosts-send}
+use Rattle.ce_script.specs.Rounds.{serial}
+use Rattle.ce_script.specs.Commands.{by_host}
+use Rattle.ce_record.specs.Asked.{reply_by}
+use Rattle.ce_record.specs.Run.{IsNextCommand}
+use Rattle.ce_record.proofs.Asked.{asked}
+use Rattle.ce_record.proofs.AtOnce.{no_store}
+use Rattle.ce_run.specs.declared.seat.Seat.TheVariants.{Holding}
+use Rattle.ce_run.specs.Seats.{HasDone}
+use Rattle.ce_run.specs.Asking.{home_of, IsHostCall, HasCalled}
+use Rattle.ce_run.proofs.Seating.{answer-is, done-at-once, done-by}
+use Rattle.ce_run.proofs.Looking.{gone-on-with}
+
+-- what a reply has that was heard
+abbrev heard-or : Heard → Reply Box → Heard
+heard-or none (replies.Heard heard) = heard
+heard-or none other = none
+
+-- ---- lists
+
+map-none : {X Y : Type 0} (f : X → Y) (xs : List X) → map f xs ≡ [] → xs ≡ []
+map-none f [] e = refl
+map-none f (x ∷ xs) e = absurd (cc)
+
+-- the least block of a store goes out with the bytes
+record IsMessage (to : Place) (bytes : List ℕ) (blocks : List Block) (batch : List (Place × Block)) : Type 0 where
+  block : Block
+  others : List Block
+  blocks_are : blocks ≡ block ∷ others
+  batch_is : batch ≡ (to, with_bytes bytes block) ∷ []
+
+message : (to : Place) (bytes : List ℕ) (blocks : List Block) (batch : List (Place × Block)) → Some batch ≡ message_to to bytes blocks → IsMessage to bytes blocks batch
+message to bytes [] batch e = absurd (cc)
+message to bytes (block ∷ others) batch e =
+    record { block = block; others = others; blocks_are = refl; batch_is = cc }
+
+-- a store with the machine's names for its blocks has this first
+record IsFirst (outward : BlockId → BlockId) (store : List BlockId) (first : BlockId) (others : List BlockId) : Type 0 where
+  id : BlockId
+  rest : List BlockId
+  store_is : store ≡ id ∷ rest
+  id_is : outward id ≡ first
+  rest_is : map outward rest ≡ others
+
+first-is : (outward : BlockId → BlockId) (store : List BlockId) (first : BlockId) (others : List BlockId) → first ∷ others ≡ map outward store
+    → IsFirst outward store first others
+first-is outward [] first others e = absurd (cc)
+first-is outward (id ∷ rest) first others e = record {
+  id = id;
+  rest = rest;
+  store_is = refl;
+  id_is = ap {B = BlockId} (λ ids. elim ids [ [] ↦ first | x ∷ xs ↦ x ]) (sym e);
+  rest_is = ap {B = List BlockId} (λ ids. elim ids [ [] ↦ others | x ∷ xs ↦ xs ]) (sym e);
+}
+
+-- where no batch comes, there is no block, and the host is what it was
+pub none-left : (batch : Option (List (Place × Block))) (blocks : List Block) (host host' : Host) → ((some : List (Place × Block)) → batch ≡ Some some → ⊥)
+    → IsNone batch ↔ (blocks ≡ []) → IfNone batch (host' ≡ host) → (blocks ≡ []) × (host' ≡ host)
+none-left None blocks host host' not_some empty same = (empty.0 refl, same)
+none-left (Some batch) blocks host host' not_some empty same = absurd (not_some batch refl)
+
+-- ---- a send
+
+module _ (before : MachineFacts) (crew : SerialCrew) (machine : IsLawfulMachine before) (step : IsCrewInStep before.parts before.history crew)
+    (to : Place) (bytes : List ℕ) (place : is_place crew.grant.dim to ≡ true) where
+  abbrev grant : CubeGrant
+  grant = cube_grant crew.grant
+
+  abbrev outward : BlockId → BlockId
+  outward = block_outward grant
+
+  abbrev store : List BlockId
+  store = store_now before.parts before.history crew.grant.number grant
+
+  own-place : is_place step.held.cube.grant.dim to ≡ true
+  own-place = ap (λ (g : CubeGrant). is_place g.dim to) step.held.grant_is ∙ place
+
+  -- nothing is sent where the host has no block
+  nothing-next : crew.host.store.blocks ≡ [] → IsNextCommand serial before.parts before.history crew.grant.user (Send to bytes) NoStore []
+  nothing-next empty =
+      let none : store ≡ [] = map-none outward store (sym step.host.blocks ∙ ap ids_of empty) in
+      let own : store_now before.parts before.history step.held.cube.number step.held.cube.grant ≡ store =
+      λ i. store_now before.parts before.history (step.held.number_is i) (step.held.grant_is i) in
+      no_store serial before.parts before.history crew.grant.user step.held.cube step.held.held to bytes own-place (own ∙ none)
+
+  pub nothing-done : (host : Host) → host ≡ crew.host → crew.host.store.blocks ≡ []
+      → HasDone before before crew.grant.user (Send to bytes) NoStore (Holding (record crew { host = host }))
+  nothing-done host same empty =
+      subst (λ host. HasDone before before crew.grant.user (Send to bytes) NoStore (Holding (record crew { host = host }))) (sym same)
+      (done-at-once before crew.grant.user (Send to bytes) NoStore (Holding crew) machine (nothing-next empty) (refl, step))
+
+  module _ (short : length bytes ≤ block_room) (batch : List (Place × Block)) (is : Some batch ≡ message_to to bytes crew.host.store.blocks) where
+    abbrev goes : IsMessage to bytes crew.host.store.blocks batch
+    goes = message to bytes crew.host.store.blocks batch is
+
+    abbrev first : IsFirst outward store goes.block.id (ids_of goes.others)
+    first = first-is outward store goes.block.id (ids_of goes.others) (ap ids_of (sym goes.blocks_are) ∙ step.host.blocks)
+
+    abbrev call : Call
+    call = sends 0 ((to, goes.block.id) ∷ []) bytes
+
+    call-is : sends 0 (targets_of batch) (bytes_of batch) ≡ call
+    call-is = ap (λ batch. sends 0 (targets_of batch) (bytes_of batch)) goes.batch_is
+
+    call-outward : sends 0 ((to, outward first.id) ∷ []) bytes ≡ call
+    call-outward = ap (λ id. sends 0 ((to, id) ∷ []) bytes) first.id_is
+
+    slot : slice_get store 0 ≡ Some first.id
+    slot = ap (λ ids. slice_get ids 0) first.store_is
+
+    fits : Fits before.parts before.history crew.grant.user HOST (in_cube call)
+    fits =
+        subst (λ call. Fits before.parts before.history crew.grant.user HOST (in_cube call)) call-outward
+        (hosts-fit before.parts before.history crew.grant.number grant machine.within machine.lawful step.held (send_bytes to bytes) (sends 0 ((to, first.id) ∷ []) bytes)
+        (rw (place, slot) refl) short)
+
+    pub may-send : IsHostCall before.parts before.history crew.grant.user (calls.Say (say.Send 0 batch))
+    may-send = record {
+      inner = sends 0 (targets_of batch) (bytes_of batch);
+      is = refl;
+      fits = subst (λ call. Fits before.parts before.history crew.grant.user HOST (in_cube call)) (sym call-is) fits;
+    }
+
+    module _ (behind : MachineFacts) (host : Host) (crew' : SerialCrew) (reply : Reply Box)
+        (called : HasCalled before behind (record crew { host = host }) crew' (calls.Say (say.Send 0 batch)) reply) where
+      answered-so : answered before.parts (after before.history) crew.grant.user HOST (in_cube call) ≡ Some called.asked.what
+      answered-so = ap (λ call. answered before.parts (after before.history) crew.grant.user HOST (in_cube call)) (sym call-is) ∙ called.asked.answer
+
+      abbrev sent : What
+      sent = SendMade 0 (standing_of (after before.history) step.held.cube).parcel_count ((place_outward step.held.cube.grant.sub to, goes.block.id) ∷ []) bytes
+
+      sent-is : sent ≡ called.asked.what
+      unfolding answer
+      sent-is = answer-is before.parts (after before.history) crew.grant.user call called.asked.what step.held.cube step.held.held answered-so
+
+      abbrev items : List Item
+      items = items_for (after before.history) step.held.cube HOST
+
+      heard-sent : IsHeard items sent reply
+      heard-sent =
+          subst (λ held. IsSomeAnd held (λ cube. IsHeard (items_for (after before.history) cube HOST) sent reply)) step.held.held
+          (subst (λ what. IsReplyTo home_of IsClean before.parts (after before.history) crew.grant.user HOST what reply) (sym sent-is) called.asked.reply_is)
+
+      reply-by : (reply : Reply Box) → IsHeard items sent reply → reply ≡ replies.Heard (Posted [])
+      reply-by (replies.Heard heard) is = ap replies.Heard is
+      reply-by other is = absurd is
+
+      pub send-reply : reply ≡ replies.Heard (Posted [])
+      send-reply = reply-by reply heard-sent
+
+      -- its batch comes back empty
+      pub heard-posted : (heard : Heard) → reply ≡ replies.Heard heard → heard ≡ Posted []
+      heard-posted heard e = ap (heard-or heard) (sym e ∙ send-reply)
+
+      module _ (rest : host.store.blocks ≡ drop 1 crew.host.store.blocks) (room : host.store.spare ≡ crew.host.store.spare + 1)
+          (other : Host) (regained : other ≡ record crew'.host { spare = Some [] }) where
+        abbrev entry : Entry
+        entry = by_host crew.grant.user sent
+
+        history-is : behind.history ≡ before.history ++ entry ∷ []
+        history-is = called.asked.history ∙ ap (λ what. before.history ++ by_host crew.grant.user what ∷ []) (sym sent-is)
+
+        store-behind : store_now before.parts behind.history crew.grant.number grant ≡ first.rest
+        store-behind =
+            ap (λ h. store_now before.parts h crew.grant.number grant) history-is
+            ∙ hosts-send before.parts before.history crew.grant.number grant machine.within machine.lawful step.held to first.id bytes entry slot place short
+            (record {
+              user = refl;
+              actor_is = refl;
+              what = ap (λ call. answered before.parts (after before.history) crew.grant.user HOST (in_cube call)) call-outward ∙ answered-so ∙ ap Some (sym sent-is);
+            })
+            ∙ ap (drop 1) first.store_is
+
+        host-is : other ≡ record host { spare = Some [] }
+        host-is = regained ∙ ap (λ (c : SerialCrew). record c.host { spare = Some [] }) called.crew_is
+
+        left : other.store.blocks ≡ goes.others
+        left = ap (λ (h : Host). h.store.blocks) host-is ∙ rest ∙ ap (drop 1) goes.blocks_are
+
+        stands : IsHostInStep before.parts behind.history crew.grant other
+        stands = record {
+          blocks = ap ids_of left ∙ sym first.rest_is ∙ ap (map outward) (sym store-behind);
+          room =
+              omega (
+                arith,
+                step.host.room,
+                room,
+                ap (λ (h : Host). h.store.spare) host-is,
+                ap (λ (blocks : List Block). length blocks) left,
+                ap (λ (blocks : List Block). length blocks) goes.blocks_are,
+              );
+          spare = ap (λ (h : Host). h.spare) host-is;
+        }
+
+        pub sent-done : HasDone before behind crew.grant.user (Send to bytes) Done (Holding (record crew' { host = other }))
+        sent-done =
+            done-by before behind (record crew { host = host }) (record crew' { host = other }) (by_host crew.grant.user called.asked.what ∷ []) (Send to bytes) Done
+            (gone-on-with before behind (record crew { host = host }) crew' (calls.Say (say.Send 0 batch)) reply machine step.held may-send called other stands)
+            (asked serial before.parts before.history crew.grant.user (Send to bytes) goes.block.id (in_cube call) called.asked.what Done machine.within machine.lawful refl
+            (record { fits = fits; answer = answered-so })
+            (subst (λ what. reply_by before.parts (after before.history) what ≡ Some Done) sent-is refl))

@@ -1,0 +1,12 @@
+use Rattle.std.proofs.Common.{subst}
+use Rattle.ce_script.specs.Bounds.{IsCommandWithin}
+use Rattle.ce_run.proofs.Carrying.{no-cube-done}
+use Rattle.ce_run.proofs.commands.for_free.Goals as goal
+
+pub get_cube-requires-clause-dim : goal.get_cube-requires-clause-dim
+get_cube-requires-clause-dim c = subst (IsCommandWithin _) c.in-Getcube.is c.requires.command
+
+pub returns-in_default : goal.returns-in_default
+returns-in_default c =
+    no-cube-done c.args.machine.now c.args.user c.requires.user c.requires.free c.args.host c.requires.host c.args.command.now
+    c.in_default.not-Getcube c.in_default.not-Peek

@@ -1,0 +1,13 @@
+use Rattle.ce_run.proofs.Seating.{may-allow}
+use Rattle.ce_run.proofs.Looking.{allowed}
+use Rattle.ce_run.proofs.commands.running.allow.Goals as goal
+
+pub ask_in_cube-requires-clause-call : goal.ask_in_cube-requires-clause-call
+ask_in_cube-requires-clause-call c =
+    may-allow c.args.machine.now.parts c.args.machine.now.history c.args.crew.now c.requires.user.book.within c.requires.user.book.lawful c.requires.crew.held
+    c.args.count c.requires.count
+
+pub returns : goal.returns
+returns c =
+    allowed c.args.machine.now c.ask_in_cube.new.machine c.args.crew.now c.ask_in_cube.new.crew c.requires.user.book c.requires.crew
+    c.in_ok-ask_in_cube.field-0 c.args.count c.requires.count c.in_ok-ask_in_cube.ensures

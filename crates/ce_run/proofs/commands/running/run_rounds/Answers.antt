@@ -1,0 +1,32 @@
+use Rattle.std.proofs.Common.{◌≡◌, true, false, ap, sym, ◌∙◌, subst, arith}
+use Rattle.std.specs.List.{AllByRecursion}
+use Rattle.ce_cube.specs.Crews.{HasMadeRound}
+use Rattle.ce_cube.proofs.Crewing.{still-sound}
+use Rattle.ce_run.proofs.Going.{images-stay, no-round, one-round-more, rounds-over, left-behind}
+use Rattle.ce_run.proofs.commands.running.run_rounds.Goals as goal
+
+pub rounds-init : goal.rounds-init
+rounds-init c = no-round c.args.machine.now c.args.crew.now c.requires.user.book c.requires.crew
+
+pub round_serial-requires-clause-machine : goal.round_serial-requires-clause-machine
+round_serial-requires-clause-machine c =
+    still-sound c.args.machine.now c.rounds.machine c.args.crew.now c.rounds.crew _ c.requires.user.book c.rounds.invariant.goes_on
+
+pub round_serial-requires-clause-images : goal.round_serial-requires-clause-images
+round_serial-requires-clause-images c =
+    images-stay c.args.machine.now c.rounds.machine c.args.crew.now c.rounds.crew _ c.args.images.now c.rounds.invariant.goes_on c.requires.images
+
+pub rounds-preserved : goal.rounds-preserved
+rounds-preserved c =
+    one-round-more c.args.machine.now c.rounds.machine c.round_serial.new.machine c.args.crew.now c.rounds.crew c.round_serial.new.crew c.rounds.invariant
+    (subst (HasMadeRound c.rounds.machine c.round_serial.new.machine c.rounds.crew c.round_serial.new.crew) c.if-branch.true c.in_ok-round_serial.ensures)
+
+pub rounds-smaller : goal.rounds-smaller
+rounds-smaller c =
+    let made = subst (HasMadeRound c.rounds.machine c.round_serial.new.machine c.rounds.crew c.round_serial.new.crew) c.if-branch.true c.in_ok-round_serial.ensures in
+    omega (arith, left-behind c.rounds.machine c.round_serial.new.machine c.rounds.crew c.round_serial.new.crew true made)
+
+pub returns : goal.returns
+returns c =
+    rounds-over c.args.machine.now c.rounds.machine c.round_serial.new.machine c.args.crew.now c.rounds.crew c.round_serial.new.crew c.rounds.invariant
+    (subst (HasMadeRound c.rounds.machine c.round_serial.new.machine c.rounds.crew c.round_serial.new.crew) c.if-branch.false c.in_ok-round_serial.ensures)

@@ -1,0 +1,7 @@
+use Rattle.std.proofs.Common.{sym, ◌∙◌}
+use Rattle.ce_run.proofs.AtOnce.{dumped}
+use Rattle.ce_run.proofs.commands.telling.status.Goals as goal
+
+pub returns : goal.returns
+returns c parts history step =
+    dumped parts history c.args.crew.now step c.args.at c.status.result c.index.result.now (sym c.has_place.ensures ∙ c.if-not-has_place.false) c.index.ensures c.status.ensures

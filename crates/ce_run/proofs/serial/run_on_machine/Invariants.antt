@@ -1,0 +1,5 @@
+use Rattle.ce_run.proofs.Further.{IsPartDone}
+use Rattle.ce_run.proofs.serial.run_on_machine.Given as goal
+
+abbrev pub invariant-loop-user : goal.invariant-loop-user
+invariant-loop-user l = IsPartDone l.script l.machine l.seats.items l.users.items l.user-index

@@ -1,0 +1,49 @@
+-- What commands do that run a cube's nodes.
+use Rattle.std.specs.Prelude.{◌≡◌, ℕ, true, false, List, [], ◌∷◌, ◌++◌, Some, None}
+use Rattle.std.specs.List.{AllByRecursion}
+use Rattle.ce_model.specs.declared.topology.TheConstants.{HOST}
+use Rattle.ce_model.specs.declared.topology.Place.{Place}
+use Rattle.ce_model.specs.declared.entry.Entry.{Entry}
+use Rattle.ce_model.specs.declared.entry.What.TheVariants.{Arm, Look}
+use Rattle.ce_model.specs.declared.entry.Found.{Found}
+use Rattle.ce_model.specs.Parcels.{Parcel}
+use Rattle.ce_model.specs.Node.{looks}
+use Rattle.ce_model.specs.Cube.{parcel_numbered}
+use Rattle.ce_model.specs.Machine.{HoldsCube}
+use Rattle.ce_machine.specs.Meanings.{MachineFacts}
+use Rattle.ce_cube.specs.declared.crew.SerialCrew.{SerialCrew}
+use Rattle.ce_cube.specs.Boxes.{IsMadeBy}
+use Rattle.ce_cube.specs.Crews.{HasGoneOn, cube_grant}
+use Rattle.ce_script.specs.Rounds.{serial, joined}
+use Rattle.ce_script.specs.Commands.{by_host, host_take}
+use Rattle.ce_record.specs.CubeRounds.{IsRoundOf}
+
+-- a crew's host allowed so many dispatches
+abbrev pub HasAllowed : MachineFacts → MachineFacts → SerialCrew → SerialCrew → ℕ → Type 0
+HasAllowed before behind crew crew' count = HasGoneOn before behind crew crew' (by_host crew.grant.user (Arm count) ∷ [])
+
+-- a crew's host looked, and found this
+pub record HasLooked (before behind : MachineFacts) (crew crew' : SerialCrew) (found : Found) : Type 0 where
+  pub goes_on : HasGoneOn before behind crew crew' (by_host crew.grant.user (Look found) ∷ [])
+  pub made : IsMadeBy before.parts before.history (cube_grant crew.grant) HOST looks (by_host crew.grant.user (Look found))
+
+-- a crew's host took no message, since none waited
+abbrev pub HasTakenNone : MachineFacts → MachineFacts → SerialCrew → SerialCrew → Type 0
+HasTakenNone before behind crew crew' = HasGoneOn before behind crew crew' (host_take crew.grant.user None ∷ [])
+
+-- a crew's host took the first message that waited
+pub record HasTaken (before behind : MachineFacts) (crew crew' : SerialCrew) (from : Place) (bytes : List ℕ) : Type 0 where
+  pub number : ℕ
+  pub parcel : Parcel
+  pub goes_on : HasGoneOn before behind crew crew' (host_take crew.grant.user (Some number) ∷ [])
+  pub waited : HoldsCube before.history crew.grant.user (λ cube. parcel_numbered number cube.mail ≡ Some parcel)
+  pub from_is : parcel.from ≡ from
+  pub bytes_are : parcel.block.bytes ≡ bytes
+
+-- a crew made rounds with work, and then one without
+pub record HasRunRounds (before behind : MachineFacts) (crew crew' : SerialCrew) : Type 0 where
+  pub rounds : List (List Entry)
+  pub last : List Entry
+  pub goes_on : HasGoneOn before behind crew crew' (joined rounds ++ last)
+  pub with_work : AllByRecursion (IsRoundOf serial crew.grant.user (cube_grant crew.grant) true) rounds
+  pub without_work : IsRoundOf serial crew.grant.user (cube_grant crew.grant) false last

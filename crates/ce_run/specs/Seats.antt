@@ -1,0 +1,41 @@
+-- What a user has between commands, and what a command of a user does.
+use Rattle.std.specs.Prelude.{◌≡◌, ℕ, ◌<◌, List, ◌++◌, Some, None}
+use Rattle.ce_model.specs.declared.entry.Entry.{Entry}
+use Rattle.ce_model.specs.declared.topology.BlockId.{BlockId}
+use Rattle.ce_model.specs.Node.{Call}
+use Rattle.ce_model.specs.Machine.{MachineParts, IsLawful, in_cube, after, held_by}
+use Rattle.ce_machine.specs.Meanings.{MachineFacts}
+use Rattle.ce_cube.specs.declared.crew.SerialCrew.{SerialCrew}
+use Rattle.ce_cube.specs.Crews.{IsLawfulMachine, IsCrewInStep, IsHostAtHome}
+use Rattle.ce_host.specs.declared.command.Command.{Command}
+use Rattle.ce_host.specs.declared.answer.Answer.{Answer}
+use Rattle.ce_script.specs.Rounds.{serial}
+use Rattle.ce_record.specs.Asked.{request_of}
+use Rattle.ce_record.specs.Run.{IsNextCommand}
+use Rattle.ce_run.specs.declared.seat.Seat.{Seat}
+use Rattle.ce_run.specs.declared.seat.Seat.TheVariants.{Free, Holding}
+
+-- behind a history a user has this seat: it holds no cube and its host is at home, or its cube's crew is in step
+abbrev pub IsSeatAt : MachineParts → List Entry → ℕ → Seat → Type 0
+IsSeatAt parts history user (Free host) = (held_by (after history) user ≡ None) × IsHostAtHome user host
+IsSeatAt parts history user (Holding crew) = (crew.grant.user ≡ user) × IsCrewInStep parts history crew
+
+-- a machine that is lawful so far has this user
+pub record HasUser (machine : MachineFacts) (user : ℕ) : Type 0 where
+  pub book : IsLawfulMachine machine
+  pub within : user < machine.parts.users
+
+-- A command of a user was carried out: it made these entries, as it must by what the user held, and this answer; and the user has this seat
+-- behind it.
+pub record HasDone (before behind : MachineFacts) (user : ℕ) (command : Command) (answer : Answer) (seat : Seat) : Type 0 where
+  pub made : List Entry
+  pub parts : behind.parts ≡ before.parts
+  pub history : behind.history ≡ before.history ++ made
+  pub lawful : IsLawful before.parts behind.history
+  pub next : IsNextCommand serial before.parts before.history user command answer made
+  pub seated : IsSeatAt before.parts behind.history user seat
+
+-- each command that asks for this call was carried out, and its user's crew is this
+abbrev pub HasTold : MachineFacts → MachineFacts → ℕ → Call → Answer → SerialCrew → Type 0
+HasTold before behind user call answer crew =
+    (command : Command) (id : BlockId) → request_of id command ≡ Some (in_cube call) → HasDone before behind user command answer (Holding crew)

@@ -1,0 +1,110 @@
+//! Commands that ask for a cube, look at the machine, or give the cube back.
+ghost use Rattle.std.specs.Prelude.{◌≡◌, ◌≤◌, None, IfOk, map};
+ghost use Rattle.ce_model.specs.Limits.{greatest_dim};
+ghost use Rattle.ce_model.specs.Machine.{after, held_by};
+ghost use Rattle.ce_host.specs.declared.command.Command.TheVariants.{Freecube, Getcube, Peek};
+ghost use Rattle.ce_cube.specs.Crews.{AreAllHome, HoldAllBlocks, IsCrewInStep, IsHostAtHome, cube_grant};
+ghost use Rattle.ce_run.specs.Asking.{HasCube, HasDrained};
+ghost use Rattle.ce_run.specs.Seats.{HasDone, HasUser, IsSeatAt};
+ghost use Rattle.ce_run.specs.declared.seat.Seat.{Seat};
+
+use crate::asking::ask;
+use crate::seat::Seat;
+use ce_cube::{SerialCrew, rehome};
+use ce_host::{Answer, Host};
+use ce_machine::{Call, Machine, Reply};
+use ce_model::NoMemory;
+use rk_node::NodeBox;
+use rv_image::Image;
+use std::alloc::Global;
+use xm_block::Block;
+
+/// A user who holds no cube asks for one. `NoMemory` may come at any time.
+pub(crate) fn get_cube(
+    alloc: Global,
+    machine: &mut Machine<NodeBox>,
+    images: &[Image],
+    user: u32,
+    host: Host,
+    dim: u32,
+) -> Result<(Seat, Answer), NoMemory>
+    requires user { HasUser machine.old user }
+    requires images { images.now ≡ machine.old.parts.images }
+    requires free { held_by (after machine.old.history) user ≡ None }
+    requires host { IsHostAtHome user host }
+    requires dim { dim ≤ greatest_dim }
+    ensures { IfOk result (λ done.
+        HasDone machine.old machine.new user (Getcube dim) done.1 done.0) }
+{
+    match ask(alloc, machine, user, Call::Getcube { dim })? {
+        Reply::Granted { grant, boxes } => {
+            let crew = SerialCrew::new(grant, boxes, host, images.len() as u32);
+            Ok((Seat::Holding(crew), Answer::Granted(grant.sub)))
+        }
+        Reply::NoneFree => Ok((Seat::Free(host), Answer::None)),
+        _ => unreachable!(),
+    }
+}
+
+/// A user looks which cubes are held. `NoMemory` may come at any time.
+pub(crate) fn peek(
+    alloc: Global,
+    machine: &mut Machine<NodeBox>,
+    user: u32,
+) -> Result<Answer, NoMemory>
+    requires user { HasUser machine.old user }
+    ensures { IfOk result (λ answer. (seat : Seat)
+        → IsSeatAt machine.old.parts machine.old.history user seat
+        → HasDone machine.old machine.new user Peek answer seat) }
+{
+    match ask(alloc, machine, user, Call::Peek)? {
+        Reply::Peeked(found) => Ok(Answer::Peeked(found)),
+        _ => unreachable!(),
+    }
+}
+
+/// A user gives the cube back. `NoMemory` may come at any time.
+pub(crate) fn free_cube(
+    alloc: Global,
+    machine: &mut Machine<NodeBox>,
+    crew: SerialCrew,
+) -> Result<(Seat, Answer), NoMemory>
+    requires user { HasUser machine.old crew.grant.user }
+    requires crew { IsCrewInStep machine.old.parts machine.old.history crew }
+    ensures { IfOk result (λ done.
+        HasDone machine.old machine.new crew.grant.user Freecube done.1 done.0) }
+{
+    let user = crew.grant.user;
+    let drained = drain(alloc, machine, user)?;
+    let (boxes, host) = come_home(crew, drained);
+    match ask(alloc, machine, user, Call::Freecube { boxes })? {
+        Reply::Freed => Ok((Seat::Free(host), Answer::Freed)),
+        _ => unreachable!(),
+    }
+}
+
+/// The boxes and the host of a crew that is done, with all blocks at home.
+fn come_home(crew: SerialCrew, drained: Vec<Block>) -> (Vec<NodeBox>, Host)
+    requires { HoldAllBlocks (cube_grant crew.grant) crew.nodes.items crew.host drained.items }
+    ensures { AreAllHome (cube_grant crew.grant) result.0.items result.1 }
+{
+    let SerialCrew {
+        mut nodes,
+        mut host,
+        ..
+    } = crew;
+    rehome(nodes.as_mut_slice(), &mut host, drained);
+    (nodes, host)
+}
+
+/// The blocks of all messages that wait in the cube of a user.
+fn drain(alloc: Global, machine: &mut Machine<NodeBox>, user: u32) -> Result<Vec<Block>, NoMemory>
+    requires user { HasUser machine.old user }
+    requires holds { HasCube machine.old.history user }
+    ensures { IfOk result (λ blocks. HasDrained machine.old machine.new user blocks.items) }
+{
+    match ask(alloc, machine, user, Call::Drain)? {
+        Reply::Drained(blocks) => Ok(blocks),
+        _ => unreachable!(),
+    }
+}

@@ -1,0 +1,150 @@
+//! Commands that run a cube's nodes.
+ghost use Rattle.std.specs.Prelude.{◌≡◌, ◌≤◌, IfOk, MatchOption};
+ghost use Rattle.ce_model.specs.Limits.{greatest_count};
+ghost use Rattle.ce_host.specs.declared.command.Command.TheVariants.{Recv, Run};
+ghost use Rattle.ce_cube.specs.Crews.{IsCrewInStep, IsLawfulMachine};
+ghost use Rattle.ce_run.specs.Rounds.{HasAllowed, HasLooked, HasRunRounds, HasTaken, HasTakenNone};
+ghost use Rattle.ce_run.specs.Seats.{HasDone, HasUser};
+ghost use Rattle.ce_run.specs.declared.seat.Seat.TheVariants.{Holding};
+
+use crate::asking::ask_in_cube;
+use ce_cube::{SerialCrew, round_serial};
+use ce_host::Answer;
+use ce_machine::{Call, Machine, Reply};
+use ce_model::{Bytes, Found, NoMemory, Place};
+use rk_node::NodeBox;
+use rv_image::Image;
+use std::alloc::Global;
+
+/// Allows so many dispatches, and runs rounds until no node has work. `NoMemory` may come at any time.
+pub(crate) fn run(
+    alloc: Global,
+    machine: &mut Machine<NodeBox>,
+    images: &[Image],
+    crew: &mut SerialCrew,
+    count: u32,
+) -> Result<Answer, NoMemory>
+    requires user { HasUser machine.old crew.old.grant.user }
+    requires images { images.now ≡ machine.old.parts.images }
+    requires crew { IsCrewInStep machine.old.parts machine.old.history crew.old }
+    requires count { count ≤ greatest_count }
+    ensures { IfOk result (λ answer. HasDone machine.old machine.new crew.old.grant.user
+        (Run count) answer (Holding crew.new)) }
+{
+    allow(alloc, machine, crew, count)?;
+    run_rounds(alloc, machine, images, crew)?;
+    match look(alloc, machine, crew)? {
+        Found::Quiet => Ok(Answer::Quiet),
+        Found::Spent => Ok(Answer::Spent),
+        Found::Busy => unreachable!(),
+    }
+}
+
+/// Allows so many dispatches, and takes the first message for the host, with a round before each further look for one, until
+/// no node has work. `NoMemory` may come at any time.
+pub(crate) fn receive(
+    alloc: Global,
+    machine: &mut Machine<NodeBox>,
+    images: &[Image],
+    crew: &mut SerialCrew,
+    count: u32,
+) -> Result<Answer, NoMemory>
+    requires user { HasUser machine.old crew.old.grant.user }
+    requires images { images.now ≡ machine.old.parts.images }
+    requires crew { IsCrewInStep machine.old.parts machine.old.history crew.old }
+    requires count { count ≤ greatest_count }
+    ensures { IfOk result (λ answer. HasDone machine.old machine.new crew.old.grant.user
+        (Recv count) answer (Holding crew.new)) }
+{
+    allow(alloc, machine, crew, count)?;
+    let mut working = true;
+    'waiting: loop {
+        if let Some((from, bytes)) = take_message(alloc, machine, crew)? {
+            return Ok(Answer::Message(from, bytes));
+        }
+        if !working {
+            break;
+        }
+        working = round_serial(alloc, machine, crew, images)?;
+    }
+    match look(alloc, machine, crew)? {
+        Found::Quiet => Ok(Answer::None),
+        Found::Spent => Ok(Answer::Spent),
+        Found::Busy => unreachable!(),
+    }
+}
+
+/// Allows so many dispatches.
+fn allow(
+    alloc: Global,
+    machine: &mut Machine<NodeBox>,
+    crew: &mut SerialCrew,
+    count: u32,
+) -> Result<(), NoMemory>
+    requires user { HasUser machine.old crew.old.grant.user }
+    requires crew { IsCrewInStep machine.old.parts machine.old.history crew.old }
+    requires count { count ≤ greatest_count }
+    ensures { IfOk result (λ _. HasAllowed machine.old machine.new crew.old crew.new count) }
+{
+    ask_in_cube(alloc, machine, crew, Call::Arm { count })?;
+    Ok(())
+}
+
+/// Rounds, up to the first by which no node was given work.
+fn run_rounds(
+    alloc: Global,
+    machine: &mut Machine<NodeBox>,
+    images: &[Image],
+    crew: &mut SerialCrew,
+) -> Result<(), NoMemory>
+    requires user { HasUser machine.old crew.old.grant.user }
+    requires images { images.now ≡ machine.old.parts.images }
+    requires crew { IsCrewInStep machine.old.parts machine.old.history crew.old }
+    ensures { IfOk result (λ _. HasRunRounds machine.old machine.new crew.old crew.new) }
+{
+    'rounds: while round_serial(alloc, machine, crew, images)? {}
+    Ok(())
+}
+
+/// How the cube stands.
+fn look(
+    alloc: Global,
+    machine: &mut Machine<NodeBox>,
+    crew: &mut SerialCrew,
+) -> Result<Found, NoMemory>
+    requires user { HasUser machine.old crew.old.grant.user }
+    requires crew { IsCrewInStep machine.old.parts machine.old.history crew.old }
+    ensures { IfOk result (HasLooked machine.old machine.new crew.old crew.new) }
+{
+    match ask_in_cube(alloc, machine, crew, Call::Look)? {
+        Reply::Quiet => Ok(Found::Quiet),
+        Reply::Spent => Ok(Found::Spent),
+        Reply::Busy => Ok(Found::Busy),
+        _ => unreachable!(),
+    }
+}
+
+/// The next message for the host, if one waits: who sent it, and its bytes. The block goes to the host's store.
+fn take_message(
+    alloc: Global,
+    machine: &mut Machine<NodeBox>,
+    crew: &mut SerialCrew,
+) -> Result<Option<(Place, Bytes)>, NoMemory>
+    requires user { HasUser machine.old crew.old.grant.user }
+    requires crew { IsCrewInStep machine.old.parts machine.old.history crew.old }
+    ensures { IfOk result (λ taken. MatchOption taken
+        (HasTakenNone machine.old machine.new crew.old crew.new)
+        (λ message. HasTaken machine.old machine.new crew.old crew.new message.0 message.1)) }
+{
+    match ask_in_cube(alloc, machine, crew, Call::HostTake)? {
+        Reply::NoMail => Ok(None),
+        Reply::Mail(parcel) => {
+            let from = parcel.from;
+            match crew.host.accept(alloc, parcel) {
+                Ok(bytes) => Ok(Some((from, bytes))),
+                Err((_, want)) => Err(want),
+            }
+        }
+        _ => unreachable!(),
+    }
+}

@@ -1,0 +1,143 @@
+//! Commands by which a host sends, starts and ends.
+ghost use Rattle.std.specs.Prelude.{◌≡◌, ◌<◌, ◌^◌, [], IfOk, IsSome, Some, length};
+ghost use Rattle.ce_model.specs.Node.{is_place};
+ghost use Rattle.ce_host.specs.declared.command.Command.TheVariants.{Kill, Send, Spawn};
+ghost use Rattle.ce_cube.specs.Crews.{IsCrewInStep};
+ghost use Rattle.rk_mail.specs.Talk.{call_said};
+ghost use Rattle.rk_mail.specs.declared.talk.Heard.TheVariants.{Posted};
+ghost use Rattle.ce_record.specs.Asked.{heard_reply};
+ghost use Rattle.ce_machine.specs.declared.call.Call.TheVariants as call;
+ghost use Rattle.ce_run.specs.Asking.{IsHostCall, IsStartOrEnd};
+ghost use Rattle.ce_run.specs.Seats.{HasDone, HasTold, HasUser};
+ghost use Rattle.ce_run.specs.declared.seat.Seat.TheVariants.{Holding};
+
+use crate::asking::ask_in_cube;
+use ce_cube::SerialCrew;
+use ce_host::Answer;
+use ce_machine::{Call, Machine, Reply};
+use ce_model::{Bytes, NoMemory, PROCESS_COUNT, Place};
+use rk_mail::{Batch, Heard, Say};
+use rk_node::NodeBox;
+use std::alloc::Global;
+
+/// Starts an image as the process of a place. `NoMemory` may come at any time.
+pub(crate) fn start(
+    alloc: Global,
+    machine: &mut Machine<NodeBox>,
+    crew: &mut SerialCrew,
+    image: u32,
+    to: Place,
+) -> Result<Answer, NoMemory>
+    requires user { HasUser machine.old crew.old.grant.user }
+    requires crew { IsCrewInStep machine.old.parts machine.old.history crew.old }
+    requires image { image < length machine.old.parts.images }
+    ensures { IfOk result (λ answer. HasDone machine.old machine.new crew.old.grant.user
+        (Spawn image to) answer (Holding crew.new)) }
+{
+    if !has_place(crew, to) {
+        return Ok(Answer::NoPlace);
+    }
+    tell(alloc, machine, crew, Say::Spawn { pid: 0, image, to })
+}
+
+/// Ends the process of a place. `NoMemory` may come at any time.
+pub(crate) fn end(
+    alloc: Global,
+    machine: &mut Machine<NodeBox>,
+    crew: &mut SerialCrew,
+    to: Place,
+) -> Result<Answer, NoMemory>
+    requires user { HasUser machine.old crew.old.grant.user }
+    requires crew { IsCrewInStep machine.old.parts machine.old.history crew.old }
+    ensures { IfOk result (λ answer. HasDone machine.old machine.new crew.old.grant.user
+        (Kill to) answer (Holding crew.new)) }
+{
+    if !has_place(crew, to) {
+        return Ok(Answer::NoPlace);
+    }
+    tell(alloc, machine, crew, Say::Kill { pid: 0, to })
+}
+
+/// Sends bytes to the process of a place. `NoMemory` may come at any time.
+pub(crate) fn send(
+    alloc: Global,
+    machine: &mut Machine<NodeBox>,
+    crew: &mut SerialCrew,
+    to: Place,
+    bytes: &Bytes,
+) -> Result<Answer, NoMemory>
+    requires user { HasUser machine.old crew.old.grant.user }
+    requires crew { IsCrewInStep machine.old.parts machine.old.history crew.old }
+    ensures { IfOk result (λ answer. HasDone machine.old machine.new crew.old.grant.user
+        (Send to bytes.now) answer (Holding crew.new)) }
+{
+    if !has_place(crew, to) {
+        return Ok(Answer::NoPlace);
+    }
+    let Some(batch) = crew.host.batch(to, bytes.as_slice()) else {
+        return Ok(Answer::NoStore);
+    };
+    let call = Call::Say(Say::Send { pid: 0, batch });
+    match ask_in_cube(alloc, machine, crew, call)? {
+        Reply::Heard(heard) => {
+            crew.host.regain(batch_of(heard));
+            Ok(Answer::Ok)
+        }
+        _ => unreachable!(),
+    }
+}
+
+/// The empty batch that comes back from a message.
+fn batch_of(heard: Heard) -> Batch
+    requires { heard ≡ Posted [] }
+    ensures { result ≡ [] }
+{
+    match heard {
+        Heard::Posted(batch) => batch,
+        _ => unreachable!(),
+    }
+}
+
+/// Whether the place is one of the crew's cube.
+#[tactic(auto, using(ce_model::specs::Limits::process_count_lem))]
+pub(crate) fn has_place(crew: &SerialCrew, to: Place) -> bool
+    requires { length crew.now.nodes.items ≡ 2 ^ crew.now.grant.dim }
+    ensures { result ≡ is_place crew.now.grant.dim to }
+{
+    (to.node as usize) < crew.nodes.len() && to.pid < PROCESS_COUNT
+}
+
+/// What the start or the end of a process is answered.
+fn tell(
+    alloc: Global,
+    machine: &mut Machine<NodeBox>,
+    crew: &mut SerialCrew,
+    said: Say,
+) -> Result<Answer, NoMemory>
+    requires user { HasUser machine.old crew.old.grant.user }
+    requires crew { IsCrewInStep machine.old.parts machine.old.history crew.old }
+    requires said { IsStartOrEnd (call_said said) }
+    requires call { IsHostCall machine.old.parts machine.old.history crew.old.grant.user
+        (call.Say said) }
+    ensures { IfOk result (λ answer. HasTold machine.old machine.new crew.old.grant.user
+        (call_said said) answer crew.new) }
+{
+    match ask_in_cube(alloc, machine, crew, Call::Say(said))? {
+        Reply::Heard(heard) => Ok(told(heard)),
+        _ => unreachable!(),
+    }
+}
+
+/// What a host is told that hears so of what it started or ended.
+fn told(heard: Heard) -> Answer
+    requires { IsSome (heard_reply heard) }
+    ensures { heard_reply heard ≡ Some result }
+{
+    match heard {
+        Heard::Posted(_) | Heard::Spawned | Heard::Killed => Answer::Ok,
+        Heard::Used => Answer::Used,
+        Heard::Unused => Answer::Unused,
+        Heard::Already => Answer::Already,
+        _ => unreachable!(),
+    }
+}

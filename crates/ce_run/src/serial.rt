@@ -1,0 +1,192 @@
+//! The run of a whole script on one thread.
+ghost use Rattle.std.specs.Prelude.{◌≡◌, ℕ, ◌<◌, ◌≤◌, ◌^◌, List, [], Some, IfOk, OnOk, length, map};
+ghost use Rattle.ce_model.specs.Limits.{greatest_dim, greatest_users};
+ghost use Rattle.ce_model.specs.Machine.{IsMachine};
+ghost use Rattle.ce_daemon.specs.Boxes.{AreBoxes};
+ghost use Rattle.rk_node.specs.Boxes.{IsClean};
+ghost use Rattle.ce_script.specs.declared.script.Script.{Script};
+ghost use Rattle.ce_script.specs.Bounds.{IsWithinLimits, IsCommandWithin};
+ghost use Rattle.ce_script.specs.Doings.{Doing};
+ghost use Rattle.ce_script.specs.Legal.{IsLegal, machine_of};
+ghost use Rattle.ce_script.specs.Rounds.{serial};
+ghost use Rattle.ce_script.specs.Serial.{IsSerial};
+ghost use Rattle.ce_run.specs.Asking.{home_of};
+ghost use Rattle.ce_run.specs.Script.{AreOpenSeats, HasGoneFurther, IsRunBehind};
+
+use crate::commands::carry_out;
+use crate::seat::Seat;
+use ce_host::{Command, HOST_ROOM, Host};
+use ce_machine::Machine;
+use ce_model::{Bytes, NoMemory};
+use ce_script::{Name, Named, Record, Script, UserRecord};
+use rk_node::NodeBox;
+use rv_image::Image;
+use sqlite_items::Items;
+use std::alloc::Global;
+
+/// Carries out the commands of a script one after another, in the script's order, on a machine of its own. A script without
+/// users makes no machine, and its record is empty. `NoMemory` may come at any time.
+pub(crate) fn run_serial(alloc: Global, script: &Script) -> Result<Record, NoMemory>
+    requires { IsWithinLimits script.now }
+    ensures legal { IfOk result (IsLegal serial script.now) }
+    ensures serial { IfOk result (IsSerial script.now) }
+{
+    match script.dim {
+        Some(dim) if !script.users.is_empty() => run_on_machine(alloc, script, dim),
+        _ => Ok(Record {
+            users: Items::new(alloc),
+            history: Items::new(alloc),
+        }),
+    }
+}
+
+/// The run of a script that has users, on a machine of its dimension.
+#[tactic(auto, using(ce_model::specs::Limits::greatest_users_lem))]
+fn run_on_machine(alloc: Global, script: &Script, dim: u32) -> Result<Record, NoMemory>
+    requires within { IsWithinLimits script.now }
+    requires dim { script.now.dim ≡ Some dim }
+    requires users { 0 < length script.now.users }
+    ensures legal { IfOk result (IsLegal serial script.now) }
+    ensures serial { IfOk result (IsSerial script.now) }
+{
+    let images = copy_images(alloc, script.images.as_slice())?;
+    let mut machine = open_machine(alloc, script, dim)?;
+    let mut seats = open_seats(alloc, script.users.len() as u32)?;
+    let mut users = open_records(alloc, script.users.as_slice())?;
+    for (user, command) in script.commands.as_slice() {
+        go_further(
+            alloc,
+            &mut machine,
+            images.as_slice(),
+            seats.as_mut_slice(),
+            users.as_mut_slice(),
+            *user,
+            command,
+        )?;
+    }
+    Ok(Record {
+        users: Items::from_vec(users),
+        history: Items::from_vec(machine.into_history()),
+    })
+}
+
+/// Carries out one command of a user, whose record has it then with its answer. `NoMemory` may come at any time; nothing of
+/// all this is used again then.
+fn go_further(
+    alloc: Global,
+    machine: &mut Machine<NodeBox>,
+    images: &[Image],
+    seats: &mut [Option<Seat>],
+    users: &mut [UserRecord],
+    user: u32,
+    command: &Command,
+) -> Result<(), NoMemory>
+    requires machine { IsMachine machine.old.parts }
+    requires images { images.now ≡ machine.old.parts.images }
+    requires user { user < length users.old }
+    requires command { IsCommandWithin (length machine.old.parts.images) command.now }
+    requires behind { (script : Script) × (all : List (ℕ × Doing))
+        × IsRunBehind script machine.old seats.old users.old all }
+    ensures { OnOk result (HasGoneFurther machine.old machine.new
+        seats.old seats.new users.old users.new user command.now) }
+{
+    let Some(seat) = seats[user as usize].take() else {
+        unreachable!()
+    };
+    let (seat, answer) = carry_out(alloc, machine, images, user, seat, command)?;
+    seats[user as usize] = Some(seat);
+    let command = copy_command(alloc, command)?;
+    users[user as usize].done.push((command, answer))?;
+    Ok(())
+}
+
+/// The machine of a script, whose nodes have clean boxes.
+#[tactic(auto, using(ce_model::specs::Limits::greatest_users_lem))]
+fn open_machine(alloc: Global, script: &Script, dim: u32) -> Result<Machine<NodeBox>, NoMemory>
+    requires within { IsWithinLimits script.now }
+    requires dim { script.now.dim ≡ Some dim }
+    requires users { 0 < length script.now.users }
+    ensures { IfOk result (λ machine.
+        machine ≡ record { parts = machine_of script.now; history = [] }) }
+{
+    let images = copy_images(alloc, script.images.as_slice())?;
+    let boxes = open_boxes(alloc, dim)?;
+    Machine::new(alloc, dim, script.users.len() as u32, images, boxes)
+}
+
+/// The images of a script, by number.
+fn copy_images(alloc: Global, images: &[Named]) -> Result<Vec<Image>, NoMemory>
+    ensures { IfOk result (λ copies. copies.items ≡ map (λ named. named.image) images.now) }
+{
+    let mut copies = Vec::new(alloc);
+    for named in images {
+        copies.push(named.image.copy(alloc)?)?;
+    }
+    Ok(copies)
+}
+
+/// The clean boxes of a machine's nodes, by number.
+#[tactic(auto, using(ce_model::specs::Limits::greatest_dim_lem, ce_host::specs::Hosts::host_room_lem, ce_model::specs::Limits::home_blocks_lem))]
+fn open_boxes(alloc: Global, dim: u32) -> Result<Vec<NodeBox>, NoMemory>
+    requires { dim ≤ greatest_dim }
+    ensures { IfOk result (λ boxes.
+        AreBoxes home_of IsClean (2 ^ dim) (λ node. node) boxes.items) }
+{
+    let mut boxes = Vec::new(alloc);
+    for node in 0..1_u32 << dim {
+        boxes.push(NodeBox::new(alloc, node, HOST_ROOM)?)?;
+    }
+    Ok(boxes)
+}
+
+/// The seats of so many users, who hold no cube.
+fn open_seats(alloc: Global, users: u32) -> Result<Vec<Option<Seat>>, NoMemory>
+    requires { users ≤ greatest_users }
+    ensures { IfOk result (λ seats. AreOpenSeats users seats.items) }
+{
+    let mut seats = Vec::new(alloc);
+    for user in 0..users {
+        seats.push(Some(Seat::Free(Host::new(alloc, user)?)))?;
+    }
+    Ok(seats)
+}
+
+/// The records of users who did nothing.
+fn open_records(alloc: Global, names: &[Name]) -> Result<Vec<UserRecord>, NoMemory>
+    ensures { IfOk result (λ users. users.items
+        ≡ map (λ name. record { name = name; done = [] }) names.now) }
+{
+    let mut users = Vec::new(alloc);
+    for name in names {
+        users.push(UserRecord {
+            name: name.copy(alloc)?,
+            done: Items::new(alloc),
+        })?;
+    }
+    Ok(users)
+}
+
+/// The same command.
+fn copy_command(alloc: Global, command: &Command) -> Result<Command, NoMemory>
+    ensures { IfOk result (λ copied. copied ≡ command.now) }
+{
+    match command {
+        Command::Getcube(dim) => Ok(Command::Getcube(*dim)),
+        Command::Peek => Ok(Command::Peek),
+        Command::Freecube => Ok(Command::Freecube),
+        Command::Spawn(image, to) => Ok(Command::Spawn(*image, *to)),
+        Command::Kill(to) => Ok(Command::Kill(*to)),
+        Command::Send(to, bytes) => Ok(Command::Send(*to, copy_bytes(alloc, bytes)?)),
+        Command::Run(count) => Ok(Command::Run(*count)),
+        Command::Recv(count) => Ok(Command::Recv(*count)),
+        Command::Dump(at) => Ok(Command::Dump(*at)),
+        Command::Trace => Ok(Command::Trace),
+    }
+}
+
+/// The same bytes.
+fn copy_bytes(alloc: Global, bytes: &Bytes) -> Result<Bytes, NoMemory>
+    ensures { IfOk result (λ copied. copied ≡ bytes.now) }
+{
+    Ok(Bytes::from_vec(Vec::from_slice(alloc, bytes.as_slice())?))
+}
