@@ -1,0 +1,134 @@
+-- Two wrong machines, and of each a history that it makes, of which the view of one grant is no trace that its cube gives alone.
+use Rattle.std.specs.Prelude.{◌≡◌, ℕ, ◌+◌, ◌==◌, if◌then◌else◌, true, not, List, [], ◌∷◌, Option, Some, None, IsSomeAnd, filter, fold, option_map}
+use Rattle.rv_model.specs.Image.{ImageParts}
+use Rattle.ce_model.specs.declared.topology.TheConstants.{HOST}
+use Rattle.ce_model.specs.declared.topology.Place.{Place}
+use Rattle.ce_model.specs.declared.topology.BlockId.{BlockId}
+use Rattle.ce_model.specs.declared.topology.Subcube.{Subcube}
+use Rattle.ce_model.specs.declared.entry.Entry.{Entry}
+use Rattle.ce_model.specs.declared.entry.What.{What}
+use Rattle.ce_model.specs.declared.entry.What.TheVariants.{Getcube, Drain, Freecube, Arm, Send, Spawn, Take}
+use Rattle.ce_model.specs.declared.entry.Given.TheVariants.{Start, Mail, Idle}
+use Rattle.ce_model.specs.Lists.{EachAfter}
+use Rattle.ce_model.specs.Node.{Call}
+use Rattle.ce_model.specs.Trace.{blank_record}
+use Rattle.ce_model.specs.Answers.{answer, call_of}
+use Rattle.ce_model.specs.Cube.{IsAlone}
+use Rattle.ce_model.specs.Renaming.{call_renamed}
+use Rattle.ce_model.specs.Views.{from_grant, view}
+use Rattle.ce_model.specs.Machine.{MachineParts, MachineState, machine_opening, held_by, is_held_by, nodes_of, standing_of, with_cube, changed_by, changed_by_call, changed_by_host, Request, in_cube, answered, cube_of}
+
+-- ---- what a machine does, and how it is refuted
+
+-- the rules of a machine, right or wrong: what its state becomes by an entry, and what it answers a request of a user's actor
+pub record Rules : Type 0 where
+  pub changed : MachineState → Entry → MachineState
+  pub answers : MachineParts → MachineState → ℕ → ℕ → Request → Option What
+
+-- a machine of these rules makes the entry after the history, by some request
+pub record IsAnswered (rules : Rules) (parts : MachineParts) (history : List Entry) (entry : Entry) : Type 0 where
+  pub request : Request
+  pub answer : rules.answers parts (fold rules.changed machine_opening history) entry.user entry.actor request ≡ Some entry.what
+
+-- a machine of these rules makes the history, and the view of the grant of this number is no trace that its cube gives alone
+abbrev pub IsRefutedBy : Rules → MachineParts → List Entry → ℕ → Type 0
+IsRefutedBy rules parts history number =
+    EachAfter (IsAnswered rules parts) [] history
+    × IsSomeAnd (from_grant history number) (λ found. IsAlone (cube_of parts.images found.0) (view history number) → ⊥)
+
+-- ---- words of the histories
+
+-- a machine of one image
+abbrev pub machine : ℕ → ℕ → ImageParts → MachineParts
+machine dim users image = record { dim = dim; users = users; images = image ∷ [] }
+
+abbrev pub of_host : ℕ → What → Entry
+of_host user what = record { user = user; actor = HOST; what = what }
+
+abbrev pub of_node : ℕ → ℕ → What → Entry
+of_node user node what = record { user = user; actor = node; what = what }
+
+abbrev pub sub_at : ℕ → ℕ → Subcube
+sub_at mask base = record { mask = mask; base = base }
+
+abbrev pub place : ℕ → ℕ → Place
+place node pid = record { node = node; pid = pid }
+
+abbrev pub block : ℕ → ℕ → BlockId
+block home index = record { home = home; index = index }
+
+-- ---- a drain that leaves the messages
+
+-- a drain and the giving back of a cube leave what waits at its nodes, for the next owner of the nodes
+abbrev pub mail_left_by_host : ℕ → What → MachineState → MachineState
+mail_left_by_host user Drain state =
+    with_cube user (λ cube. record cube { drained = true; mail = [] }) (λ cube node kept. kept) state
+mail_left_by_host user Freecube state =
+    record (with_cube user (λ cube. cube) (λ cube node kept. record blank_record { waiting = kept.waiting }) state) { held = filter (λ cube. not (is_held_by user cube)) state.held }
+mail_left_by_host user other state = changed_by_host user other state
+
+abbrev pub mail_left_by_call : Option Call → Entry → MachineState → MachineState
+mail_left_by_call (Some call) entry state = changed_by_call (Some call) entry state
+mail_left_by_call None entry state = mail_left_by_host entry.user entry.what state
+
+abbrev pub mail_left : Rules
+mail_left = record {
+  changed = λ state entry. mail_left_by_call (call_of entry.what) entry state;
+  answers = answered;
+}
+
+-- the first user sends aa to process 0, drains its cube and gives it back; the second user has the same node, starts process 0
+-- there, and the process is given aa
+abbrev pub mail_of_before : List Entry
+mail_of_before =
+    of_host 0 (Getcube 0 (Some (sub_at 0 0)))
+    ∷ of_host 0 (Send 0 0 ((place 0 0, block 256 0) ∷ []) (0xAA ∷ []))
+    ∷ of_host 0 Drain
+    ∷ of_host 0 Freecube
+    ∷ of_host 1 (Getcube 0 (Some (sub_at 0 0)))
+    ∷ of_host 1 (Spawn 0 0 (place 0 0) true)
+    ∷ of_host 1 (Arm 10)
+    ∷ of_node 1 0 (Take 0 0 None (Start 0 0))
+    ∷ of_node 1 0 (Take 1 0 None (Mail 0 0))
+    ∷ []
+
+-- a drain that leaves the messages is refuted by the view of the second grant
+abbrev pub DrainLeavesMail : Type 0
+DrainLeavesMail = (image : ImageParts) → IsRefutedBy mail_left (machine 0 2 image) mail_of_before 1
+
+-- ---- a node's number added to the base
+
+-- the wrong number of the machine for node r of a cube
+abbrev pub added_to_base : Subcube → ℕ → ℕ
+added_to_base sub r = if r == HOST then HOST else sub.base + r
+
+abbrev pub place_added : Subcube → Place → Place
+place_added sub to = record { node = added_to_base sub to.node; pid = to.pid }
+
+-- the call of a cube is made with these wrong numbers for places
+abbrev pub added_answers : MachineParts → MachineState → ℕ → ℕ → Request → Option What
+added_answers parts state user actor (in_cube call) =
+    option_map (λ cube. answer (nodes_of cube.grant) (standing_of state cube) actor (call_renamed (place_added cube.grant.sub) (λ id. id) call)) (held_by state user)
+added_answers parts state user actor other = answered parts state user actor other
+
+abbrev pub rank_added : Rules
+rank_added = record { changed = changed_by; answers = added_answers }
+
+-- three users have nodes 0, 1 and 2 of a machine of four. The second one gives node 1 back, and is granted a cube of the nodes 1
+-- and 3. It has an image started at its node 1, which is node 3: the start is sent to node 2, and node 3 finds nothing
+abbrev pub start_astray : List Entry
+start_astray =
+    of_host 0 (Getcube 0 (Some (sub_at 0 0)))
+    ∷ of_host 1 (Getcube 0 (Some (sub_at 0 1)))
+    ∷ of_host 2 (Getcube 0 (Some (sub_at 0 2)))
+    ∷ of_host 1 Drain
+    ∷ of_host 1 Freecube
+    ∷ of_host 1 (Getcube 1 (Some (sub_at 2 1)))
+    ∷ of_host 1 (Spawn 0 0 (place 2 0) true)
+    ∷ of_host 1 (Arm 10)
+    ∷ of_node 1 3 (Take 0 0 None Idle)
+    ∷ []
+
+-- a node's number that is added to the base is refuted by the view of the fourth grant
+abbrev pub RankAddedToBase : Type 0
+RankAddedToBase = (image : ImageParts) → IsRefutedBy rank_added (machine 2 3 image) start_astray 3
