@@ -1,5 +1,5 @@
 -- Two wrong machines, and of each a history that it makes, of which the view of one grant is no trace that its cube gives alone.
-use Rattle.std.specs.Prelude.{◌≡◌, ℕ, ◌+◌, ◌==◌, if◌then◌else◌, true, not, List, [], ◌∷◌, Option, Some, None, IsSomeAnd, filter, fold, option_map}
+use Rattle.std.specs.Prelude.{◌≡◌, ℕ, ◌+◌, ◌==◌, if◌then◌else◌, true, not, List, [], ◌∷◌, ◌++◌, Option, Some, None, IsSomeAnd, filter, fold, option_map}
 use Rattle.rv_model.specs.Image.{ImageParts}
 use Rattle.ce_model.specs.declared.topology.TheConstants.{HOST}
 use Rattle.ce_model.specs.declared.topology.Place.{Place}
@@ -30,11 +30,13 @@ pub record IsAnswered (rules : Rules) (parts : MachineParts) (history : List Ent
   pub request : Request
   pub answer : rules.answers parts (fold rules.changed machine_opening history) entry.user entry.actor request ≡ Some entry.what
 
--- a machine of these rules makes the history, and the view of the grant of this number is no trace that its cube gives alone
-abbrev pub IsRefutedBy : Rules → MachineParts → List Entry → ℕ → Type 0
-IsRefutedBy rules parts history number =
-    EachAfter (IsAnswered rules parts) [] history
-    × IsSomeAnd (from_grant history number) (λ found. IsAlone (cube_of parts.images found.0) (view history number) → ⊥)
+-- a machine of these rules makes the history and one entry more, and with that entry the view of the grant of this number, which was a
+-- trace that its cube gives alone, is none any longer
+abbrev pub IsRefutedBy : Rules → MachineParts → List Entry → Entry → ℕ → Type 0
+IsRefutedBy rules parts history entry number =
+    EachAfter (IsAnswered rules parts) [] (history ++ entry ∷ [])
+    × IsSomeAnd (from_grant history number) (λ found. IsAlone (cube_of parts.images found.0) (view history number)
+    × (IsAlone (cube_of parts.images found.0) (view (history ++ entry ∷ []) number) → ⊥))
 
 -- ---- words of the histories
 
@@ -77,10 +79,10 @@ mail_left = record {
   answers = answered;
 }
 
--- the first user sends aa to process 0, drains its cube and gives it back; the second user has the same node, starts process 0
--- there, and the process is given aa
-abbrev pub mail_of_before : List Entry
-mail_of_before =
+-- the first user sends aa to process 0, drains its cube and gives it back; the second user has the same node, and starts process 0
+-- there
+abbrev pub started_where_mail_was : List Entry
+started_where_mail_was =
     of_host 0 (Getcube 0 (Some (sub_at 0 0)))
     ∷ of_host 0 (Send 0 0 ((place 0 0, block 256 0) ∷ []) (0xAA ∷ []))
     ∷ of_host 0 Drain
@@ -89,12 +91,15 @@ mail_of_before =
     ∷ of_host 1 (Spawn 0 0 (place 0 0) true)
     ∷ of_host 1 (Arm 10)
     ∷ of_node 1 0 (Take 0 0 None (Start 0 0))
-    ∷ of_node 1 0 (Take 1 0 None (Mail 0 0))
     ∷ []
+
+-- the second user's process is given aa
+abbrev pub mail_of_before : Entry
+mail_of_before = of_node 1 0 (Take 1 0 None (Mail 0 0))
 
 -- a drain that leaves the messages is refuted by the view of the second grant
 abbrev pub DrainLeavesMail : Type 0
-DrainLeavesMail = (image : ImageParts) → IsRefutedBy mail_left (machine 0 2 image) mail_of_before 1
+DrainLeavesMail = (image : ImageParts) → IsRefutedBy mail_left (machine 0 2 image) started_where_mail_was mail_of_before 1
 
 -- ---- a node's number added to the base
 
@@ -115,7 +120,7 @@ abbrev pub rank_added : Rules
 rank_added = record { changed = changed_by; answers = added_answers }
 
 -- three users have nodes 0, 1 and 2 of a machine of four. The second one gives node 1 back, and is granted a cube of the nodes 1
--- and 3. It has an image started at its node 1, which is node 3: the start is sent to node 2, and node 3 finds nothing
+-- and 3. It has an image started at its node 1, which is node 3: the start is sent to node 2
 abbrev pub start_astray : List Entry
 start_astray =
     of_host 0 (Getcube 0 (Some (sub_at 0 0)))
@@ -126,9 +131,12 @@ start_astray =
     ∷ of_host 1 (Getcube 1 (Some (sub_at 2 1)))
     ∷ of_host 1 (Spawn 0 0 (place 2 0) true)
     ∷ of_host 1 (Arm 10)
-    ∷ of_node 1 3 (Take 0 0 None Idle)
     ∷ []
+
+-- node 3 finds nothing
+abbrev pub nothing_found : Entry
+nothing_found = of_node 1 3 (Take 0 0 None Idle)
 
 -- a node's number that is added to the base is refuted by the view of the fourth grant
 abbrev pub RankAddedToBase : Type 0
-RankAddedToBase = (image : ImageParts) → IsRefutedBy rank_added (machine 2 3 image) start_astray 3
+RankAddedToBase = (image : ImageParts) → IsRefutedBy rank_added (machine 2 3 image) start_astray nothing_found 3

@@ -1,5 +1,5 @@
-//! Two machines with a wrong rule. Of each, a history that it makes is named, of which the view of one grant is no trace that its
-//! cube gives alone. The functions do nothing: a contract is the law.
+//! Two machines with a wrong rule. Of each a history is named that it makes, and a grant whose view is a trace that its cube
+//! gives alone up to the history's last entry, and none with it. The functions do nothing: a contract is the law.
 #![tactic(auto)]
 
 ghost use Rattle.ce_wrong.specs.Histories.{DrainLeavesMail, RankAddedToBase};
