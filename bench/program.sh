@@ -22,9 +22,9 @@ freecube' | head -n 100000; } > "$made/cubes"
 { echo "machine 2"; echo "$notes"; echo "user a"; echo "getcube 2"
   for pid in 0 1 2 3 4 5; do for node in 0 1 2 3; do echo "spawn notes $node $pid"; done; done
   echo "spawn notes 0 6"; echo "run 100"; } > "$made/notes"
-{ echo "machine 6"; echo "$notes"; echo "user a"; echo "getcube 6"
+{ echo "machine 6"; echo "image notes hex"; echo "00700893 00000073"; echo end; echo "user a"; echo "getcube 6"
   for node in $(seq 0 63); do for pid in 0 1 2 3 4 5 6 7; do echo "spawn notes $node $pid"; done; done
-  echo "run 0"; } > "$made/greatest"
+  echo "run 512"; } > "$made/greatest"
 
 timed() { # timed NAME TIMES WORD.. < SCRIPT
     name=$1 times=$2
