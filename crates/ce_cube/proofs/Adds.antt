@@ -12,7 +12,7 @@ use Rattle.ce_model.specs.Cube.{Cube, CubeState, opening, state, hoststore}
 use Rattle.ce_model.specs.Subcubes.{relative, node_of}
 use Rattle.ce_model.specs.Renaming.{number_outward, entry_inward}
 use Rattle.ce_model.specs.Views.{trace_behind, view}
-use Rattle.ce_model.specs.Machine.{MachineParts, IsMachine, HeldCube, IsLawful, IsLawfulEntry, Fits, IsCallOf, in_cube, answered, after, held_by, held_by_entry, with_cube, record_by, changed_by, changed_by_call, nodes_of, standing_of, with_places_outward, cube_of}
+use Rattle.ce_model.specs.Machine.{MachineParts, IsMachine, HeldCube, IsLawful, IsLawfulEntry, IsFitting, IsCallOf, in_cube, answered, after, held_by, held_by_entry, with_cube, record_by, changed_by, changed_by_call, nodes_of, standing_of, with_places_outward, cube_of}
 use Rattle.ce_model.proofs.Walked.{each-more}
 use Rattle.ce_model.proofs.OneMore.{state-more, hoststore-more}
 use Rattle.ce_solo.proofs.Projection.Views.{found-more, trace-grows, trace-stays, view-is}
@@ -27,11 +27,11 @@ use Rattle.ce_cube.specs.Laws.{CallsAdd, OthersKeep}
 use Rattle.ce_cube.proofs.Held.{seen, by_cube}
 
 -- the entry of a call that fits is lawful
-lawful_entry : (parts : MachineParts) (history : List Entry) (user actor : ℕ) (call : Call) (entry : Entry) → Fits parts history user actor (in_cube call)
+lawful_entry : (parts : MachineParts) (history : List Entry) (user actor : ℕ) (call : Call) (entry : Entry) → IsFitting parts history user actor (in_cube call)
     → entry.user ≡ user → entry.actor ≡ actor → answered parts (after history) user actor (in_cube call) ≡ Some entry.what → IsLawfulEntry parts history entry
 lawful_entry parts history user actor call entry fits user_is actor_is what = record {
   request = in_cube call;
-  fits = subst (λ u. Fits parts history u entry.actor (in_cube call)) (sym user_is) (subst (λ a. Fits parts history user a (in_cube call)) (sym actor_is) fits);
+  fits = subst (λ u. IsFitting parts history u entry.actor (in_cube call)) (sym user_is) (subst (λ a. IsFitting parts history user a (in_cube call)) (sym actor_is) fits);
   answer = subst (λ u. answered parts (after history) u entry.actor (in_cube call) ≡ Some entry.what) (sym user_is)
       (subst (λ a. answered parts (after history) user a (in_cube call) ≡ Some entry.what) (sym actor_is) what);
 }
@@ -56,7 +56,7 @@ state-other cube r t entry other = rw other at (state-more cube (opening cube) r
 
 module _ (parts : MachineParts) (history : List Entry) (machine : IsMachine parts) (lawful : IsLawful parts history) (cube : HeldCube)
     (holds : held_by (after history) cube.grant.user ≡ Some cube) (goes : cube.drained ≡ false) (actor : ℕ) (call : Call) (entry : Entry)
-    (fits : Fits parts history cube.grant.user actor (in_cube call)) (made : IsMadeBy parts history cube.grant actor call entry) where
+    (fits : IsFitting parts history cube.grant.user actor (in_cube call)) (made : IsMadeBy parts history cube.grant actor call entry) where
   abbrev h' : List Entry
   h' = history ++ entry ∷ []
 
@@ -123,7 +123,7 @@ module _ (parts : MachineParts) (history : List Entry) (machine : IsMachine part
 pub calls-add : CallsAdd
 calls-add parts history number grant machine lawful held actor call entry fits made =
     by_cube
-    (λ number grant. Fits parts history grant.user actor (in_cube call) → IsMadeBy parts history grant actor call entry
+    (λ number grant. IsFitting parts history grant.user actor (in_cube call) → IsMadeBy parts history grant actor call entry
     → IsOneMore parts history number grant entry) history number grant
     (λ cube holds goes fits made. one-more parts history machine lawful cube holds goes actor call entry fits made) held fits made
 

@@ -34,7 +34,7 @@ use Rattle.ce_solo.proofs.Made.{by_node}
 use Rattle.ce_solo.proofs.Projection.Numbers.{what_outward, out_node}
 use Rattle.ce_solo.proofs.Projection.Answers.{answer-outward}
 use Rattle.ce_solo.proofs.Projection.Calls.{call-in, made-within}
-use Rattle.ce_cube.specs.Boxes.{node_now, StandsFor, IsSaidBy, IsMadeBy, IsAnswered}
+use Rattle.ce_cube.specs.Boxes.{node_now, IsStandIn, IsSaidBy, IsMadeBy, IsAnswered}
 use Rattle.ce_cube.specs.Hearable.{IsInTurn, IsHearable, IsRightAnswer, calls_left_in, calls_left}
 use Rattle.ce_cube.specs.Laws.{BoxesCanHear, TurnsEnd}
 use Rattle.ce_cube.proofs.Held.{Seen, seen, by_cube}
@@ -125,7 +125,7 @@ turn-kept images rename node nodes standing r items takes_mail other = refl
 
 module _ (parts : MachineParts) (history : List Entry) (machine : IsMachine parts) (lawful : IsLawful parts history) (cube : HeldCube)
     (holds : held_by (after history) cube.grant.user ≡ Some cube) (goes : cube.drained ≡ false) (r : ℕ) (below : r < 2 ^ cube.grant.dim) (box : Node)
-    (stands : StandsFor cube.grant (node_now parts history cube.number cube.grant r) box) (entry : Entry)
+    (stands : IsStandIn cube.grant (node_now parts history cube.number cube.grant r) box) (entry : Entry)
     (made : IsMadeBy parts history cube.grant (node_of cube.grant.sub r) (says box).call entry) where
   abbrev now : Seen parts history cube
   now = seen parts history cube machine lawful holds goes
@@ -191,7 +191,7 @@ module _ (parts : MachineParts) (history : List Entry) (machine : IsMachine part
         ∙ turn-kept parts.images (block_outward cube.grant) (says box).node (node_numbers cube.grant.dim) s.standing r items call other
         ∙ ap (λ (node : Node). node.turn) said.at_rest
 
-    box_turn : asks_for_work call ≡ false → (box : Node) → StandsFor cube.grant (s.node r) box → box.turn ≡ (s.node r).turn
+    box_turn : asks_for_work call ≡ false → (box : Node) → IsStandIn cube.grant (s.node r) box → box.turn ≡ (s.node r).turn
     box_turn other box (inl same) = ap (λ (node : Node). node.turn) same
     box_turn other box (inr step) = absurd (both_ways _ other step.asks)
 
@@ -210,7 +210,7 @@ module _ (parts : MachineParts) (history : List Entry) (machine : IsMachine part
 pub boxes-can-hear : BoxesCanHear
 boxes-can-hear parts history number grant machine lawful held r box entry heard below stands made is =
     by_cube
-    (λ number grant. r < 2 ^ grant.dim → StandsFor grant (node_now parts history number grant r) box
+    (λ number grant. r < 2 ^ grant.dim → IsStandIn grant (node_now parts history number grant r) box
     → IsMadeBy parts history grant (node_of grant.sub r) (says box).call entry → IsAnswered history grant r entry.what heard
     → IsRightAnswer parts.images (says box) heard) history number grant
     (λ cube holds goes below stands made is. right-answer parts history machine lawful cube holds goes r below box stands entry made heard is) held below stands made is
@@ -218,7 +218,7 @@ boxes-can-hear parts history number grant machine lawful held r box entry heard 
 pub turns-end : TurnsEnd
 turns-end parts history number grant machine lawful held r box entry heard below stands made is =
     by_cube
-    (λ number grant. r < 2 ^ grant.dim → StandsFor grant (node_now parts history number grant r) box
+    (λ number grant. r < 2 ^ grant.dim → IsStandIn grant (node_now parts history number grant r) box
     → IsMadeBy parts history grant (node_of grant.sub r) (says box).call entry → IsAnswered history grant r entry.what heard
     → IsFalse (asks_for_work (says box).call) → calls_left (hears parts.images (says box).node (heard_as heard)) < calls_left box) history number grant
     (λ cube holds goes below stands made is. turn-ends parts history machine lawful cube holds goes r below box stands entry made heard is) held below stands made is

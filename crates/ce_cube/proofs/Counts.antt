@@ -24,7 +24,7 @@ use Rattle.rk_mail.specs.declared.talk.Heard.{Heard}
 use Rattle.rk_mail.specs.Talk.{IsGiven, heard_of_kill, IsHeardIn}
 use Rattle.ce_script.specs.Rounds.{is_take, is_dispatch, asks_for_work}
 use Rattle.ce_solo.proofs.Projection.Numbers.{relative_out}
-use Rattle.ce_cube.specs.Boxes.{node_now, StandsFor, IsMadeBy, IsAnswered}
+use Rattle.ce_cube.specs.Boxes.{node_now, IsStandIn, IsMadeBy, IsAnswered}
 use Rattle.ce_cube.specs.Rounds.{is_work_heard, dispatches_left, IsEntryOf}
 use Rattle.ce_cube.specs.Laws.{EntriesCount, StepsEndTurns}
 use Rattle.ce_cube.proofs.Held.{Seen, seen, by_cube, held-within}
@@ -110,7 +110,7 @@ call-takes nodes standing r user actor takes_mail = refl
 
 module _ (parts : MachineParts) (history : List Entry) (machine : IsMachine parts) (lawful : IsLawful parts history) (cube : HeldCube)
     (holds : held_by (after history) cube.grant.user ≡ Some cube) (goes : cube.drained ≡ false) (r : ℕ) (below : r < 2 ^ cube.grant.dim) (box : Node)
-    (stands : StandsFor cube.grant (node_now parts history cube.number cube.grant r) box) (entry : Entry)
+    (stands : IsStandIn cube.grant (node_now parts history cube.number cube.grant r) box) (entry : Entry)
     (made : IsMadeBy parts history cube.grant (node_of cube.grant.sub r) (says box).call entry) (heard : Heard)
     (is : IsAnswered history cube.grant r entry.what heard) where
   abbrev now : Seen parts history cube
@@ -166,7 +166,7 @@ module _ (parts : MachineParts) (history : List Entry) (machine : IsMachine part
 pub entries-count : EntriesCount
 entries-count parts history number grant machine lawful held r box entry heard below stands made is =
     by_cube
-    (λ number grant. r < 2 ^ grant.dim → StandsFor grant (node_now parts history number grant r) box
+    (λ number grant. r < 2 ^ grant.dim → IsStandIn grant (node_now parts history number grant r) box
     → IsMadeBy parts history grant (node_of grant.sub r) (says box).call entry → IsAnswered history grant r entry.what heard
     → IsEntryOf parts history number grant r (says box).call entry heard) history number grant
     (λ cube holds goes below stands made is. entry-of parts history machine lawful cube holds goes r below box stands entry made heard is) held below stands made is

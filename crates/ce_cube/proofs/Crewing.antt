@@ -191,28 +191,32 @@ or_count false false = omega arith
 pub still-sound : (m now : MachineFacts) (crew crew' : SerialCrew) (made : List Entry) → IsLawfulMachine m → HasGoneOn m now crew crew' made → IsLawfulMachine now
 still-sound m now crew crew' made sound on = record { within = subst IsMachine (sym on.parts) sound.within; lawful = on.lawful }
 
+-- a crew that has done nothing yet
+pub stands-still : (m : MachineFacts) (crew : SerialCrew) → IsLawfulMachine m → IsCrewInStep m.parts m.history crew → HasGoneOn m m crew crew []
+stands-still m crew sound step = record {
+  parts = refl;
+  history = sym (append-nil m.history);
+  lawful = sound.lawful;
+  calls = tt;
+  grant = refl;
+  trace = sym (append-nil (view m.history crew.grant.number));
+  in_step = step;
+}
+
 pub round-starts : (m : MachineFacts) (crew : SerialCrew) → IsLawfulMachine m → IsCrewInStep m.parts m.history crew → IsRoundUnderWay m m crew crew 0 false
 round-starts m crew sound step = record {
   made = [];
-  goes_on = record {
-    parts = refl;
-    history = sym (append-nil m.history);
-    lawful = sound.lawful;
-    calls = tt;
-    grant = refl;
-    trace = sym (append-nil (view m.history crew.grant.number));
-    in_step = step;
-  };
+  goes_on = stands-still m crew sound step;
   part = are-made.round_begins;
   works = refl;
   left = omega arith;
   host = refl;
 }
 
--- a turn of the crew as it was, by the grant that it still has
-gone-on : (m now now' : MachineFacts) (crew crew' crew'' : SerialCrew) (made turn : List Entry) → HasGoneOn m now crew crew' made → HasGoneOn now now' crew' crew'' turn
+-- what a crew did, and what it did behind that, by the grant that it still has
+pub gone-both : (m now now' : MachineFacts) (crew crew' crew'' : SerialCrew) (made turn : List Entry) → HasGoneOn m now crew crew' made → HasGoneOn now now' crew' crew'' turn
     → HasGoneOn m now' crew crew'' (made ++ turn)
-gone-on m now now' crew crew' crew'' made turn on next =
+gone-both m now now' crew crew' crew'' made turn on next =
     let inner = entry_inward crew.grant.sub in
     record {
       parts = next.parts ∙ on.parts;
@@ -236,7 +240,7 @@ round-goes_on m now now' crew crew' crew'' r work more way taken =
     subst (λ (g : Grant). left_in now' g + (if more then 1 else 0) ≡ left_in now g) way.goes_on.grant taken.left in
     record {
       made = way.made ++ taken.turn;
-      goes_on = gone-on m now now' crew crew' crew'' way.made taken.turn way.goes_on taken.goes_on;
+      goes_on = gone-both m now now' crew crew' crew'' way.made taken.turn way.goes_on taken.goes_on;
       part = subst (IsPartOfRound (r + 1)) (sym split)
           (are-made.round_goes_on r (map inner way.made) (map inner taken.turn) way.part
           (subst (λ (g : Grant). IsTurn r (map (entry_inward g.sub) taken.turn)) way.goes_on.grant taken.is_turn));

@@ -1,5 +1,5 @@
 -- What the machine's answer to a call of a box makes of the machine and of the box.
-use Rattle.std.proofs.Common.{◌≡◌, inl, ◌==◌, ℕ, ◌+◌, ◌*◌, ◌^◌, ◌<◌, ◌≤◌, false, List, [], ◌∷◌, ◌++◌, length, Option, Some, None, IsTrue, IsFalse, IsSomeAnd, option_map, slice_get, refl, ap, sym, ◌∙◌, subst, arith}
+use Rattle.std.proofs.Common.{◌≡◌, inl, ◌==◌, ℕ, ◌^◌, ◌<◌, ◌≤◌, false, List, [], ◌∷◌, ◌++◌, length, Option, Some, None, IsTrue, IsFalse, IsSomeAnd, option_map, slice_get, refl, ap, sym, ◌∙◌, subst, arith}
 use Rattle.std.specs.List.{Contains}
 use Rattle.std.specs.Prelude.{is_some}
 use Rattle.std.proofs.lemmas.Bool.{eq-eqb, ne_eqb, both_ways}
@@ -9,7 +9,7 @@ use Rattle.ce_model.specs.declared.process.Status.TheVariants.{Unborn, Running, 
 use Rattle.ce_model.specs.declared.entry.Entry.{Entry}
 use Rattle.ce_model.specs.declared.entry.What.{What}
 use Rattle.ce_model.specs.declared.entry.What.TheVariants as entry
-use Rattle.ce_model.specs.Limits.{greatest_dim, greatest_nodes_lem, home_blocks}
+use Rattle.ce_model.specs.Limits.{greatest_dim, greatest_nodes_lem, greatest_blocks}
 use Rattle.ce_model.specs.Parcels.{Item, mail, is_eligible}
 use Rattle.ce_model.specs.Process.{is_receiving, is_stopped}
 use Rattle.ce_model.specs.Answers.{answer, call_of}
@@ -23,7 +23,7 @@ use Rattle.ce_model.specs.Node.{Node, Call, process_at, blocks_of, ids_of}
 use Rattle.ce_model.specs.Saying.{says}
 use Rattle.ce_model.specs.Sound.{is_unborn}
 use Rattle.ce_model.specs.Renaming.{CubeGrant}
-use Rattle.ce_model.specs.Machine.{MachineParts, MachineState, Fits, held_by, in_cube, after, answered, HeldCube, nodes_of, standing_of, with_places_outward}
+use Rattle.ce_model.specs.Machine.{MachineParts, MachineState, IsFitting, held_by, in_cube, after, answered, HeldCube, nodes_of, standing_of, with_places_outward}
 use Rattle.ce_daemon.specs.declared.grant.Grant.{Grant}
 use Rattle.rk_mail.specs.declared.talk.Heard.{Heard}
 use Rattle.rk_mail.specs.declared.talk.Heard.TheVariants as heard
@@ -32,15 +32,14 @@ use Rattle.rk_mail.specs.Talk.{IsHeardIn, IsAnswerTo, call_said, heard_as}
 use Rattle.rk_node.specs.Boxes.{Box}
 use Rattle.rk_node.specs.declared.out.Out.TheVariants.{Nothing}
 use Rattle.rk_node.proofs.Names.{not_contained}
-use Rattle.rk_node.specs.Answering.{CanHear, IsWork}
-use Rattle.ce_host.specs.Hosts.{host_room}
+use Rattle.rk_node.specs.Answering.{IsAbleToHear, IsWork}
 use Rattle.ce_machine.specs.declared.call.Reply.{Reply}
 use Rattle.ce_machine.specs.declared.call.Reply.TheVariants.{Heard as ReplyHeard}
 use Rattle.ce_machine.specs.Replies.{IsReplyTo, IsHeard, OfHeldCube, items_for, found_reply}
 use Rattle.ce_model.specs.declared.entry.Found.{Found}
 use Rattle.ce_model.specs.declared.entry.Found.TheVariants.{Quiet, Spent, Busy}
 use Rattle.ce_machine.specs.declared.call.Call.TheVariants.{Say as SaySaid}
-use Rattle.ce_machine.specs.Meanings.{MachineFacts, Stands}
+use Rattle.ce_machine.specs.Meanings.{MachineFacts, IsAnsweredBy}
 use Rattle.ce_lock.specs.declared.who.Who.{Who}
 use Rattle.rk_mail.specs.declared.talk.Say.{Say}
 use Rattle.rk_mail.specs.declared.talk.Say.TheVariants as say
@@ -92,10 +91,6 @@ heard-reply home clean parts state user actor (entry.Kill pid to found) heard is
 heard-reply home clean parts state user actor (entry.Note pid word) heard is = is
 heard-reply home clean parts state user actor (entry.Take asking dead poller given) heard is = is
 
-room_is : host_room ≡ (2 ^ greatest_dim + 1) * home_blocks
-unfolding host_room
-room_is = refl
-
 -- to what was said the machine replies by letting hear
 heard-by : {N : Type 0} (held : Option HeldCube) (items : HeldCube → List Item) (what : What) (reply : Reply N)
     → IsSomeAnd held (λ cube. IsHeard (items cube) what reply) → (heard : Heard) × (reply ≡ ReplyHeard heard)
@@ -131,7 +126,7 @@ born-is : (status : Status) → is_unborn status ≡ false → ¬ (status ≡ Un
 born-is status born e = absurd (both_ways (is_unborn status) born (ap is_unborn e))
 
 -- a box can hear what its node can
-can-work : (images : List ImageParts) (box : Box) (node : Node) (heard : Heard) → box.node ≡ node → (2 ^ greatest_dim + 1) * home_blocks ≤ box.room
+can-work : (images : List ImageParts) (box : Box) (node : Node) (heard : Heard) → box.node ≡ node → greatest_blocks ≤ box.room
     → IsHearable images node (heard_as heard) → IsWork images box heard
 can-work images box node (heard.Start pid image) same room is =
     (is.pid_within, ap (λ (node : Node). (process_at node pid).status) same ∙ unborn-is (process_at node pid).status is.unborn, is.image_within)
@@ -178,8 +173,8 @@ module _ (m : MachineFacts) (grant : Grant) (r : ℕ) (node : HasNode m grant r)
   said = boxes-say m.parts m.history grant.number cg node.sound.within node.sound.lawful node.held r box.node node.within called.before.stands
 
   -- the call fits
-  pub call-fits : Fits m.parts m.history grant.user (node_of grant.sub r) (in_cube call)
-  call-fits = subst (λ call. Fits m.parts m.history grant.user (node_of grant.sub r) (in_cube call)) (sym called.call_is) said.fits
+  pub call-fits : IsFitting m.parts m.history grant.user (node_of grant.sub r) (in_cube call)
+  call-fits = subst (λ call. IsFitting m.parts m.history grant.user (node_of grant.sub r) (in_cube call)) (sym called.call_is) said.fits
 
   -- the box has as many images as the machine
   pub images-are : box'.node.images ≡ length m.parts.images
@@ -218,12 +213,12 @@ module _ (m : MachineFacts) (grant : Grant) (r : ℕ) (node : HasNode m grant r)
     right : IsRightAnswer m.parts.images (says box.node) heard
     right = boxes-can-hear m.parts m.history grant.number cg node.sound.within node.sound.lawful node.held r box.node made heard node.within called.before.stands is-made reply
 
-    pub can-hear : CanHear m.parts.images box' heard
+    pub can-hear : IsAbleToHear m.parts.images box' heard
     can-hear = record {
       call = call;
       said = called.said;
       answer = subst (λ call. IsAnswerTo call heard) (sym called.call_is) right.answers;
-      work = can-work m.parts.images box' (says box.node).node heard called.node (omega (arith, called.room, called.before.ready.room, room_is)) right.hearable;
+      work = can-work m.parts.images box' (says box.node).node heard called.node (omega (arith, called.room, called.before.ready.room)) right.hearable;
     }
 
     -- what the exchange came to
@@ -274,7 +269,7 @@ module _ (m : MachineFacts) (grant : Grant) (r : ℕ) (node : HasNode m grant r)
 
   -- the machine lets hear in reply to what was said
   pub stands-heard : {N : Type 0} (home : N → ℕ) (clean : N → Type 0) (said : Say) → call ≡ call_said said → (entry : Entry) (actor : ℕ) (reply : Reply N)
-      → Stands home clean m.parts m.history entry (record { family = grant.user; actor = actor }) (SaySaid said) reply → (heard : Heard) × (reply ≡ ReplyHeard heard)
+      → IsAnsweredBy home clean m.parts m.history entry (record { family = grant.user; actor = actor }) (SaySaid said) reply → (heard : Heard) × (reply ≡ ReplyHeard heard)
   stands-heard home clean said is_said entry actor reply stands =
       let cube = node.held.cube in
       said-heard home clean m.parts (after m.history) grant.user actor (nodes_of cube.grant) (standing_of (after m.history) cube) cube.grant said reply
@@ -284,7 +279,7 @@ module _ (m : MachineFacts) (grant : Grant) (r : ℕ) (node : HasNode m grant r)
 
   -- the same, of the entry that stands for the call
   module _ {N : Type 0} (home : N → ℕ) (clean : N → Type 0) (said : Say) (is_said : call ≡ call_said said) (heard : Heard) (entry : Entry) (actor : ℕ) (at : actor ≡ node_of grant.sub r)
-      (stands : Stands {N = N} home clean m.parts m.history entry (record { family = grant.user; actor = actor }) (SaySaid said) (ReplyHeard heard)) where
+      (stands : IsAnsweredBy {N = N} home clean m.parts m.history entry (record { family = grant.user; actor = actor }) (SaySaid said) (ReplyHeard heard)) where
     answers : answered m.parts (after m.history) grant.user (node_of grant.sub r) (in_cube call) ≡ Some entry.what
     answers =
         subst (λ actor. answered m.parts (after m.history) grant.user actor (in_cube call) ≡ Some entry.what) at
@@ -295,7 +290,7 @@ module _ (m : MachineFacts) (grant : Grant) (r : ℕ) (node : HasNode m grant r)
         subst (λ actor. OfHeldCube (after m.history) grant.user (λ cube. IsHeardIn (items_for (after m.history) cube actor) entry.what heard)) at
         (heard-reply {N = N} home clean m.parts (after m.history) grant.user actor entry.what heard stands.reply_is)
 
-    pub stands-hear : CanHear m.parts.images box' heard
+    pub stands-hear : IsAbleToHear m.parts.images box' heard
     stands-hear = can-hear entry.what heard answers reply
 
     entry-is : entry ≡ made entry.what heard answers reply

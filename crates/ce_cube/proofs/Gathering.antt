@@ -12,7 +12,7 @@ use Rattle.ce_model.specs.Blocks.{Block, precedes, put, put_all, blocks_of_home}
 use Rattle.ce_solo.proofs.Counting.{hit, hit-self, count, count-cons, count-append, count-put_all}
 use Rattle.xm_block.specs.Stores.{Kept, ids_of}
 use Rattle.rk_node.specs.Hearings.{AreApartFrom}
-use Rattle.ce_cube.specs.Homecoming.{BeginsWith}
+use Rattle.ce_cube.specs.Homecoming.{HasPrefix}
 
 -- ---- a list whose first elements were changed
 
@@ -89,7 +89,7 @@ module _ {X : Type 0} (has : X → List BlockId) (xs : List X) (i : ℕ) (d : X)
 
   -- ---- a list that begins with what they have
 
-  begins-part : (a b c ids : List BlockId) → BeginsWith (a ++ (b ++ c)) ids → BeginsWith b (drop (length a) ids)
+  begins-part : (a b c ids : List BlockId) → HasPrefix (a ++ (b ++ c)) ids → HasPrefix b (drop (length a) ids)
   begins-part a b c ids begins =
       let n : ℕ = length (a ++ (b ++ c)) in
       let r : List BlockId = drop n ids in
@@ -98,10 +98,10 @@ module _ {X : Type 0} (has : X → List BlockId) (xs : List X) (i : ℕ) (d : X)
       ap (λ zs. take (length b) (drop (length a) zs)) whole ∙ ap (take (length b)) (drop_at a (b ++ (c ++ r)) (length a) refl)
       ∙ take_at b (c ++ r) (length b) refl
 
-  pub next-begins : (first ids : List BlockId) → ids ≡ drop (length before) first → BeginsWith (flat_map has xs) first → BeginsWith (has x) ids
+  pub next-begins : (first ids : List BlockId) → ids ≡ drop (length before) first → HasPrefix (flat_map has xs) first → HasPrefix (has x) ids
   next-begins first ids so_far begins =
-      subst (BeginsWith (has x)) (sym so_far)
-      (begins-part before (has x) (flat_map has (drop (i + 1) xs)) first (subst (λ zs. BeginsWith zs first) flat-split begins))
+      subst (HasPrefix (has x)) (sym so_far)
+      (begins-part before (has x) (flat_map has (drop (i + 1) xs)) first (subst (λ zs. HasPrefix zs first) flat-split begins))
 
   pub rest-more : (n : ℕ) (first ids ids' : List BlockId) → n ≡ length (has x) → ids ≡ drop (length before) first → ids' ≡ drop n ids
       → ids' ≡ drop (length (flat_map has (take (i + 1) xs))) first
@@ -179,7 +179,7 @@ next-new home n (k, low, same) =
     absurd (omega (arith, low, length-names home n, ap (λ (id : BlockId). id.index) e))
 
 -- a store that begins with the blocks of a home has the next one first
-pub next-first : (home i : ℕ) (ids : List BlockId) → BeginsWith (blocks_of_home home) ids → i < home_blocks → drop i ids ≡ name_at home i ∷ drop (i + 1) ids
+pub next-first : (home i : ℕ) (ids : List BlockId) → HasPrefix (blocks_of_home home) ids → i < home_blocks → drop i ids ≡ name_at home i ∷ drop (i + 1) ids
 next-first home i ids begins less =
     let names : List BlockId = first_names home home_blocks in
     let front : take (length names) ids ≡ names =

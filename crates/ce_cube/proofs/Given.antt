@@ -2,7 +2,7 @@
 use Rattle.std.proofs.Common.{◌≡◌, ℕ, ◌+◌, ◌*◌, ◌^◌, ◌<◌, ◌≤◌, Bool, true, false, ◌||◌, [], ◌∷◌, find, length, count_by, slice_get, Option, Some, None, refl, ap, sym, ◌∙◌, subst, inl, inr, arith, pow_mono}
 use Rattle.std.proofs.lemmas.Bool.{or_cases}
 use Rattle.ce_model.specs.declared.topology.BlockId.{BlockId}
-use Rattle.ce_model.specs.Limits.{greatest_dim, home_blocks, home_blocks_lem, process_count}
+use Rattle.ce_model.specs.Limits.{greatest_dim, home_blocks_lem, process_count, greatest_blocks, greatest_blocks_lem, greatest_nodes_lem}
 use Rattle.ce_model.specs.Blocks.{is_same_id}
 use Rattle.ce_model.specs.Parcels.{Parcel, Item, start, mail, kill, is_member, is_eligible, given_as}
 use Rattle.ce_model.specs.Process.{is_receiving, is_stopped}
@@ -77,12 +77,12 @@ module _ (cube : Cube) (s : CubeState) (r : ℕ) (of : IsCube cube) (below : r <
       let id = parcel.block.id in
       omega (arith, count-is id (blocks_of now), once_with parcel id found, total-le cube s id sound, count-cons id id (blocks_of now), hit-self id)
 
-  room_left : (parcel : Parcel) → IsFirst (mail parcel) → length (blocks_of now) < (2 ^ greatest_dim + 1) * home_blocks
+  room_left : (parcel : Parcel) → IsFirst (mail parcel) → length (blocks_of now) < greatest_blocks
   room_left parcel found =
       let few = few-blocks cube (parcel.block.id ∷ blocks_of now) of (held_blocks cube s (parcel.block.id ∷ blocks_of now) sound (λ id. once_with parcel id found))
       (λ id. omega (arith, once_with parcel id found, total-le cube s id sound)) in
       let more : 2 ^ cube.dim ≤ 2 ^ greatest_dim = pow_mono of.dim in
-      omega (arith, few, more, ap (λ n. (2 ^ cube.dim + 1) * n) home_blocks_lem, ap (λ n. (2 ^ greatest_dim + 1) * n) home_blocks_lem)
+      omega (arith, few, more, ap (λ n. (2 ^ cube.dim + 1) * n) home_blocks_lem, greatest_nodes_lem, greatest_blocks_lem)
 
   asking_is : asking ≡ ids_of is_receiving now.processes
   asking_is = ap (λ call. elim call [ takes a d p ↦ a | other ↦ 0 ]) said.of_node.0

@@ -16,7 +16,7 @@ use Rattle.ce_model.proofs.OneMore.{state-more}
 use Rattle.rk_mail.specs.declared.talk.Heard.{Heard}
 use Rattle.rk_mail.specs.Talk.{heard_as, IsHeardIn}
 use Rattle.ce_solo.proofs.Projection.Numbers.{relative_out}
-use Rattle.ce_cube.specs.Boxes.{node_now, StandsFor, IsMadeBy, IsAnswered}
+use Rattle.ce_cube.specs.Boxes.{node_now, IsStandIn, IsMadeBy, IsAnswered}
 use Rattle.ce_cube.specs.Laws.{BoxesHear}
 use Rattle.ce_cube.proofs.Held.{Seen, seen, by_cube}
 use Rattle.ce_cube.proofs.Seats.{rest-hears, parcel-blocks}
@@ -32,7 +32,7 @@ state-own cube r t entry own = rw own at (state-more cube (opening cube) r t ent
 
 module _ (parts : MachineParts) (history : List Entry) (machine : IsMachine parts) (lawful : IsLawful parts history) (cube : HeldCube)
     (holds : held_by (after history) cube.grant.user ≡ Some cube) (goes : cube.drained ≡ false) (r : ℕ) (below : r < 2 ^ cube.grant.dim) (box : Node)
-    (stands : StandsFor cube.grant (node_now parts history cube.number cube.grant r) box) where
+    (stands : IsStandIn cube.grant (node_now parts history cube.number cube.grant r) box) where
   abbrev now : Seen parts history cube
   now = seen parts history cube machine lawful holds goes
 
@@ -69,7 +69,7 @@ module _ (parts : MachineParts) (history : List Entry) (machine : IsMachine part
 pub boxes-hear : BoxesHear
 boxes-hear parts history number grant machine lawful held r box entry heard below stands made is =
     by_cube
-    (λ number grant. r < 2 ^ grant.dim → StandsFor grant (node_now parts history number grant r) box
+    (λ number grant. r < 2 ^ grant.dim → IsStandIn grant (node_now parts history number grant r) box
     → IsMadeBy parts history grant (node_of grant.sub r) (says box).call entry → IsAnswered history grant r entry.what heard
     → hears parts.images (says box).node (heard_as heard) ≡ node_outward grant (node_now parts (history ++ entry ∷ []) number grant r)) history number grant
     (λ cube holds goes below stands made is. hears-own parts history machine lawful cube holds goes r below box stands entry heard made is) held below stands made is

@@ -8,7 +8,7 @@ use Rattle.ce_model.specs.declared.topology.BlockId.{BlockId}
 use Rattle.ce_model.specs.declared.topology.Place.{Place}
 use Rattle.ce_model.specs.declared.entry.Entry.{Entry}
 use Rattle.ce_model.specs.declared.entry.What.TheVariants.{HostTake, Send, Arm}
-use Rattle.ce_model.specs.Limits.{greatest_dim, home_blocks, home_blocks_lem, block_room, greatest_count}
+use Rattle.ce_model.specs.Limits.{greatest_dim, home_blocks, home_blocks_lem, block_room, greatest_count, greatest_blocks_lem, greatest_nodes_lem}
 use Rattle.ce_model.specs.Blocks.{put, is_same_id, without_id}
 use Rattle.ce_model.specs.Parcels.{Parcel, Item, start, mail, kill}
 use Rattle.ce_model.specs.Node.{Node, Call, takes, sends, spawns, kills, notes, arms, looks, takes_mail, is_place}
@@ -20,7 +20,7 @@ use Rattle.ce_model.specs.Owners.{IsBlockOf}
 use Rattle.ce_model.specs.Subcubes.{relative}
 use Rattle.ce_model.specs.Renaming.{CubeGrant, place_inward, block_inward, place_outward, block_outward, what_renamed, call_with, parcel_with, entry_inward, node_outward}
 use Rattle.ce_model.specs.Views.{view}
-use Rattle.ce_model.specs.Machine.{MachineParts, IsMachine, HeldCube, IsLawful, IsWithinLimits, Fits, IsCallOf, HoldsCube, in_cube, after, held_by, cube_of, MachineState, IsLawfulEntry, drain, freecube}
+use Rattle.ce_model.specs.Machine.{MachineParts, IsMachine, HeldCube, IsLawful, IsWithinLimits, IsFitting, IsCallOf, HasHeldCube, in_cube, after, held_by, cube_of, MachineState, IsLawfulEntry, drain, freecube}
 use Rattle.ce_model.proofs.OneMore.{hoststore-more, armed-more, dispatched-more}
 use Rattle.ce_model.proofs.AloneByEntries.{asked_by-host_call}
 use Rattle.ce_solo.proofs.Counting.{same_id-self, hit, hit-self, hit-le, same_from_hit, count, count-cons, count-is}
@@ -113,7 +113,7 @@ module _ (parts : MachineParts) (history : List Entry) (machine : IsMachine part
   store-blocks = held_blocks own s s.hoststore now.stands.sound (λ id. omega (arith, total-is id cube.grant.dim s))
 
   fits-by : (asked : HostCall) (call : Call) → host_call own s.hoststore asked ≡ Some call → IsWithinLimits call
-      → Fits parts history cube.grant.user HOST (in_cube (call_with out call))
+      → IsFitting parts history cube.grant.user HOST (in_cube (call_with out call))
   fits-by asked call e within =
       let was = (projected parts history machine lawful).held cube.grant.user cube holds in
       let host = relative_host parts.dim cube.grant now.placed in
@@ -164,7 +164,7 @@ module _ (parts : MachineParts) (history : List Entry) (machine : IsMachine part
 
   -- ---- it gives its cube back
 
-  drain-fits : Fits parts history cube.grant.user HOST drain
+  drain-fits : IsFitting parts history cube.grant.user HOST drain
   drain-fits =
       let was = (projected parts history machine lawful).held cube.grant.user cube holds in (
         user-within parts history cube.number cube.grant was.behind lawful was.found,
@@ -176,8 +176,8 @@ module _ (parts : MachineParts) (history : List Entry) (machine : IsMachine part
       ap (λ (state : MachineState). held_by state cube.grant.user) (after-more history (drain_entry cube.grant))
       ∙ held-own cube.grant.user (λ one. record one { drained = true; mail = [] }) (λ one. refl) (λ one node kept. record kept { waiting = [] }) (after history) cube holds
 
-  drains-fit : Fits parts history cube.grant.user HOST drain × IsLawful parts (history ++ drain_entry cube.grant ∷ [])
-      × Fits parts (history ++ drain_entry cube.grant ∷ []) cube.grant.user HOST freecube
+  drains-fit : IsFitting parts history cube.grant.user HOST drain × IsLawful parts (history ++ drain_entry cube.grant ∷ [])
+      × IsFitting parts (history ++ drain_entry cube.grant ∷ []) cube.grant.user HOST freecube
   drains-fit = (
     drain-fits,
     each-more (IsLawfulEntry parts) history (drain_entry cube.grant) lawful (record { request = drain; fits = drain-fits; answer = refl }),
@@ -238,7 +238,7 @@ module _ (parts : MachineParts) (history : List Entry) (machine : IsMachine part
             omega (arith, count-outward parts.dim cube.grant now.placed id s.hoststore own-blocks.0 own-blocks.1, count-is id s.hoststore, once_with id, total-le own s id now.stands.sound, count-cons id id s.hoststore, hit-self id);
         room =
             let more : 2 ^ cube.grant.dim ≤ 2 ^ greatest_dim = pow_mono now.of.dim in
-            omega (arith, few, more, ap (λ n. (2 ^ cube.grant.dim + 1) * n) home_blocks_lem, ap (λ n. (2 ^ greatest_dim + 1) * n) home_blocks_lem);
+            omega (arith, few, more, ap (λ n. (2 ^ cube.grant.dim + 1) * n) home_blocks_lem, greatest_nodes_lem, greatest_blocks_lem);
         stored =
             ap (map out) (store-next take_message takes_mail refl tt entry made
             ∙ ap (λ what. stored_by items s.hoststore (what_renamed (place_inward cube.grant.sub) (block_inward cube.grant.sub) what)) what
@@ -252,7 +252,7 @@ module _ (parts : MachineParts) (history : List Entry) (machine : IsMachine part
     take-next parcel (Some own) is e =
         subst (IsAccepted parts history cube.number cube.grant entry) (ap (λ found. elim found [ None ↦ parcel | Some p ↦ p ]) e) (accepted own is)
 
-    taken-next : (parcel : Parcel) → HoldsCube history cube.grant.user (λ cube. parcel_numbered number cube.mail ≡ Some parcel)
+    taken-next : (parcel : Parcel) → HasHeldCube history cube.grant.user (λ cube. parcel_numbered number cube.mail ≡ Some parcel)
         → IsAccepted parts history cube.number cube.grant entry parcel
     taken-next parcel is =
         let here = subst (λ held. IsSomeAnd held (λ one. parcel_numbered number one.mail ≡ Some parcel)) holds is in
@@ -262,7 +262,7 @@ pub hosts-fit : HostsFit
 hosts-fit parts history number grant machine lawful held asked call is within =
     by_cube
     (λ number grant. host_call (cube_of parts.images grant) (store_now parts history number grant) asked ≡ Some call
-    → Fits parts history grant.user HOST (in_cube (call_with (block_outward grant) call))) history number grant
+    → IsFitting parts history grant.user HOST (in_cube (call_with (block_outward grant) call))) history number grant
     (λ cube holds goes is. fits-by parts history machine lawful cube holds goes asked call is within) held is
 
 pub hosts-send : HostsSend
@@ -276,7 +276,7 @@ hosts-send parts history number grant machine lawful held to id bytes entry leas
 pub hosts-take : HostsTake
 hosts-take parts history number grant machine lawful held number' parcel entry made what is =
     by_cube
-    (λ number grant. IsMadeBy parts history grant HOST takes_mail entry → HoldsCube history grant.user (λ cube. parcel_numbered number' cube.mail ≡ Some parcel)
+    (λ number grant. IsMadeBy parts history grant HOST takes_mail entry → HasHeldCube history grant.user (λ cube. parcel_numbered number' cube.mail ≡ Some parcel)
     → IsAccepted parts history number grant entry parcel) history number grant
     (λ cube holds goes made is. taken-next parts history machine lawful cube holds goes number' entry made what parcel is) held made is
 
@@ -289,6 +289,6 @@ arms-allow parts history number grant machine lawful held count entry within mad
 pub drains-fit-held : DrainsFit
 drains-fit-held parts history number grant machine lawful held =
     by_cube
-    (λ number grant. Fits parts history grant.user HOST drain × IsLawful parts (history ++ drain_entry grant ∷ [])
-    × Fits parts (history ++ drain_entry grant ∷ []) grant.user HOST freecube) history number grant
+    (λ number grant. IsFitting parts history grant.user HOST drain × IsLawful parts (history ++ drain_entry grant ∷ [])
+    × IsFitting parts (history ++ drain_entry grant ∷ []) grant.user HOST freecube) history number grant
     (λ cube holds goes. drains-fit parts history machine lawful cube holds goes) held

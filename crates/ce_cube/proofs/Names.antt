@@ -1,12 +1,12 @@
 -- What a node can hear, the box that stands for it can hear with the machine's names.
-use Rattle.std.proofs.Common.{◌≡◌, ℕ, ◌+◌, ◌*◌, ◌^◌, ◌<◌, Bool, true, false, List, [], ◌∷◌, ◌++◌, map, flat_map, length, count_by, if◌then◌else◌, refl, ap, ap₂, sym, ◌∙◌, subst, inl, inr, arith}
+use Rattle.std.proofs.Common.{◌≡◌, ℕ, ◌<◌, Bool, true, false, List, [], ◌∷◌, ◌++◌, map, flat_map, length, count_by, if◌then◌else◌, refl, ap, ap₂, sym, ◌∙◌, subst, inl, inr, arith}
 use Rattle.std.specs.List.{AllByRecursion}
 use Rattle.std.proofs.lemmas.Bool.{cases_Bool, both_ways}
 use Rattle.std.proofs.lemmas.List.{map-append, length-map}
 use Rattle.rv_model.specs.Image.{ImageParts}
 use Rattle.ce_model.specs.declared.topology.BlockId.{BlockId}
 use Rattle.ce_model.specs.declared.process.Status.{Status}
-use Rattle.ce_model.specs.Limits.{greatest_dim, home_blocks}
+use Rattle.ce_model.specs.Limits.{greatest_blocks}
 use Rattle.ce_model.specs.Blocks.{is_same_id}
 use Rattle.ce_model.specs.Parcels.{Parcel, mail, is_eligible}
 use Rattle.ce_model.specs.Process.{Process, is_receiving, is_stopped}
@@ -100,7 +100,7 @@ module _ (dim : ℕ) (grant : CubeGrant) (placed : IsPlaced dim grant) where
       eligible = can_be_given parcel ∙ is.eligible;
       new = ap (count_by (is_same_id (block_outward grant parcel.block.id))) (blocks-outward grant node)
           ∙ count-outward parcel.block.id (blocks_of node) of blocks ∙ is.new;
-      room = subst (λ n. n < (2 ^ greatest_dim + 1) * home_blocks) (sym (ap length (blocks-outward grant node) ∙ length-map (blocks_of node) (block_outward grant))) is.room;
+      room = subst (λ n. n < greatest_blocks) (sym (ap length (blocks-outward grant node) ∙ length-map (blocks_of node) (block_outward grant))) is.room;
       between_turns = is.between_turns;
     }
     hearable-outward images (kill_of pid) of is = record {

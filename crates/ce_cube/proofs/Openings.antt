@@ -16,7 +16,6 @@ use Rattle.ce_model.specs.Machine.{MachineParts, cube_of}
 use Rattle.ce_model.specs.Views.{view}
 use Rattle.ce_daemon.specs.Boxes.{AreBoxesOf}
 use Rattle.ce_daemon.specs.declared.grant.Grant.{Grant}
-use Rattle.ce_host.specs.Hosts.{host_room}
 use Rattle.rk_node.specs.Boxes.{Box, IsClean, fresh_at}
 use Rattle.ce_cube.specs.Boxes.{IsInStep, node_now}
 use Rattle.ce_cube.specs.Crews.{box_at, IsReady, AreBoxesInStep, cube_grant}
@@ -90,7 +89,6 @@ module _ (grant : Grant) (parts : MachineParts) (history : List Entry) (images :
   entered-at r below = each r (box_at [] r) (omega (arith, below, clean.all))
 
   ready : (r : ℕ) → r < 2 ^ grant.dim → IsReady (box_at now r)
-  unfolding host_room
   ready r below =
       let was : IsClean (box_at boxes r) = (clean.each r (box_at [] r) below).1 in
       subst IsReady (sym (entered-at r below)) (record { idle = was.out; room = was.room })

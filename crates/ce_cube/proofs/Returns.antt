@@ -5,7 +5,7 @@ use Rattle.std.proofs.lemmas.List.{get_or_default, get_or-map, length-append, le
 use Rattle.std.proofs.lemmas.List.Folds.{flat_map-map}
 use Rattle.std.proofs.lemmas.List.FromFn.{fill_by_all}
 use Rattle.ce_model.specs.declared.topology.BlockId.{BlockId}
-use Rattle.ce_model.specs.Limits.{greatest_dim, home_blocks, home_blocks_lem, host_home, process_count}
+use Rattle.ce_model.specs.Limits.{greatest_dim, home_blocks, home_blocks_lem, host_home, process_count, greatest_blocks, greatest_blocks_lem}
 use Rattle.ce_model.specs.Blocks.{Block, precedes, put_all, blocks_of_home}
 use Rattle.ce_model.specs.Process.{unborn}
 use Rattle.ce_model.specs.Space.{mapped_ids}
@@ -22,13 +22,12 @@ use Rattle.ce_solo.proofs.Projection.Numbers.{IsPlaced}
 use Rattle.xm_block.specs.Rising as rising
 use Rattle.xm_block.specs.Stores.{Kept, ids_of, is_before}
 use Rattle.ce_daemon.specs.Boxes.{AreBoxes}
-use Rattle.ce_host.specs.Hosts.{host_room, host_room_lem}
 use Rattle.ce_host.specs.declared.host.Host.{Host}
 use Rattle.rk_node.specs.Boxes.{Box, IsClean}
 use Rattle.rk_node.specs.Hearings.{AreApartFrom}
-use Rattle.ce_cube.specs.Crews.{box_at, HoldAllBlocks, IsHostAtHome}
+use Rattle.ce_cube.specs.Crews.{box_at, HasAllBlocks, IsHostAtHome}
 use Rattle.ce_cube.specs.Rehoming.{is_block_of, AreAllBlocks}
-use Rattle.ce_cube.specs.Homecoming.{IsIdle, IsEmptied, names_in_boxes, emptied_box, refilled_box, names_at_home, BeginsWith}
+use Rattle.ce_cube.specs.Homecoming.{IsIdle, IsEmptied, names_in_boxes, emptied_box, refilled_box, names_at_home, HasPrefix}
 use Rattle.ce_cube.proofs.Homes.{names_of_cube, length-cube, length-whole, whole-store}
 
 -- ---- lists by index
@@ -66,8 +65,7 @@ no_windows : (n : ℕ) → flat_map (λ p. mapped_ids p.space) (replicate n unbo
 no_windows zero = refl
 no_windows (suc n) = no_windows n
 
-clean : (box : Box) → IsIdle box → host_room ≤ box.room → IsClean (refilled_box (emptied_box box))
-unfolding host_room
+clean : (box : Box) → IsIdle box → greatest_blocks ≤ box.room → IsClean (refilled_box (emptied_box box))
 clean box idle room = record { node = refl; out = idle; room = room }
 
 -- a subcube of a machine is one of the greatest
@@ -83,7 +81,7 @@ placed-sub dim grant placed =
 
 -- ---- a cube that is given back
 
-module _ (grant : CubeGrant) (boxes : List Box) (host : Host) (drained : List Block) (holds : HoldAllBlocks grant boxes host drained) where
+module _ (grant : CubeGrant) (boxes : List Box) (host : Host) (drained : List Block) (holds : HasAllBlocks grant boxes host drained) where
   abbrev n : ℕ
   n = 2 ^ grant.dim
 
@@ -123,7 +121,7 @@ module _ (grant : CubeGrant) (boxes : List Box) (host : Host) (drained : List Bl
   fits : length names + length drained ≤ host.store.spare
   fits =
       let few : n ≤ 64 = few_nodes grant.dim (rw (← holds.sub.dimension) (ones_of-bound greatest_dim grant.sub.mask)) in
-      omega (arith, total, few, ap (λ b. (n + 1) * b) home_blocks_lem, holds.room, host_room_lem)
+      omega (arith, total, few, ap (λ b. (n + 1) * b) home_blocks_lem, holds.room, greatest_blocks_lem)
 
   pub boxes-fit : length names ≤ host.store.spare
   boxes-fit = omega (arith, fits)
@@ -158,14 +156,14 @@ module _ (grant : CubeGrant) (boxes : List Box) (host : Host) (drained : List Bl
   pub boxes-idle : All IsIdle boxes
   boxes-idle r d below = subst IsIdle (ready-at r d below) (holds.ready r (omega (arith, below, holds.all))).idle
 
-  room-at : (r : ℕ) (d : Box) → r < length boxes → host_room ≤ (get_or boxes r d).room
-  room-at r d below = subst (λ (box : Box). host_room ≤ box.room) (ready-at r d below) (holds.ready r (omega (arith, below, holds.all))).room
+  room-at : (r : ℕ) (d : Box) → r < length boxes → greatest_blocks ≤ (get_or boxes r d).room
+  room-at r d below = subst (λ (box : Box). greatest_blocks ≤ box.room) (ready-at r d below) (holds.ready r (omega (arith, below, holds.all))).room
 
   pub boxes-emptied : (some : List Box) → some ≡ map emptied_box boxes → All IsEmptied some
   boxes-emptied some are r d below =
       let within : r < length boxes = omega (arith, below, ap (λ xs. length xs) are, length-map boxes emptied_box) in
       let is : get_or some r d ≡ emptied_box (get_or boxes r d) = ap (λ xs. get_or xs r d) are ∙ get_or-map emptied_box boxes r d d within in
-      subst IsEmptied (sym is) (record { none = no_windows process_count; room = omega (arith, room-at r d within, host_room_lem, home_blocks_lem) })
+      subst IsEmptied (sym is) (record { none = no_windows process_count; room = omega (arith, room-at r d within, greatest_blocks_lem, home_blocks_lem) })
 
   -- ---- the store with all blocks
 
@@ -189,10 +187,10 @@ module _ (grant : CubeGrant) (boxes : List Box) (host : Host) (drained : List Bl
   parted : (store : List BlockId) → store ≡ names_of_cube grant → store ≡ names_at_home (map emptied_box boxes) ++ own
   parted store is = is ∙ ap (λ some. some ++ own) (sym at_home)
 
-  pub least : (some : List Box) (store : List BlockId) → some ≡ map emptied_box boxes → store ≡ names_of_cube grant → BeginsWith (names_at_home some) store
+  pub least : (some : List Box) (store : List BlockId) → some ≡ map emptied_box boxes → store ≡ names_of_cube grant → HasPrefix (names_at_home some) store
   least some store are is =
       let front : List BlockId = names_at_home (map emptied_box boxes) in
-      subst (λ xs. BeginsWith (names_at_home xs) store) (sym are) (ap (take (length front)) (parted store is) ∙ take_at front own (length front) refl)
+      subst (λ xs. HasPrefix (names_at_home xs) store) (sym are) (ap (take (length front)) (parted store is) ∙ take_at front own (length front) refl)
 
   pub host-left : (some : List Box) (store left : List BlockId) → some ≡ map emptied_box boxes → store ≡ names_of_cube grant
       → left ≡ drop (length (names_at_home some)) store → left ≡ own

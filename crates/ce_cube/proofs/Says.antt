@@ -15,7 +15,7 @@ use Rattle.ce_model.proofs.Subcubes.{is_inside-node_of}
 use Rattle.ce_script.specs.Rounds.{asks_for_work}
 use Rattle.ce_solo.proofs.Projection.Numbers.{node_no_host, out_no_host, relative_out}
 use Rattle.ce_solo.proofs.Projection.Law.{projected}
-use Rattle.ce_cube.specs.Boxes.{node_now, StandsFor, IsSaidBy}
+use Rattle.ce_cube.specs.Boxes.{node_now, IsStandIn, IsSaidBy}
 use Rattle.ce_cube.specs.Laws.{BoxesSay}
 use Rattle.ce_cube.proofs.Held.{Seen, seen, by_cube}
 use Rattle.ce_cube.proofs.Users.{user-within}
@@ -58,7 +58,7 @@ module _ (parts : MachineParts) (history : List Entry) (machine : IsMachine part
         not_drained = goes;
       }
 
-  pub says-of : (box : Node) → StandsFor cube.grant node box → IsSaidBy parts history cube.number cube.grant r box
+  pub says-of : (box : Node) → IsStandIn cube.grant node box → IsSaidBy parts history cube.number cube.grant r box
   says-of box stands =
       let said = box-says parts history cube now r below box stands in
       let call = ap (λ (saying : Saying). saying.call) said in
@@ -80,5 +80,5 @@ module _ (parts : MachineParts) (history : List Entry) (machine : IsMachine part
 pub boxes-say : BoxesSay
 boxes-say parts history number grant machine lawful held r box below stands =
     by_cube
-    (λ number grant. r < 2 ^ grant.dim → StandsFor grant (node_now parts history number grant r) box → IsSaidBy parts history number grant r box)
+    (λ number grant. r < 2 ^ grant.dim → IsStandIn grant (node_now parts history number grant r) box → IsSaidBy parts history number grant r box)
     history number grant (λ cube holds goes below stands. says-of parts history machine lawful cube holds goes r below box stands) held below stands

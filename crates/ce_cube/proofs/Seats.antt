@@ -20,7 +20,7 @@ use Rattle.ce_solo.proofs.Room.{held_blocks}
 use Rattle.ce_solo.proofs.Words.{Leaves, IsCallOf}
 use Rattle.ce_solo.proofs.Made.{made-leaves}
 use Rattle.ce_solo.proofs.Renaming.Grants.{renaming}
-use Rattle.ce_cube.specs.Boxes.{StandsFor}
+use Rattle.ce_cube.specs.Boxes.{IsStandIn}
 use Rattle.ce_cube.proofs.Held.{Seen, placed-grant}
 
 -- a node that asked for work asks so again
@@ -66,7 +66,7 @@ module _ (parts : MachineParts) (history : List Entry) (cube : HeldCube) (now : 
   says_outward node blocks = (renaming parts.dim cube.grant node (placed-grant parts.dim cube.grant now.placed) blocks).0
 
   -- the box says what the node says
-  pub box-says : (box : Node) → StandsFor cube.grant (s.node r) box → says box ≡ saying_outward cube.grant (says (s.node r))
+  pub box-says : (box : Node) → IsStandIn cube.grant (s.node r) box → says box ≡ saying_outward cube.grant (says (s.node r))
   box-says box (inl same) = ap says same ∙ says_outward (s.node r) node-blocks
   box-says box (inr step) =
       ap says step.at_rest ∙ says_outward (says (s.node r)).node rest-blocks ∙ ap (saying_outward cube.grant) (rest-again step.asks)
@@ -78,7 +78,7 @@ module _ (parts : MachineParts) (history : List Entry) (cube : HeldCube) (now : 
   rest-hears heard is = (renaming parts.dim cube.grant (says (s.node r)).node (placed-grant parts.dim cube.grant now.placed) rest-blocks).1 parts.images heard is
 
   -- a box at rest says again what it says where that asks for work
-  pub box-again : (box : Node) → StandsFor cube.grant (s.node r) box → IsTrue (asks_for_work (says (s.node r)).call) → says (says box).node ≡ says box
+  pub box-again : (box : Node) → IsStandIn cube.grant (s.node r) box → IsTrue (asks_for_work (says (s.node r)).call) → says (says box).node ≡ says box
   box-again box stands asks =
       let said = box-says box stands in
       box-says (says box).node (inr (record { at_rest = ap (λ (saying : Saying). saying.node) said; asks = asks })) ∙ sym said

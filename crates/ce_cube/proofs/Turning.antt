@@ -20,7 +20,7 @@ use Rattle.ce_machine.specs.Meanings.{MachineFacts}
 use Rattle.ce_script.specs.Rounds.{given_in, asks_for_work, is_take, is_dispatch, has_work, IsTurn}
 use Rattle.ce_cube.specs.Boxes.{IsSaidBy, IsInStep}
 use Rattle.ce_cube.specs.Crews.{IsReady, cube_grant}
-use Rattle.ce_cube.specs.Exchanges.{HasNode, IsBoxOfNode, HasSaidCall, GoesOnAt, HasExchanged, IsTurning, node_in}
+use Rattle.ce_cube.specs.Exchanges.{HasNode, IsBoxOfNode, HasSaidCall, HasGoneOnAt, HasExchanged, IsTurning, node_in}
 use Rattle.ce_cube.proofs.Says.{boxes-say, asks-renamed}
 use Rattle.ce_cube.proofs.Rounds.{are-made}
 
@@ -51,8 +51,8 @@ asks-first m grant r box node ready step =
     ∙ step.asks
 
 -- calls of a node, and then others
-joined-at : (m now now' : MachineFacts) (grant : Grant) (r : ℕ) (made others : List Entry) → GoesOnAt m now grant r made → GoesOnAt now now' grant r others
-    → GoesOnAt m now' grant r (made ++ others)
+joined-at : (m now now' : MachineFacts) (grant : Grant) (r : ℕ) (made others : List Entry) → HasGoneOnAt m now grant r made → HasGoneOnAt now now' grant r others
+    → HasGoneOnAt m now' grant r (made ++ others)
 joined-at m now now' grant r made others first next = record {
   parts = next.parts ∙ first.parts;
   history = next.history ∙ ap (λ h. h ++ others) first.history ∙ append_assoc m.history made others;

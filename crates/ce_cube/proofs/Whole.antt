@@ -18,7 +18,7 @@ use Rattle.ce_model.specs.Owners.{IsBlockOf}
 use Rattle.ce_model.specs.Subcubes.{extract, node_of, is_inside}
 use Rattle.ce_model.specs.Renaming.{CubeGrant, block_outward, item_with}
 use Rattle.ce_model.specs.Views.{view}
-use Rattle.ce_model.specs.Machine.{MachineParts, IsMachine, HeldCube, IsLawful, after, held_by, nodes_of, host_record, all_parcels, HoldsCube, cube_of}
+use Rattle.ce_model.specs.Machine.{MachineParts, IsMachine, HeldCube, IsLawful, after, held_by, nodes_of, host_record, all_parcels, HasHeldCube, cube_of}
 use Rattle.ce_model.proofs.Subcubes.{is_inside-node_of, node_of-extract}
 use Rattle.ce_script.specs.Rounds.{asks_for_work}
 use Rattle.ce_solo.proofs.Counting.{count, count-nil, count-append, count-is, count-run, all-at_name, sum_run, sum_run-same, sum_run-add}
@@ -249,7 +249,7 @@ module _ (parts : MachineParts) (history : List Entry) (machine : IsMachine part
 pub blocks-are-whole : BlocksAreWhole
 blocks-are-whole parts history number grant machine lawful held box steps =
     by_cube
-    (λ number grant. AreInStep parts history number grant box → HoldsCube history grant.user (λ cube. AreAllBlocks grant
+    (λ number grant. AreInStep parts history number grant box → HasHeldCube history grant.user (λ cube. AreAllBlocks grant
     (names_in grant box (all_parcels (after history) cube) (map (block_outward grant) (hoststore (opening (cube_of parts.images grant)) (view history number))))))
     history number grant
     (λ cube holds goes steps. subst (λ held. IsSomeAnd held (λ one. AreAllBlocks cube.grant

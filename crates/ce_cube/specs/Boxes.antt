@@ -1,11 +1,11 @@
 -- The boxes of a cube that is held, and the nodes for which they stand.
-use Rattle.std.specs.Prelude.{◌≡◌, ◌⊎◌, ℕ, ◌+◌, ◌*◌, ◌^◌, ◌<◌, ◌==◌, false, IsTrue, List, [], ◌∷◌, ◌++◌, length, map, count_by, Some}
+use Rattle.std.specs.Prelude.{◌≡◌, ◌⊎◌, ℕ, ◌^◌, ◌<◌, ◌==◌, false, IsTrue, List, [], ◌∷◌, ◌++◌, length, map, count_by, Some}
 use Rattle.ce_model.specs.declared.entry.Entry.{Entry}
 use Rattle.ce_model.specs.declared.entry.What.{What}
 use Rattle.ce_model.specs.declared.entry.What.TheVariants.{Getcube, Drain}
 use Rattle.ce_model.specs.declared.topology.TheConstants.{HOST}
 use Rattle.ce_model.specs.declared.topology.BlockId.{BlockId}
-use Rattle.ce_model.specs.Limits.{greatest_dim, home_blocks, host_home}
+use Rattle.ce_model.specs.Limits.{host_home, greatest_blocks}
 use Rattle.ce_model.specs.Blocks.{put, is_same_id, blocks_of_home}
 use Rattle.ce_model.specs.Parcels.{Parcel}
 use Rattle.ce_model.specs.Node.{Node, fresh, Call}
@@ -14,7 +14,7 @@ use Rattle.ce_model.specs.Cube.{opening, state, hoststore}
 use Rattle.ce_model.specs.Subcubes.{node_of}
 use Rattle.ce_model.specs.Renaming.{CubeGrant, block_outward, call_with, entry_inward, node_outward}
 use Rattle.ce_model.specs.Views.{view}
-use Rattle.ce_model.specs.Machine.{MachineParts, HeldCube, IsLawful, Fits, HoldsCube, in_cube, answered, after, held_by, standing_of, cube_of}
+use Rattle.ce_model.specs.Machine.{MachineParts, HeldCube, IsLawful, IsFitting, HasHeldCube, in_cube, answered, after, held_by, standing_of, cube_of}
 use Rattle.rk_mail.specs.declared.talk.Heard.{Heard}
 use Rattle.rk_mail.specs.Talk.{IsHeardIn}
 use Rattle.ce_script.specs.Rounds.{asks_for_work}
@@ -47,8 +47,8 @@ pub record IsInStep (grant : CubeGrant) (node box : Node) : Type 0 where
   pub asks : IsTrue (asks_for_work (says node).call)
 
 -- a box stands for a node: it has what the node is, or is in step with it
-abbrev pub StandsFor : CubeGrant → Node → Node → Type 0
-StandsFor grant node box = (box ≡ node_outward grant node) ⊎ IsInStep grant node box
+abbrev pub IsStandIn : CubeGrant → Node → Node → Type 0
+IsStandIn grant node box = (box ≡ node_outward grant node) ⊎ IsInStep grant node box
 
 -- all boxes of a cube, by relative number, are in step with its nodes
 abbrev pub AreInStep : MachineParts → List Entry → ℕ → CubeGrant → (ℕ → Node) → Type 0
@@ -61,7 +61,7 @@ AreInStep parts history number grant box = (r : ℕ) → r < 2 ^ grant.dim → I
 pub record IsSaidBy (parts : MachineParts) (history : List Entry) (number : ℕ) (grant : CubeGrant) (r : ℕ) (box : Node) : Type 0 where
   pub at_rest : IsAtRest grant (node_now parts history number grant r) (says box).node
   pub call : (says box).call ≡ call_with (block_outward grant) (says (node_now parts history number grant r)).call
-  pub fits : Fits parts history grant.user (node_of grant.sub r) (in_cube (says box).call)
+  pub fits : IsFitting parts history grant.user (node_of grant.sub r) (in_cube (says box).call)
   pub again : IsTrue (asks_for_work (says box).call) → says (says box).node ≡ says box
   pub in_step : IsTrue (asks_for_work (says box).call) → IsInStep grant (node_now parts history number grant r) (says box).node
 
@@ -87,7 +87,7 @@ pub record IsOneMore (parts : MachineParts) (history : List Entry) (number : ℕ
 -- node r hears so in answer to a call that made an entry of this
 abbrev pub IsAnswered : List Entry → CubeGrant → ℕ → What → Heard → Type 0
 IsAnswered history grant r what heard =
-    HoldsCube history grant.user (λ cube. IsHeardIn ((standing_of (after history) cube).node_record (node_of grant.sub r)).waiting what heard)
+    HasHeldCube history grant.user (λ cube. IsHeardIn ((standing_of (after history) cube).node_record (node_of grant.sub r)).waiting what heard)
 
 -- the cube of this number and this grant is held on behind an entry that is none of its calls, with the same trace
 pub record IsAside (parts : MachineParts) (history : List Entry) (number : ℕ) (grant : CubeGrant) (entry : Entry) : Type 0 where
@@ -123,6 +123,6 @@ drain_entry grant = record { user = grant.user; actor = HOST; what = Drain }
 -- machine's names
 pub record IsAccepted (parts : MachineParts) (history : List Entry) (number : ℕ) (grant : CubeGrant) (entry : Entry) (parcel : Parcel) : Type 0 where
   pub new : count_by (is_same_id parcel.block.id) (map (block_outward grant) (store_now parts history number grant)) ≡ 0
-  pub room : length (store_now parts history number grant) < (2 ^ greatest_dim + 1) * home_blocks
+  pub room : length (store_now parts history number grant) < greatest_blocks
   pub stored : map (block_outward grant) (store_now parts (history ++ entry ∷ []) number grant)
       ≡ put parcel.block.id (map (block_outward grant) (store_now parts history number grant))

@@ -2,7 +2,7 @@
 use Rattle.std.specs.Prelude.{◌≡◌, ℕ, ◌+◌, ◌^◌, ◌<◌, ◌≤◌, Bool, if◌then◌else◌, IsTrue, is_some, List, [], ◌++◌, length, map, flat_map, slice_index_or, Some}
 use Rattle.std.specs.List.{AllByRecursion}
 use Rattle.ce_model.specs.declared.entry.Entry.{Entry}
-use Rattle.ce_model.specs.Limits.{greatest_dim, host_home}
+use Rattle.ce_model.specs.Limits.{greatest_dim, host_home, greatest_blocks}
 use Rattle.ce_model.specs.Blocks.{Block, blocks_of_home}
 use Rattle.ce_model.specs.Node.{blocks_of}
 use Rattle.ce_model.specs.Subcubes.{IsSubcube, node_of}
@@ -14,7 +14,6 @@ use Rattle.ce_model.specs.Machine.{MachineParts, IsMachine, IsLawful, cube_of}
 use Rattle.xm_block.specs.Stores.{ids_of}
 use Rattle.ce_daemon.specs.declared.grant.Grant.{Grant}
 use Rattle.ce_daemon.specs.Boxes.{AreBoxes}
-use Rattle.ce_host.specs.Hosts.{host_room}
 use Rattle.ce_host.specs.declared.host.Host.{Host}
 use Rattle.rk_node.specs.Boxes.{Box, IsClean, fresh_at}
 use Rattle.rk_node.specs.declared.out.Out.TheVariants.{Nothing}
@@ -45,7 +44,7 @@ box_at boxes r = slice_index_or boxes r (record { node = fresh_at 0 0 0 0; room 
 -- no call but a Take is out of a box, and it has room for all blocks of the greatest cube
 pub record IsReady (box : Box) : Type 0 where
   pub idle : box.out ≡ Nothing
-  pub room : host_room ≤ box.room
+  pub room : greatest_blocks ≤ box.room
 
 -- these are the boxes of the cube's nodes, all ready, and in step with the nodes
 pub record AreBoxesInStep (parts : MachineParts) (history : List Entry) (grant : Grant) (boxes : List Box) : Type 0 where
@@ -56,13 +55,13 @@ pub record AreBoxesInStep (parts : MachineParts) (history : List Entry) (grant :
 -- the host has the blocks that the cube's trace leaves it, room for all of the cube, and its spare batch
 pub record IsHostInStep (parts : MachineParts) (history : List Entry) (grant : Grant) (host : Host) : Type 0 where
   pub blocks : ids_of host.store.blocks ≡ map (block_outward (cube_grant grant)) (hoststore (opening (cube_in parts grant)) (view history grant.number))
-  pub room : host.store.spare + length host.store.blocks ≡ host_room
+  pub room : host.store.spare + length host.store.blocks ≡ greatest_blocks
   pub spare : host.spare ≡ Some []
 
 -- a host of a user that holds no cube has its own blocks, room for all of a cube, and its spare batch
 pub record IsHostAtHome (user : ℕ) (host : Host) : Type 0 where
   pub blocks : ids_of host.store.blocks ≡ blocks_of_home (host_home + user)
-  pub room : host.store.spare + length host.store.blocks ≡ host_room
+  pub room : host.store.spare + length host.store.blocks ≡ greatest_blocks
   pub spare : host.spare ≡ Some []
 
 -- the crew of a cube that is held, and wasn't drained, is in step with the history
@@ -109,14 +108,14 @@ pub record HasMadeRound (before after : MachineFacts) (crew crew' : SerialCrew) 
 
 -- The boxes and the host of a cube, a subcube of the greatest machine, with the blocks that were drained, hold each block of the cube once, and no
 -- other. The boxes are ready, and the host has room for all blocks of the greatest cube, and its spare batch.
-pub record HoldAllBlocks (grant : CubeGrant) (boxes : List Box) (host : Host) (drained : List Block) : Type 0 where
+pub record HasAllBlocks (grant : CubeGrant) (boxes : List Box) (host : Host) (drained : List Block) : Type 0 where
   pub sub : IsSubcube greatest_dim grant.dim grant.sub
   pub all : length boxes ≡ 2 ^ grant.dim
   pub ready : (r : ℕ) → r < 2 ^ grant.dim → IsReady (box_at boxes r)
   pub homes : (r : ℕ) → r < 2 ^ grant.dim → (box_at boxes r).node.home ≡ node_of grant.sub r
   pub blocks : AreAllBlocks grant (flat_map (λ r. blocks_of (box_at boxes r).node) (node_numbers grant.dim)
       ++ (map (λ block. block.id) drained ++ ids_of host.store.blocks))
-  pub room : host.store.spare + length host.store.blocks ≡ host_room
+  pub room : host.store.spare + length host.store.blocks ≡ greatest_blocks
   pub spare : host.spare ≡ Some []
 
 -- all blocks of the cube are at home: the boxes are clean, and have their homes

@@ -11,7 +11,7 @@ use Rattle.rk_node.specs.Boxes.{Box}
 use Rattle.rk_node.specs.Answering.{HasSaid}
 use Rattle.ce_machine.specs.Meanings.{MachineFacts}
 use Rattle.ce_script.specs.Rounds.{asks_for_work, is_take, is_dispatch, IsTurn, has_work}
-use Rattle.ce_cube.specs.Boxes.{IsHeldAs, StandsFor, node_now, store_now}
+use Rattle.ce_cube.specs.Boxes.{IsHeldAs, IsStandIn, node_now, store_now}
 use Rattle.ce_cube.specs.Hearable.{calls_left}
 use Rattle.ce_cube.specs.Rounds.{dispatches_left, IsPartOfRound}
 use Rattle.ce_cube.specs.declared.crew.SerialCrew.{SerialCrew}
@@ -38,7 +38,7 @@ pub record HasNode (machine : MachineFacts) (grant : Grant) (r : ℕ) : Type 0 w
 -- the box stands for node r, and no call of it but a Take is out
 pub record IsBoxOfNode (machine : MachineFacts) (grant : Grant) (r : ℕ) (box : Box) : Type 0 where
   pub ready : IsReady box
-  pub stands : StandsFor (cube_grant grant) (node_in machine grant r) box.node
+  pub stands : IsStandIn (cube_grant grant) (node_in machine grant r) box.node
 
 -- the box, which was this one and stood for node r, has said this call
 pub record HasSaidCall (machine : MachineFacts) (grant : Grant) (r : ℕ) (box box' : Box) (call : Call) : Type 0 where
@@ -49,7 +49,7 @@ pub record HasSaidCall (machine : MachineFacts) (grant : Grant) (r : ℕ) (box b
   pub room : box'.room ≡ box.room
 
 -- the machine goes on by these calls of the cube: its nodes other than r and its host's store are what they were, and so is its trace before them
-pub record GoesOnAt (before after : MachineFacts) (grant : Grant) (r : ℕ) (made : List Entry) : Type 0 where
+pub record HasGoneOnAt (before after : MachineFacts) (grant : Grant) (r : ℕ) (made : List Entry) : Type 0 where
   pub parts : after.parts ≡ before.parts
   pub history : after.history ≡ before.history ++ made
   pub calls : AreCallsOf grant.user made
@@ -63,7 +63,7 @@ pub record GoesOnAt (before after : MachineFacts) (grant : Grant) (r : ℕ) (mad
 -- it gave work, and the box stands for the node behind it. A turn has fewer calls left by each call that asks for no work.
 pub record HasExchanged (before after : MachineFacts) (grant : Grant) (r : ℕ) (box box' : Box) (call : Call) (work : Bool) : Type 0 where
   pub entry : Entry
-  pub goes_on : GoesOnAt before after grant r (entry ∷ [])
+  pub goes_on : HasGoneOnAt before after grant r (entry ∷ [])
   pub actor_is : (entry_inward grant.sub entry).actor ≡ r
   pub take : is_take (entry_inward grant.sub entry) ≡ asks_for_work call
   pub dispatch : is_dispatch (entry_inward grant.sub entry) ≡ work
@@ -74,7 +74,7 @@ pub record HasExchanged (before after : MachineFacts) (grant : Grant) (r : ℕ) 
 -- A turn of node r is under way: these many entries so far, the first a Take that gave work or none, and the box stands for the node.
 pub record IsTurning (before now : MachineFacts) (grant : Grant) (r : ℕ) (box : Box) (work : Bool) (count : ℕ) : Type 0 where
   pub made : List Entry
-  pub goes_on : GoesOnAt before now grant r made
+  pub goes_on : HasGoneOnAt before now grant r made
   pub turn : IsTurn r (map (entry_inward grant.sub) made)
   pub works : has_work (map (entry_inward grant.sub) made) ≡ work
   pub left : left_in now grant + (if work then 1 else 0) ≡ left_in before grant

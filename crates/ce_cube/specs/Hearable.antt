@@ -1,7 +1,7 @@
 -- What a node must be for what it hears, and how many calls its turn may still make.
-use Rattle.std.specs.Prelude.{◌≡◌, ◌⊎◌, ℕ, ◌+◌, ◌-◌, ◌*◌, ◌^◌, ◌<◌, false, IsTrue, List, length, count_by, slice_get, Option, Some, None}
+use Rattle.std.specs.Prelude.{◌≡◌, ◌⊎◌, ℕ, ◌-◌, ◌<◌, false, IsTrue, List, length, count_by, slice_get, Option, Some, None}
 use Rattle.rv_model.specs.Image.{ImageParts}
-use Rattle.ce_model.specs.Limits.{greatest_dim, home_blocks, process_count, turn_calls}
+use Rattle.ce_model.specs.Limits.{process_count, turn_calls, greatest_blocks}
 use Rattle.ce_model.specs.Blocks.{is_same_id}
 use Rattle.ce_model.specs.Parcels.{Parcel, mail, is_eligible}
 use Rattle.ce_model.specs.Process.{is_receiving, is_stopped}
@@ -27,7 +27,7 @@ pub record IsDeliverable (node : Node) (parcel : Parcel) : Type 0 where
   pub receiver : IsTrue (is_receiving (process_at node parcel.to.pid).status) ⊎ IsTrue (is_stopped (process_at node parcel.to.pid).status)
   pub eligible : IsTrue (is_eligible (ids_of is_receiving node.processes) (ids_of is_stopped node.processes) (mail parcel))
   pub new : count_by (is_same_id parcel.block.id) (blocks_of node) ≡ 0
-  pub room : length (blocks_of node) < (2 ^ greatest_dim + 1) * home_blocks
+  pub room : length (blocks_of node) < greatest_blocks
   pub between_turns : node.turn ≡ None
 
 -- a process that was born can be ended

@@ -6,7 +6,7 @@ use Rattle.ce_model.specs.Blocks.{blocks_of_home}
 use Rattle.ce_model.specs.Node.{blocks_of}
 use Rattle.ce_model.specs.Kernel.{with_store}
 use Rattle.rk_node.specs.declared.out.Out.TheVariants.{Nothing}
-use Rattle.rk_node.specs.Boxes.{Box, fresh_at, scrubbed}
+use Rattle.rk_node.specs.Boxes.{Box, fresh_at, scrubbed_node}
 
 -- the box once it became the node of this relative number, in a cube of this dimension, for so many images
 abbrev pub entered_box : ℕ → ℕ → ℕ → Box → Box
@@ -22,7 +22,7 @@ names_in_boxes boxes = flat_map (λ box. blocks_of box.node) boxes
 
 -- the box once its blocks were taken away: none of its processes is born, nobody polls, and no turn runs
 abbrev pub emptied_box : Box → Box
-emptied_box box = record box { node = scrubbed box.node }
+emptied_box box = record box { node = scrubbed_node box.node }
 
 -- no block is in the box, and it has room for those of its home
 pub record IsEmptied (box : Box) : Type 0 where
@@ -38,5 +38,5 @@ abbrev pub names_at_home : List Box → List BlockId
 names_at_home boxes = flat_map (λ box. blocks_of_home box.node.home) boxes
 
 -- a list of names begins with these
-abbrev pub BeginsWith : List BlockId → List BlockId → Type 0
-BeginsWith first ids = take (length first) ids ≡ first
+abbrev pub HasPrefix : List BlockId → List BlockId → Type 0
+HasPrefix first ids = take (length first) ids ≡ first

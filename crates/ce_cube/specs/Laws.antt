@@ -17,13 +17,13 @@ use Rattle.ce_model.specs.Trace.{standing}
 use Rattle.ce_model.specs.Answers.{is_quiet, is_used_up}
 use Rattle.ce_model.specs.Cube.{opening, node_numbers, HostCall, host_call, parcel_numbered}
 use Rattle.ce_model.specs.Views.{view}
-use Rattle.ce_model.specs.Machine.{MachineParts, IsMachine, IsLawful, IsLawfulEntry, IsWithinLimits, Fits, HoldsCube, getcube, drain, freecube, in_cube, answered, after, all_parcels, cube_of}
+use Rattle.ce_model.specs.Machine.{MachineParts, IsMachine, IsLawful, IsLawfulEntry, IsWithinLimits, IsFitting, HasHeldCube, getcube, drain, freecube, in_cube, answered, after, all_parcels, cube_of}
 use Rattle.rk_mail.specs.declared.talk.Heard.{Heard}
 use Rattle.ce_solo.specs.Laws.{OfEachTrace}
 use Rattle.rk_mail.specs.Talk.{heard_as}
 use Rattle.ce_script.specs.Rounds.{asks_for_work, AreTurnsOver, serial, IsRoundWithoutWork}
 use Rattle.ce_cube.specs.Hearable.{IsRightAnswer, calls_left}
-use Rattle.ce_cube.specs.Boxes.{IsHeldAs, node_now, StandsFor, AreInStep, IsAccepted, IsSaidBy, IsMadeBy, IsOneMore, IsAnswered, IsAside, grant_entry, drain_entry, IsBegun, store_now}
+use Rattle.ce_cube.specs.Boxes.{IsHeldAs, node_now, IsStandIn, AreInStep, IsAccepted, IsSaidBy, IsMadeBy, IsOneMore, IsAnswered, IsAside, grant_entry, drain_entry, IsBegun, store_now}
 use Rattle.ce_cube.specs.Rounds.{dispatches_left, IsEntryOf}
 use Rattle.ce_cube.specs.Rehoming.{names_in, AreAllBlocks}
 
@@ -35,17 +35,17 @@ OfEachHeld P = (parts : MachineParts) (history : List Entry) (number : ℕ) (gra
 -- a getcube that was granted begins a cube
 abbrev pub GrantsBegin : Type 0
 GrantsBegin = (parts : MachineParts) (history : List Entry) (grant : CubeGrant) → IsMachine parts → IsLawful parts history
-    → Fits parts history grant.user HOST (getcube grant.dim)
+    → IsFitting parts history grant.user HOST (getcube grant.dim)
     → answered parts (after history) grant.user HOST (getcube grant.dim) ≡ Some (grant_entry grant).what → IsBegun parts history grant
 
 -- what a box says that stands for a node is the node's next call, which fits
 abbrev pub BoxesSay : Type 0
 BoxesSay = OfEachHeld (λ parts history number grant. (r : ℕ) (box : Node) → r < 2 ^ grant.dim
-    → StandsFor grant (node_now parts history number grant r) box → IsSaidBy parts history number grant r box)
+    → IsStandIn grant (node_now parts history number grant r) box → IsSaidBy parts history number grant r box)
 
 -- a call of the cube that fits makes an entry more of the cube's trace
 abbrev pub CallsAdd : Type 0
-CallsAdd = OfEachHeld (λ parts history number grant. (actor : ℕ) (call : Call) (entry : Entry) → Fits parts history grant.user actor (in_cube call)
+CallsAdd = OfEachHeld (λ parts history number grant. (actor : ℕ) (call : Call) (entry : Entry) → IsFitting parts history grant.user actor (in_cube call)
     → IsMadeBy parts history grant actor call entry → IsOneMore parts history number grant entry)
 
 -- an entry of another user, or a look at the machine, leaves the cube as it is
@@ -56,20 +56,20 @@ OthersKeep = OfEachHeld (λ parts history number grant. (entry : Entry) → IsLa
 -- the box of the node that made an entry stands for the node behind it, once it has heard the answer
 abbrev pub BoxesHear : Type 0
 BoxesHear = OfEachHeld (λ parts history number grant. (r : ℕ) (box : Node) (entry : Entry) (heard : Heard) → r < 2 ^ grant.dim
-    → StandsFor grant (node_now parts history number grant r) box → IsMadeBy parts history grant (node_of grant.sub r) (says box).call entry
+    → IsStandIn grant (node_now parts history number grant r) box → IsMadeBy parts history grant (node_of grant.sub r) (says box).call entry
     → IsAnswered history grant r entry.what heard
     → hears parts.images (says box).node (heard_as heard) ≡ node_outward grant (node_now parts (history ++ entry ∷ []) number grant r))
 
 -- and it can hear that answer, which is one to its call
 abbrev pub BoxesCanHear : Type 0
 BoxesCanHear = OfEachHeld (λ parts history number grant. (r : ℕ) (box : Node) (entry : Entry) (heard : Heard) → r < 2 ^ grant.dim
-    → StandsFor grant (node_now parts history number grant r) box → IsMadeBy parts history grant (node_of grant.sub r) (says box).call entry
+    → IsStandIn grant (node_now parts history number grant r) box → IsMadeBy parts history grant (node_of grant.sub r) (says box).call entry
     → IsAnswered history grant r entry.what heard → IsRightAnswer parts.images (says box) heard)
 
 -- by each call that asks for no work a turn has fewer calls left
 abbrev pub TurnsEnd : Type 0
 TurnsEnd = OfEachHeld (λ parts history number grant. (r : ℕ) (box : Node) (entry : Entry) (heard : Heard) → r < 2 ^ grant.dim
-    → StandsFor grant (node_now parts history number grant r) box → IsMadeBy parts history grant (node_of grant.sub r) (says box).call entry
+    → IsStandIn grant (node_now parts history number grant r) box → IsMadeBy parts history grant (node_of grant.sub r) (says box).call entry
     → IsAnswered history grant r entry.what heard → IsFalse (asks_for_work (says box).call)
     → calls_left (hears parts.images (says box).node (heard_as heard)) < calls_left box)
 
@@ -79,7 +79,7 @@ TurnsEnd = OfEachHeld (λ parts history number grant. (r : ℕ) (box : Node) (en
 abbrev pub HostsFit : Type 0
 HostsFit = OfEachHeld (λ parts history number grant. (asked : HostCall) (call : Call)
     → host_call (cube_of parts.images grant) (store_now parts history number grant) asked ≡ Some call → IsWithinLimits call
-    → Fits parts history grant.user HOST (in_cube (call_with (block_outward grant) call)))
+    → IsFitting parts history grant.user HOST (in_cube (call_with (block_outward grant) call)))
 
 -- a message that the host sends takes the least block out of its store
 abbrev pub HostsSend : Type 0
@@ -91,7 +91,7 @@ HostsSend = OfEachHeld (λ parts history number grant. (to : Place) (id : BlockI
 -- a message that it takes puts its block in
 abbrev pub HostsTake : Type 0
 HostsTake = OfEachHeld (λ parts history number grant. (number' : ℕ) (parcel : Parcel) (entry : Entry) → IsMadeBy parts history grant HOST takes_mail entry
-    → entry.what ≡ HostTake (Some number') → HoldsCube history grant.user (λ cube. parcel_numbered number' cube.mail ≡ Some parcel)
+    → entry.what ≡ HostTake (Some number') → HasHeldCube history grant.user (λ cube. parcel_numbered number' cube.mail ≡ Some parcel)
     → IsAccepted parts history number grant entry parcel)
 
 -- so many dispatches are left as the host has just allowed
@@ -101,15 +101,15 @@ ArmsAllow = OfEachHeld (λ parts history number grant. (count : ℕ) (entry : En
 
 -- a cube that is held can be drained, and is given back behind that
 abbrev pub DrainsFit : Type 0
-DrainsFit = OfEachHeld (λ parts history number grant. Fits parts history grant.user HOST drain
-    × IsLawful parts (history ++ drain_entry grant ∷ []) × Fits parts (history ++ drain_entry grant ∷ []) grant.user HOST freecube)
+DrainsFit = OfEachHeld (λ parts history number grant. IsFitting parts history grant.user HOST drain
+    × IsLawful parts (history ++ drain_entry grant ∷ []) × IsFitting parts (history ++ drain_entry grant ∷ []) grant.user HOST freecube)
 
 -- ---- turns and rounds
 
 -- an entry of a node is of its turn, and takes a dispatch exactly where it gives work
 abbrev pub EntriesCount : Type 0
 EntriesCount = OfEachHeld (λ parts history number grant. (r : ℕ) (box : Node) (entry : Entry) (heard : Heard) → r < 2 ^ grant.dim
-    → StandsFor grant (node_now parts history number grant r) box → IsMadeBy parts history grant (node_of grant.sub r) (says box).call entry
+    → IsStandIn grant (node_now parts history number grant r) box → IsMadeBy parts history grant (node_of grant.sub r) (says box).call entry
     → IsAnswered history grant r entry.what heard → IsEntryOf parts history number grant r (says box).call entry heard)
 
 -- where all boxes are in step no turn is open
@@ -132,5 +132,5 @@ LooksEnd = OfEachHeld (λ parts history number grant. (before round : List Entry
 -- where all boxes are in step, the cube's blocks are in them, on the parcels that wait and in the host's store, each once, and there is no other
 abbrev pub BlocksAreWhole : Type 0
 BlocksAreWhole = OfEachHeld (λ parts history number grant. (box : ℕ → Node) → AreInStep parts history number grant box
-    → HoldsCube history grant.user (λ cube. AreAllBlocks grant (names_in grant box (all_parcels (after history) cube)
+    → HasHeldCube history grant.user (λ cube. AreAllBlocks grant (names_in grant box (all_parcels (after history) cube)
     (map (block_outward grant) (store_now parts history number grant)))))

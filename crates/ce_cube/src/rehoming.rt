@@ -12,8 +12,8 @@ ghost use Rattle.ce_daemon.specs.Boxes.{AreBoxesOf};
 ghost use Rattle.rk_node.specs.Boxes.{Box, IsClean};
 ghost use Rattle.rk_node.specs.Hearings.{AreApartFrom};
 ghost use Rattle.ce_cube.specs.Boxes.{IsHeldAs};
-ghost use Rattle.ce_cube.specs.Crews.{AreAllHome, HoldAllBlocks, IsCrewInStep, IsHostAtHome, cube_grant};
-ghost use Rattle.ce_cube.specs.Homecoming.{BeginsWith, IsEmptied, IsIdle, emptied_box, entered_box, names_at_home, names_in_boxes, refilled_box};
+ghost use Rattle.ce_cube.specs.Crews.{AreAllHome, HasAllBlocks, IsCrewInStep, IsHostAtHome, cube_grant};
+ghost use Rattle.ce_cube.specs.Homecoming.{HasPrefix, IsEmptied, IsIdle, emptied_box, entered_box, names_at_home, names_in_boxes, refilled_box};
 
 use crate::SerialCrew;
 use ce_daemon::Grant;
@@ -66,8 +66,8 @@ fn enter_all(nodes: &mut [NodeBox], dim: u32, images: u32)
 /// host's store have room for all blocks of the greatest cube, and the host has its spare batch, empty. The boxes are clean
 /// then, and the host has its own blocks, with its room and its batch as before. Nothing can fail.
 pub fn rehome(nodes: &mut [NodeBox], host: &mut Host, drained: Vec<Block>)
-    requires all { (grant : CubeGrant) × HoldAllBlocks grant nodes.old host.old drained.items }
-    ensures home { (grant : CubeGrant) → HoldAllBlocks grant nodes.old host.old drained.items
+    requires all { (grant : CubeGrant) × HasAllBlocks grant nodes.old host.old drained.items }
+    ensures home { (grant : CubeGrant) → HasAllBlocks grant nodes.old host.old drained.items
         → AreAllHome grant nodes.new host.new }
 {
     scrub_all(nodes, &mut host.store);
@@ -109,7 +109,7 @@ fn give_all(blocks: Vec<Block>, store: &mut Store)
 /// Gives each of these empty boxes the blocks of its home, which are the store's least, box by box.
 fn send_all_home(nodes: &mut [NodeBox], store: &mut Store)
     requires emptied { All IsEmptied nodes.old }
-    requires least { BeginsWith (names_at_home nodes.old) (ids_of store.old.blocks) }
+    requires least { HasPrefix (names_at_home nodes.old) (ids_of store.old.blocks) }
     ensures boxes { nodes.new ≡ map refilled_box nodes.old }
     ensures rest { ids_of store.new.blocks
         ≡ drop (length (names_at_home nodes.old)) (ids_of store.old.blocks) }
@@ -123,7 +123,7 @@ fn send_all_home(nodes: &mut [NodeBox], store: &mut Store)
 /// Gives an empty box the blocks of its home, which are the store's least.
 fn send_home(node: &mut NodeBox, store: &mut Store)
     requires emptied { IsEmptied node.old }
-    requires least { BeginsWith (blocks_of_home node.old.node.home) (ids_of store.old.blocks) }
+    requires least { HasPrefix (blocks_of_home node.old.node.home) (ids_of store.old.blocks) }
     ensures after { node.new ≡ refilled_box node.old }
     ensures rest { ids_of store.new.blocks ≡ drop home_blocks (ids_of store.old.blocks) }
     ensures spare { store.new.spare ≡ store.old.spare + home_blocks }

@@ -1,18 +1,15 @@
 ghost use Rattle.std.specs.Prelude.{◌≡◌, ◌<◌, ◌≤◌, ◌+◌, ◌-◌, length, drop, slice_get, Some, None, IsNone, ◌↔◌, [], ◌∷◌, IfOk, IfSome, IfNone, IfErr, OnOk, OnErr, option_map};
 ghost use Rattle.std.specs.List.{Contains};
-ghost use Rattle.ce_model.specs.Limits.{greatest_users, home_blocks, host_home, block_room};
+ghost use Rattle.ce_model.specs.Limits.{greatest_users, home_blocks, host_home, block_room, greatest_blocks};
 ghost use Rattle.ce_model.specs.Blocks.{blocks_of_home, put};
 ghost use Rattle.xm_block.specs.Stores.{ids_of, with_block};
 ghost use Rattle.rk_mail.specs.Targets.{targets_of};
-ghost use Rattle.ce_host.specs.Hosts.{host_room, message_to, without_targets};
+ghost use Rattle.ce_host.specs.Hosts.{message_to, without_targets};
 
-use ce_model::{BlockId, Bytes, GREATEST_DIMENSION, HOME_BLOCKS, HOST_HOME, NoMemory, Place};
+use ce_model::{Bytes, GREATEST_BLOCKS, HOST_HOME, NoMemory, Place};
 use rk_mail::{Batch, Parcel};
 use std::alloc::Global;
-use xm_block::{Block, Store};
-
-/// How many blocks a host's store has room for: all of the greatest cube, those of its nodes and its host's own.
-pub const HOST_ROOM: u32 = ((1 << GREATEST_DIMENSION) + 1) * HOME_BLOCKS;
+use xm_block::Store;
 
 /// The host of a user: the blocks that it can send, and an empty batch to send one with.
 #[derive(Drop)]
@@ -26,15 +23,15 @@ pub struct Host {
 impl Host {
     /// The host of a user, whose number is below `GREATEST_USERS`, with all its own blocks. `NoMemory` may come at any
     /// time.
-    #[tactic(auto, using(ce_model::specs::Limits::greatest_users_lem, ce_model::specs::Limits::host_home_lem))]
+    #[tactic(auto, using(ce_model::specs::Limits::greatest_users_lem, ce_model::specs::Limits::host_home_lem, ce_model::specs::Limits::home_blocks_lem, ce_model::specs::Limits::greatest_blocks_lem))]
     pub fn new(alloc: Global, user: u32) -> Result<Host, NoMemory>
         requires { user < greatest_users }
         ensures blocks { IfOk result (λ host. ids_of host.store.blocks
             ≡ blocks_of_home (host_home + user)) }
-        ensures room { IfOk result (λ host. host.store.spare + home_blocks ≡ host_room) }
+        ensures room { IfOk result (λ host. host.store.spare + home_blocks ≡ greatest_blocks) }
         ensures spare { IfOk result (λ host. host.spare ≡ Some []) }
     {
-        let store = store_of_home(alloc, HOST_HOME + user)?;
+        let store = Store::of_home(alloc, HOST_HOME + user, GREATEST_BLOCKS)?;
         let spare = Some(Batch::new(alloc)?);
         Ok(Host { store, spare })
     }
@@ -93,17 +90,4 @@ impl Host {
         self.store.give(parcel.block);
         Ok(Bytes::from_vec(items))
     }
-}
-
-/// A host's store with the blocks of this home.
-#[tactic(auto, using(ce_model::specs::Limits::home_blocks_lem, crate::specs::Hosts::host_room_lem))]
-fn store_of_home(alloc: Global, home: u32) -> Result<Store, NoMemory>
-    ensures blocks { IfOk result (λ store. ids_of store.blocks ≡ blocks_of_home home) }
-    ensures room { IfOk result (λ store. store.spare + home_blocks ≡ host_room) }
-{
-    let mut store = Store::new(alloc, HOST_ROOM)?;
-    for index in 0..HOME_BLOCKS {
-        store.give(Block::new(alloc, BlockId { home, index })?);
-    }
-    Ok(store)
 }

@@ -9,4 +9,4 @@ mod tests;
 
 pub use answer::Answer;
 pub use command::Command;
-pub use host::{HOST_ROOM, Host};
+pub use host::Host;

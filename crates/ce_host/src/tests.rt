@@ -71,7 +71,7 @@ fn a_host_sends_its_own_blocks_in_order(rt: HostRuntime) -> Result<(), Fail> {
 
 // A block of a node that a message brought is the host's least one then.
 #[test]
-#[tactic(auto, using(ce_model::specs::Limits::greatest_users_lem, ce_model::specs::Limits::block_room_lem, ce_model::specs::Limits::home_blocks_lem, crate::specs::Hosts::host_room_lem))]
+#[tactic(auto, using(ce_model::specs::Limits::greatest_users_lem, ce_model::specs::Limits::block_room_lem, ce_model::specs::Limits::home_blocks_lem, ce_model::specs::Limits::greatest_blocks_lem))]
 fn a_received_block_is_sent_next(rt: HostRuntime) -> Result<(), Fail> {
     let alloc = rt.alloc();
     let mut host = Host::new(alloc, 0)?;

@@ -4,13 +4,13 @@ use Rattle.ce_io.specs.declared.failed.Failed.{Failed}
 use Rattle.ce_io.specs.Counts.{raised}
 
 -- a count rose, or stands at the end of its type
-abbrev pub Rose : ℕ → ℕ → Type 0
-Rose before now = min (before + 1) (2 ^ 64 - 1) ≤ now
+abbrev pub HasRisen : ℕ → ℕ → Type 0
+HasRisen before now = min (before + 1) (2 ^ 64 - 1) ≤ now
 
 -- the count hasn't fallen, a failure comes only where it rose, and no failure only where it stands
 pub record HasCause {T : Type 0} (before now : ℕ) (result : Result T Failed) : Type 0 where
   pub later : before ≤ now
-  pub failed : OnErr result (Rose before now)
+  pub failed : OnErr result (HasRisen before now)
   pub passed : OnOk result (now ≡ before)
 
 -- the count after a call that counts its failure, and nothing else

@@ -9,8 +9,8 @@ pub record Script : Type 0 where
   pub most : ℕ
 
 -- the next call fails
-abbrev pub FailsNext : Script → Type 0
-FailsNext script = Contains script.fails script.calls
+abbrev pub IsFailingNext : Script → Type 0
+IsFailingNext script = Contains script.fails script.calls
 
 -- the script after a call
 abbrev pub after_call : Script → Script

@@ -11,8 +11,8 @@ given_after before (Err failed) = before
 
 -- Ok n: the first n bytes of into were the next ones, and are no longer left; n is 0 exactly where none was left.
 -- A failure takes none.
-abbrev pub Gives : Option (List ℕ) → Option (List ℕ) → Result ℕ Failed → List ℕ → Type 0
-Gives before now result into =
+abbrev pub HasRead : Option (List ℕ) → Option (List ℕ) → Result ℕ Failed → List ℕ → Type 0
+HasRead before now result into =
     MatchResult result
     (λ n. (before ≡ prepend_known (take n into) now) × IfSome before (λ bytes. (n ≡ 0) ↔ (bytes ≡ [])))
     (λ _. now ≡ before)

@@ -1,5 +1,5 @@
 ghost use Rattle.std.specs.Prelude.{◌≡◌, ◌≤◌, ◌↔◌, ◌⊎◌, [], Some, IsErr, IfOk, OnErr, length};
-ghost use Rattle.ce_io.specs.Memory.{FailsNext, write_len, after_write, after_failed_write};
+ghost use Rattle.ce_io.specs.Memory.{IsFailingNext, write_len, after_write, after_failed_write};
 
 use crate::{Failed, Sink};
 use ce_model::NoMemory;
@@ -80,7 +80,7 @@ impl Sink for MemSink {
     fn write(&mut self, from: &[u8]) -> Result<usize, Failed>
         // It fails exactly where its script says so or no room is left, and takes all that it may at each other call.
         ensures failed { IsErr result
-            ↔ (FailsNext self.old.script ⊎ (self.old.room ≤ length self.old.written)) }
+            ↔ (IsFailingNext self.old.script ⊎ (self.old.room ≤ length self.old.written)) }
         ensures err { OnErr result (self.new ≡ after_failed_write self.old) }
         ensures ok { IfOk result (λ n. (n ≡ write_len self.old from.now)
             × (self.new ≡ after_write self.old from.now n)) }

@@ -1,5 +1,5 @@
 ghost use Rattle.std.specs.Prelude.{◌≡◌, ◌≤◌, ◌↔◌, Some, IsErr, IfOk, OnErr, length, take};
-ghost use Rattle.ce_io.specs.Memory.{FailsNext, read_len, after_read, after_failed_read};
+ghost use Rattle.ce_io.specs.Memory.{IsFailingNext, read_len, after_read, after_failed_read};
 
 use crate::{Failed, Source};
 use std::marker::Model;
@@ -64,7 +64,7 @@ impl Source for MemSource {
 
     fn read(&mut self, into: &mut [u8]) -> Result<usize, Failed>
         // It fails exactly where its script says so, and gives all that it may at each other call.
-        ensures failed { IsErr result ↔ FailsNext self.old.script }
+        ensures failed { IsErr result ↔ IsFailingNext self.old.script }
         ensures err { OnErr result (self.new ≡ after_failed_read self.old) }
         ensures ok { IfOk result (λ n. (n ≡ read_len self.old (length into.old))
             × (self.new ≡ after_read self.old n)) }

@@ -1,6 +1,6 @@
 ghost use Rattle.std.specs.Prelude.{◌≡◌, ◌<◌, ◌≤◌, ℕ, List, Option, IfOk, length};
 ghost use Rattle.ce_io.specs.Faults.{HasCause};
-ghost use Rattle.ce_io.specs.Source.{Gives, given_after};
+ghost use Rattle.ce_io.specs.Source.{HasRead, given_after};
 
 use crate::Failed;
 
@@ -21,6 +21,6 @@ pub trait Source {
         requires { 0 < length into.old }
         ensures count { IfOk result (λ n. n ≤ length into.new) }
         ensures given { given self.new ≡ given_after (given self.old) result }
-        ensures left { Gives (left self.old) (left self.new) result into.new }
+        ensures left { HasRead (left self.old) (left self.new) result into.new }
         ensures cause { HasCause (faults self.old) (faults self.new) result };
 }

@@ -1,7 +1,7 @@
 //! Reading a source to its end, and writing all to a sink.
 ghost use Rattle.std.specs.Prelude.{◌≡◌, ◌⊎◌, ℕ, Err, IsErrOf, OnErr, OnOk, take};
 ghost use Rattle.std.specs.Io.KnownBytes.{append_known};
-ghost use Rattle.ce_io.specs.Faults.{Rose, HasCause};
+ghost use Rattle.ce_io.specs.Faults.{HasRisen, HasCause};
 ghost use Rattle.ce_io.specs.Whole.{HasReadToEnd, reading};
 ghost use Rattle.ce_io.specs.declared.whole.ReadError.TheVariants.{Read};
 
@@ -57,7 +57,7 @@ pub fn read_to_end<S: Source>(
 ) -> Result<Vec<u8>, ReadError>
     ensures read { HasReadToEnd
         (reading S.left S.given S.faults source.old source.new) limit PIECE result }
-    ensures failed { IsErrOf result Read → Rose (S.faults source.old) (S.faults source.new) }
+    ensures failed { IsErrOf result Read → HasRisen (S.faults source.old) (S.faults source.new) }
     ensures passed { (result ≡ Err Read) ⊎ (S.faults source.new ≡ S.faults source.old) }
 {
     let mut text = Vec::new(alloc);

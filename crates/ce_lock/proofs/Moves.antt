@@ -18,7 +18,7 @@ use Rattle.ce_lock.specs.declared.view.View.{View}
 use Rattle.ce_lock.specs.Entries.{IsPrefix, Every, AtEach, IsIn, entries_of}
 use Rattle.ce_lock.specs.Meanings.{Meanings}
 use Rattle.ce_lock.specs.OneOrder.{IsQueue, IsFair, IsGone, who_of, IsMissable, IsTold, IsInOrder}
-use Rattle.ce_lock.specs.Telling.{nowhere, waiting, called, holding, moved, reading, wrote, settled, Drew, Looked, Gave, Left, Took, Committed, Settled}
+use Rattle.ce_lock.specs.Telling.{nowhere, waiting, called, holding, moved, reading, wrote, settled, HasDrawn, HasLooked, HasGiven, HasLeft, HasTaken, HasCommitted, IsSettled}
 use Rattle.ce_lock.proofs.Seats.{at_same, at_other, at_one, at_unmap, map_kept, each_kept, each_set, each_unset}
 use Rattle.ce_lock.proofs.Tickets.{retell, draw, leave, one_at_turn, served}
 use Rattle.ce_lock.proofs.Fair.{its_head}
@@ -171,7 +171,7 @@ module _ {O E F : Type 0} (m : Meanings O E F) (opening : O) (families : ℕ) wh
       (λ (b : (r.now + j ≡ r.next) × (y.0 ≡ id)). let e : r.now + i ≡ r.now + j = a.0 ∙ sym b.0 in omega arith) y.5) x.5) in
       omega arith
 
-  pub draws : (slots id : ℕ) (me : M) → me.0.place ≡ nowhere → me.0.right.draws ≡ true → Allows Rule slots id me 0 (λ n. (n + 1) % 2 ^ 64) (Drew me)
+  pub draws : (slots id : ℕ) (me : M) → me.0.place ≡ nowhere → me.0.right.draws ≡ true → Allows Rule slots id me 0 (λ n. (n + 1) % 2 ^ 64) (HasDrawn me)
   draws slots id me idle d s r _ at _ =
       let word : get_or s.words 0 0 ≡ r.next % 2 ^ 64 = ap (λ (l : List ℕ). get_or l 0 0) r.words in
       let not_drawn : me.0.place.drawn ≡ false = ap (λ (p : Place). p.drawn) idle in (
@@ -184,7 +184,7 @@ module _ {O E F : Type 0} (m : Meanings O E F) (opening : O) (families : ℕ) wh
         record { ticket = r.next; found_is = sym word; after_is = refl },
       )
 
-  pub looks : (slots id : ℕ) (me : M) (t : ℕ) → me.0.place ≡ waiting t → Allows Rule slots id me 1 (λ n. n) (Looked me)
+  pub looks : (slots id : ℕ) (me : M) (t : ℕ) → me.0.place ≡ waiting t → Allows Rule slots id me 1 (λ n. n) (HasLooked me)
   looks slots id me t is s r _ at _ =
       let word : get_or s.words 1 0 ≡ r.now % 2 ^ 64 = ap (λ (l : List ℕ). get_or l 1 0) r.words in
       let drawn : me.0.place.drawn ≡ true = ap (λ (p : Place). p.drawn) is in let ticket : me.0.place.ticket ≡ t = ap (λ (p : Place). p.ticket) is in
@@ -215,7 +215,7 @@ module _ {O E F : Type 0} (m : Meanings O E F) (opening : O) (families : ℕ) wh
       ap (λ (z : V). z.place.out) (sym (at_one s.views id v u at (ap (get_elem? s.views) same ∙ e))) ∙ in_)
       (λ (i : u.place.out ≡ false). i) (is_true_or_false u.place.out)
 
-  pub takes_out : (slots id : ℕ) (me : M) (t : ℕ) → me.0.place ≡ called t → Allows Rule slots id me 2 (λ n. n) (λ _ m'. Took m me m')
+  pub takes_out : (slots id : ℕ) (me : M) (t : ℕ) → me.0.place ≡ called t → Allows Rule slots id me 2 (λ n. n) (λ _ m'. HasTaken m me m')
   takes_out slots id me t is s r _ at _ =
       let drawn : me.0.place.drawn ≡ true = ap (λ (p : Place). p.drawn) is in let draws : me.0.right.draws ≡ true = r.entitled id me.0 at drawn in
       let ticket : me.0.place.ticket ≡ t = ap (λ (p : Place). p.ticket) is in let turn : me.0.place.turn ≡ true = ap (λ (p : Place). p.turn) is in
@@ -243,7 +243,7 @@ module _ {O E F : Type 0} (m : Meanings O E F) (opening : O) (families : ℕ) wh
       )
 
   pub gives_back : (slots id : ℕ) (me : M) (t : ℕ) (y o : O) → slots ≡ 1 → me.0.place ≡ holding t → me.1 ≡ (0, y) ∷ [] → me.0.page.opening ≡ Some o → m.fixed y ≡ m.fixed o → m.history y ≡ me.0.page.seen
-      → Allows Rule slots id me 2 (λ n. n) (λ _ m'. Gave me m')
+      → Allows Rule slots id me 2 (λ n. n) (λ _ m'. HasGiven me m')
   gives_back slots id me t y o one is hand opened fixed history s r count at _ =
       let drawn : me.0.place.drawn ≡ true = ap (λ (p : Place). p.drawn) is in let draws : me.0.right.draws ≡ true = r.entitled id me.0 at drawn in
       let ticket : me.0.place.ticket ≡ t = ap (λ (p : Place). p.ticket) is in let turn : me.0.place.turn ≡ true = ap (λ (p : Place). p.turn) is in
@@ -259,7 +259,7 @@ module _ {O E F : Type 0} (m : Meanings O E F) (opening : O) (families : ℕ) wh
         λ t' is'. let same_ticket : t ≡ t' = sym ticket ∙ ap (λ (p : Place). p.ticket) is' in ap (λ (z : ℕ). (moved me.0 (called z), rest me.1)) same_ticket,
       )
 
-  pub leaves : (slots id : ℕ) (me : M) (t : ℕ) → me.0.place ≡ called t → Allows Rule slots id me 1 (λ n. (n + 1) % 2 ^ 64) (λ _ m'. Left me m')
+  pub leaves : (slots id : ℕ) (me : M) (t : ℕ) → me.0.place ≡ called t → Allows Rule slots id me 1 (λ n. (n + 1) % 2 ^ 64) (λ _ m'. HasLeft me m')
   leaves slots id me t is s r _ at _ =
       let word : get_or s.words 1 0 ≡ r.now % 2 ^ 64 = ap (λ (l : List ℕ). get_or l 1 0) r.words in (
         moved me.0 nowhere,
@@ -272,7 +272,7 @@ module _ {O E F : Type 0} (m : Meanings O E F) (opening : O) (families : ℕ) wh
       )
 
   pub settles : (slots id : ℕ) (me : M) → ((f : F) (xs ys : List E) → m.lawful f (xs ++ ys) → m.lawful f xs) → me.0.place ≡ nowhere → me.0.right.spent ≡ false
-      → Allows Rule slots id me 2 (λ n. n) (λ _ m'. Settled m me m')
+      → Allows Rule slots id me 2 (λ n. n) (λ _ m'. IsSettled m me m')
   settles slots id me fronts is live s r _ at _ =
       let told = r.told id me.0 at live in let seen : List E = me.0.page.seen in let missed : List E = told.missed in
       let count : length seen ≤ length r.history = omega (arith, ap length told.whole, length-append seen missed) in (
@@ -329,7 +329,7 @@ module _ {O E F : Type 0} (m : Meanings O E F) (opening : O) (families : ℕ) wh
 
   pub commits : (slots id : ℕ) (me : M) (t : ℕ) (y o : O) (e : E) → me.0.place ≡ holding t → me.1 ≡ (0, y) ∷ [] → me.0.page.opening ≡ Some o → m.history y ≡ me.0.page.seen ++ e ∷ []
       → m.lawful (m.fixed o) (me.0.page.seen ++ e ∷ []) → length (me.0.page.seen ++ e ∷ []) < 2 ^ 63 → m.whose e ≡ who_of me.0.right
-      → (m.alone e ≡ true → (me.0.right.actor ≡ HOST) × (me.0.right.away ≡ [])) → Allows Rule slots id me 2 (λ n. (n + 1) % 2 ^ 64) (λ _ m'. Committed m me m')
+      → (m.alone e ≡ true → (me.0.right.actor ≡ HOST) × (me.0.right.away ≡ [])) → Allows Rule slots id me 2 (λ n. (n + 1) % 2 ^ 64) (λ _ m'. HasCommitted m me m')
   commits slots id me t y o e is hand opened history lawful short mine alone s r _ at _ =
       let drawn : me.0.place.drawn ≡ true = ap (λ (p : Place). p.drawn) is in let d : me.0.right.draws ≡ true = r.entitled id me.0 at drawn in
       let told = r.told id me.0 at (not_spent s r id me.0 at d) in let same : o ≡ opening = cc (opened, told.opening_is) in

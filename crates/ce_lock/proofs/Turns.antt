@@ -8,7 +8,7 @@ use Rattle.ce_lock.specs.declared.view.View.{View}
 use Rattle.ce_lock.specs.Entries.{Every, IsForeign, entries_of}
 use Rattle.ce_lock.specs.Meanings.{Meanings}
 use Rattle.ce_lock.specs.OneOrder.{who_of}
-use Rattle.ce_lock.specs.Telling.{called, holding, moved, reading, wrote, Took, Committed, Gave}
+use Rattle.ce_lock.specs.Telling.{called, holding, moved, reading, wrote, HasTaken, HasCommitted, HasGiven}
 use Rattle.atomic_table.specs.Seated.{TableId}
 use Rattle.ce_lock.specs.Sitting.{IsTurn, IsSound, IsKnown}
 use Rattle.ce_lock.proofs.Histories.{own_missed, own_mine, of_actor}
@@ -24,7 +24,7 @@ carries lawful fits whose alone fronts still f who call (e ∷ es) before l h fi
     let l' = subst (lawful f) (sym same) l in
     subst (λ x. fits f x who call) same (carries lawful fits whose alone fronts still f who call es (before ++ e ∷ []) l' h.1 (still f before e who call (fronts f (before ++ e ∷ []) es l') fit h.0))
 
-module _ {O E F : Type 0} (m : Meanings O E F) (me me' : Me O (View O E)) (t : ℕ) (at : me.0.place ≡ called t) (took : Took m me me') where
+module _ {O E F : Type 0} (m : Meanings O E F) (me me' : Me O (View O E)) (t : ℕ) (at : me.0.place ≡ called t) (took : HasTaken m me me') where
   -- the view while the object is out
   abbrev pub base : View O E
   base = moved (reading me.0 (me.0.page.seen ++ took.missed)) (holding t)
@@ -97,7 +97,7 @@ module _ {O E F : Type 0} (m : Meanings O E F) (me me' : Me O (View O E)) (t : �
             answered = (e, is, mine ∙ sym actor, subst (λ (x : F × (List E × Who)). stands x.0 x.1.0 e x.1.1 call reply) (λ k. (fixed_is k, (history_is k, sym actor k))) stand);
           }
 
-      module _ (after : Me O (View O E)) (committed : Committed m me'' after) where
+      module _ (after : Me O (View O E)) (committed : HasCommitted m me'' after) where
         pub committed_is : after ≡ (wrote me''.0 e, me''.1)
         committed_is = committed z e acted_hand grown_is
 
@@ -114,14 +114,14 @@ module _ {O E F : Type 0} (m : Meanings O E F) (me me' : Me O (View O E)) (t : �
         pub committed_back : m.fixed z ≡ m.fixed y → (after.0.page.opening ≡ Some took.opening) × (m.fixed z ≡ m.fixed took.opening) × (m.history z ≡ after.0.page.seen)
         committed_back fixed = (ap (λ (v : View O E). v.page.opening) committed_view ∙ took.opening_is, fixed ∙ fixed_is, grown_is ∙ ap (λ (x : Me O (View O E)). x.0.page.seen) (sym committed_is))
 
-        pub given : (last : Me O (View O E)) → Gave after last → (last.0 ≡ wrote (reading me.0 (me.0.page.seen ++ took.missed)) e) × (last.1 ≡ [])
+        pub given : (last : Me O (View O E)) → HasGiven after last → (last.0 ≡ wrote (reading me.0 (me.0.page.seen ++ took.missed)) e) × (last.1 ≡ [])
         given last gave = let is = gave t (ap (λ (v : View O E). v.place) committed_view) in (
           ap (λ (x : Me O (View O E)). x.0) is ∙ (ap (λ (v : View O E). moved v (called t)) committed_view ∙ ap (moved (wrote (reading me.0 (me.0.page.seen ++ took.missed)) e)) (sym at)),
           ap (λ (x : Me O (View O E)). x.1) is ∙ ap rest committed_hand,
         )
 
     -- after a refusal
-    pub refused : (last : Me O (View O E)) → Gave me'' last → (last.0 ≡ reading me.0 (me.0.page.seen ++ took.missed)) × (last.1 ≡ [])
+    pub refused : (last : Me O (View O E)) → HasGiven me'' last → (last.0 ≡ reading me.0 (me.0.page.seen ++ took.missed)) × (last.1 ≡ [])
     refused last gave = let is = gave t (ap (λ (v : View O E). v.place) acted_view) in (
       ap (λ (x : Me O (View O E)). x.0) is ∙ (ap (λ (v : View O E). moved v (called t)) acted_view ∙ ap (moved (reading me.0 (me.0.page.seen ++ took.missed))) (sym at)),
       ap (λ (x : Me O (View O E)). x.1) is ∙ ap rest acted_hand,

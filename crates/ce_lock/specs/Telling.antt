@@ -127,27 +127,27 @@ module _ {O E : Type 0} where
   first_view o = fresh_head o 0 1
 
   -- draw: the caller's view holds the ticket that it drew
-  pub record Drew (me : Me O (View O E)) (found : ℕ) (after : Me O (View O E)) : Type 0 where
+  pub record HasDrawn (me : Me O (View O E)) (found : ℕ) (after : Me O (View O E)) : Type 0 where
     pub ticket : ℕ
     pub found_is : ticket % 2 ^ 64 ≡ found
     pub after_is : after ≡ (moved me.0 (waiting ticket), me.1)
 
   -- look: it is the view's turn where the word equals its ticket
-  pub record Looked (me : Me O (View O E)) (found : ℕ) (after : Me O (View O E)) : Type 0 where
+  pub record HasLooked (me : Me O (View O E)) (found : ℕ) (after : Me O (View O E)) : Type 0 where
     pub yes : (t : ℕ) → me.0.place ≡ waiting t → found ≡ t % 2 ^ 64 → after ≡ (moved me.0 (called t), me.1)
     pub no : (t : ℕ) → me.0.place ≡ waiting t → found ≢ t % 2 ^ 64 → after ≡ me
 
   -- give: the object is home
-  abbrev pub Gave : Me O (View O E) → Me O (View O E) → Type 0
-  Gave me after = (t : ℕ) → me.0.place ≡ holding t → after ≡ (moved me.0 (called t), rest me.1)
+  abbrev pub HasGiven : Me O (View O E) → Me O (View O E) → Type 0
+  HasGiven me after = (t : ℕ) → me.0.place ≡ holding t → after ≡ (moved me.0 (called t), rest me.1)
 
   -- leave: the view holds no ticket
-  abbrev pub Left : Me O (View O E) → Me O (View O E) → Type 0
-  Left me after = after ≡ (moved me.0 nowhere, me.1)
+  abbrev pub HasLeft : Me O (View O E) → Me O (View O E) → Type 0
+  HasLeft me after = after ≡ (moved me.0 nowhere, me.1)
 
 module _ {O E F : Type 0} (m : Meanings O E F) where
   -- take: the view has seen the whole history, and has the object, which has just this history
-  pub record Took (me : Me O (View O E)) (after : Me O (View O E)) : Type 0 where
+  pub record HasTaken (me : Me O (View O E)) (after : Me O (View O E)) : Type 0 where
     pub opening : O
     pub object : O
     pub missed : List E
@@ -161,12 +161,12 @@ module _ {O E F : Type 0} (m : Meanings O E F) where
         → after ≡ (moved (reading me.0 (me.0.page.seen ++ missed)) (holding t), (0, object) ∷ me.1)
 
   -- commit: the view gains the entry that the object gained
-  abbrev pub Committed : Me O (View O E) → Me O (View O E) → Type 0
-  Committed me after = (y : O) (e : E) → me.1 ≡ (0, y) ∷ [] → m.history y ≡ me.0.page.seen ++ e ∷ []
+  abbrev pub HasCommitted : Me O (View O E) → Me O (View O E) → Type 0
+  HasCommitted me after = (y : O) (e : E) → me.1 ≡ (0, y) ∷ [] → m.history y ≡ me.0.page.seen ++ e ∷ []
       → after ≡ (wrote me.0 e, me.1)
 
   -- look, after a join: all that was kept is a prefix of what the view has seen
-  pub record Settled (me : Me O (View O E)) (after : Me O (View O E)) : Type 0 where
+  pub record IsSettled (me : Me O (View O E)) (after : Me O (View O E)) : Type 0 where
     pub opening : O
     pub opening_is : me.0.page.opening ≡ Some opening
     pub after_is : after ≡ (settled me.0, me.1)

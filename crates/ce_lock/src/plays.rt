@@ -1,7 +1,7 @@
 //! What each kind of step tells, and how views are cut in two and joined.
 ghost use Rattle.std.specs.Prelude.{ℕ};
 ghost use Rattle.ce_lock.specs.Meanings.{meanings};
-ghost use Rattle.ce_lock.specs.Telling.{Drew, Looked, Took, Committed, Gave, Left, Settled, copy, making, next_head, sending, sent, met, taking, closing, spent};
+ghost use Rattle.ce_lock.specs.Telling.{HasDrawn, HasLooked, HasTaken, HasCommitted, HasGiven, HasLeft, IsSettled, copy, making, next_head, sending, sent, met, taking, closing, spent};
 
 use crate::kept::Kept;
 use crate::view::View;
@@ -30,34 +30,34 @@ pub struct Leave;
 pub struct Settle;
 
 impl<O: Kept> Play<O, View<O, O::Entry>> for Draw {
-    ghost then = { λ _ me found after. Drew me found after };
+    ghost then = { λ _ me found after. HasDrawn me found after };
 }
 
 impl<O: Kept> Play<O, View<O, O::Entry>> for Look {
-    ghost then = { λ _ me found after. Looked me found after };
+    ghost then = { λ _ me found after. HasLooked me found after };
 }
 
 impl<O: Kept> Play<O, View<O, O::Entry>> for Take {
-    ghost then = { λ _ me _ after. Took (meanings O.fixed O.history O.lawful O.whose O.alone_entry)
+    ghost then = { λ _ me _ after. HasTaken (meanings O.fixed O.history O.lawful O.whose O.alone_entry)
         me after };
 }
 
 impl<O: Kept> Play<O, View<O, O::Entry>> for Commit {
-    ghost then = { λ _ me _ after. Committed (meanings O.fixed O.history O.lawful O.whose
+    ghost then = { λ _ me _ after. HasCommitted (meanings O.fixed O.history O.lawful O.whose
         O.alone_entry)
         me after };
 }
 
 impl<O: Kept> Play<O, View<O, O::Entry>> for Give {
-    ghost then = { λ _ me _ after. Gave me after };
+    ghost then = { λ _ me _ after. HasGiven me after };
 }
 
 impl<O: Kept> Play<O, View<O, O::Entry>> for Leave {
-    ghost then = { λ _ me _ after. Left me after };
+    ghost then = { λ _ me _ after. HasLeft me after };
 }
 
 impl<O: Kept> Play<O, View<O, O::Entry>> for Settle {
-    ghost then = { λ _ me _ after. Settled (meanings O.fixed O.history O.lawful O.whose
+    ghost then = { λ _ me _ after. IsSettled (meanings O.fixed O.history O.lawful O.whose
         O.alone_entry)
         me after };
 }

@@ -4,7 +4,7 @@ ghost use Rattle.ce_model.specs.declared.topology.TheConstants.{HOST};
 ghost use Rattle.ce_lock.specs.Entries.{IsIn};
 ghost use Rattle.ce_lock.specs.Meanings.{meanings};
 ghost use Rattle.ce_lock.specs.OneOrder.{who_of};
-ghost use Rattle.ce_lock.specs.Telling.{nowhere, waiting, called, holding, Drew, Looked, Took, Committed, Gave, Left, Settled, nobody, copy, making, next_head, sending, sent, met, taking, closing};
+ghost use Rattle.ce_lock.specs.Telling.{nowhere, waiting, called, holding, HasDrawn, HasLooked, HasTaken, HasCommitted, HasGiven, HasLeft, IsSettled, nobody, copy, making, next_head, sending, sent, met, taking, closing};
 ghost use Rattle.ce_lock.specs.Sitting.{IsSized, IsSameChair};
 
 use crate::board::{Board, Chair};
@@ -30,7 +30,7 @@ pub fn draw<O: Kept>(board: &Board<O>, chair: &mut Chair<O>) -> u64
     requires idle { chair.old.me.0.place ≡ nowhere }
     requires draws { chair.old.me.0.right.draws ≡ true }
     ensures chair { IsSameChair chair.old chair.new }
-    ensures drew { Drew chair.old.me result chair.new.me }
+    ensures drew { HasDrawn chair.old.me result chair.new.me }
 {
     board.fetch_add::<Draw>(chair, TICKET, 1)
 }
@@ -41,7 +41,7 @@ pub fn look<O: Kept>(board: &Board<O>, chair: &mut Chair<O>) -> u64
     requires chair { chair.old.table_id ≡ board.now.table_id }
     requires waits { (t : ℕ) × (chair.old.me.0.place ≡ waiting t) }
     ensures chair { IsSameChair chair.old chair.new }
-    ensures looked { Looked chair.old.me result chair.new.me }
+    ensures looked { HasLooked chair.old.me result chair.new.me }
 {
     board.load::<Look>(chair, SERVING)
 }
@@ -52,7 +52,7 @@ pub fn take<O: Kept>(board: &Board<O>, chair: &mut Chair<O>)
     requires chair { chair.old.table_id ≡ board.now.table_id }
     requires turn { (t : ℕ) × (chair.old.me.0.place ≡ called t) }
     ensures chair { IsSameChair chair.old chair.new }
-    ensures took { Took (meanings O.fixed O.history O.lawful O.whose O.alone_entry)
+    ensures took { HasTaken (meanings O.fixed O.history O.lawful O.whose O.alone_entry)
         chair.old.me chair.new.me }
 {
     board.load::<Take>(chair, COUNT);
@@ -72,7 +72,7 @@ pub fn commit<O: Kept>(board: &Board<O>, chair: &mut Chair<O>)
         × (O.alone_entry e ≡ true
         → (chair.old.me.0.right.actor ≡ HOST) × (chair.old.me.0.right.away ≡ [])) }
     ensures chair { IsSameChair chair.old chair.new }
-    ensures committed { Committed (meanings O.fixed O.history O.lawful O.whose O.alone_entry)
+    ensures committed { HasCommitted (meanings O.fixed O.history O.lawful O.whose O.alone_entry)
         chair.old.me chair.new.me }
 {
     board.fetch_add::<Commit>(chair, COUNT, 1);
@@ -87,7 +87,7 @@ pub fn give<O: Kept>(board: &Board<O>, chair: &mut Chair<O>)
         × (chair.old.me.0.page.opening ≡ Some o)
         × (O.fixed y ≡ O.fixed o) × (O.history y ≡ chair.old.me.0.page.seen) }
     ensures chair { IsSameChair chair.old chair.new }
-    ensures gave { Gave chair.old.me chair.new.me }
+    ensures gave { HasGiven chair.old.me chair.new.me }
 {
     board.load::<Give>(chair, COUNT);
 }
@@ -98,7 +98,7 @@ pub fn leave<O: Kept>(board: &Board<O>, chair: &mut Chair<O>)
     requires chair { chair.old.table_id ≡ board.now.table_id }
     requires turn { (t : ℕ) × (chair.old.me.0.place ≡ called t) }
     ensures chair { IsSameChair chair.old chair.new }
-    ensures left { Left chair.old.me chair.new.me }
+    ensures left { HasLeft chair.old.me chair.new.me }
 {
     board.fetch_add::<Leave>(chair, SERVING, 1);
 }
@@ -111,7 +111,7 @@ pub fn settle<O: Kept>(board: &Board<O>, chair: &mut Chair<O>)
     requires idle { chair.old.me.0.place ≡ nowhere }
     requires live { chair.old.me.0.right.spent ≡ false }
     ensures chair { IsSameChair chair.old chair.new }
-    ensures settled { Settled (meanings O.fixed O.history O.lawful O.whose O.alone_entry)
+    ensures settled { IsSettled (meanings O.fixed O.history O.lawful O.whose O.alone_entry)
         chair.old.me chair.new.me }
 {
     board.load::<Settle>(chair, COUNT);

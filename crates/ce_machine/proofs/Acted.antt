@@ -11,8 +11,7 @@ use Rattle.ce_model.specs.declared.entry.Found.{Found}
 use Rattle.ce_model.specs.declared.entry.Given.{Given}
 use Rattle.ce_model.specs.declared.entry.KillFound.{KillFound}
 use Rattle.ce_model.specs.declared.entry.KillFound.TheVariants.{Killed, Unused, Already}
-use Rattle.ce_model.specs.Lists.{without_first}
-use Rattle.ce_model.specs.Parcels.{Parcel, Item, start, mail, kill, is_eligible, given_as}
+use Rattle.ce_model.specs.Parcels.{Parcel, Item, start, mail, kill, is_eligible}
 use Rattle.ce_model.specs.Node.{Call, takes, spawns, kills, notes, arms, looks, takes_mail}
 use Rattle.ce_model.specs.Trace.{NodeRecord, taken_in, is_work, is_idle}
 use Rattle.ce_model.specs.Answers.{offered, is_among, kill_found, found_where, is_quiet_node, first_number}
@@ -24,8 +23,7 @@ use Rattle.ce_solo.proofs.Projection.Kinds.{entry_of}
 use Rattle.ce_machine.proofs.Changes.{next}
 use Rattle.ce_machine.proofs.Called.{placed-now, call-places, of-host, of-node}
 use Rattle.ce_machine.proofs.Answered.{place_of, answer_to, take-answer, spawn-answer, kill-answer, note-answer, arm-answer, look-answer, mail-answer}
-use Rattle.ce_machine.proofs.CallEffects.{busy, note-record, spawn-here, spawn-away, spawn-used, kill-here, kill-away, kill-unused, kill-already, take-own, take-other, arm-record, look-record, take_mail-record, note-cube, arm-cube, look-cube, spawn-cube, kill-cube, take-cube, no_mail-cube, mail-cube, call-each, call-cube}
-use Rattle.ce_machine.proofs.Taking.{taken-first}
+use Rattle.ce_machine.proofs.CallEffects.{with_call_mark, note-record, spawn-here, spawn-away, spawn-used, kill-here, kill-away, kill-unused, kill-already, take-own, take-other, arm-record, look-record, take_mail-record, note-cube, arm-cube, look-cube, spawn-cube, kill-cube, take-cube, no_mail-cube, mail-cube, call-each, call-cube}
 
 module _ (parts : MachineParts) (machine : IsMachine parts) (h : List Entry) (lawful : IsLawful parts h) (user : ℕ) (cube : HeldCube) (holds : held_by (after h) user ≡ Some cube)
     (actor : ℕ) where
@@ -59,7 +57,7 @@ module _ (parts : MachineParts) (machine : IsMachine parts) (h : List Entry) (la
   -- ---- notes
 
   pub noted-each : (pid word : ℕ) → IsCallOf parts h actor (notes pid word) cube → (node : ℕ) → (node == HOST) ≡ false
-      → (next h (entry_of user actor (Note pid word))).node_record node ≡ busy actor node ((after h).node_record node)
+      → (next h (entry_of user actor (Note pid word))).node_record node ≡ with_call_mark actor node ((after h).node_record node)
   noted-each pid word fits node no_host =
       each (notes pid word) fits (Note pid word) (note-answer (after h) cube actor pid word) node no_host ∙ note-record cube.grant.sub user actor node (was node) pid word
 
@@ -148,7 +146,7 @@ module _ (parts : MachineParts) (machine : IsMachine parts) (h : List Entry) (la
       spawned-as = spawned fresh e
 
       pub spawned-away : (node : ℕ) → (node == HOST) ≡ false → (node_of cube.grant.sub to.node == node) ≡ false
-          → (next h (entry_of user actor (Spawn pid image (place_of cube to) fresh))).node_record node ≡ busy actor node ((after h).node_record node)
+          → (next h (entry_of user actor (Spawn pid image (place_of cube to) fresh))).node_record node ≡ with_call_mark actor node ((after h).node_record node)
       spawned-away node no_host away =
           each (spawns pid image to) fits (Spawn pid image (place_of cube to) fresh) (spawned fresh e) node no_host
           ∙ spawn-away cube.grant.sub user actor node (was node) pid image (place_of cube to) fresh away
@@ -161,13 +159,13 @@ module _ (parts : MachineParts) (machine : IsMachine parts) (h : List Entry) (la
     pub spawned-here : not (is_among to.pid ((after h).node_record (node_of cube.grant.sub to.node)).spawned) ≡ true
         → let node = node_of cube.grant.sub to.node in let kept = (after h).node_record node in
         (next h (entry_of user actor (Spawn pid image (place_of cube to) true))).node_record node
-        ≡ record (busy actor node kept) { waiting = kept.waiting ++ start to.pid image ∷ []; spawned = kept.spawned ++ to.pid ∷ [] }
+        ≡ record (with_call_mark actor node kept) { waiting = kept.waiting ++ start to.pid image ∷ []; spawned = kept.spawned ++ to.pid ∷ [] }
     spawned-here e =
         each (spawns pid image to) fits (Spawn pid image (place_of cube to) true) (spawned true e) node_at at_no_host
         ∙ spawn-here cube.grant.sub user actor node_at (was node_at) pid image (place_of cube to) (eq-eqb node_at node_at refl)
 
     pub spawn_used-each : not (is_among to.pid ((after h).node_record (node_of cube.grant.sub to.node)).spawned) ≡ false → (node : ℕ) → (node == HOST) ≡ false
-        → (next h (entry_of user actor (Spawn pid image (place_of cube to) false))).node_record node ≡ busy actor node ((after h).node_record node)
+        → (next h (entry_of user actor (Spawn pid image (place_of cube to) false))).node_record node ≡ with_call_mark actor node ((after h).node_record node)
     spawn_used-each e node no_host =
         each (spawns pid image to) fits (Spawn pid image (place_of cube to) false) (spawned false e) node no_host
         ∙ spawn-used cube.grant.sub user actor node (was node) pid image (place_of cube to)
@@ -187,7 +185,7 @@ module _ (parts : MachineParts) (machine : IsMachine parts) (h : List Entry) (la
           ∙ ap (Kill pid (place_of cube to)) e
 
       pub killed-away : (node : ℕ) → (node == HOST) ≡ false → (node_of cube.grant.sub to.node == node) ≡ false
-          → (next h (entry_of user actor (Kill pid (place_of cube to) found))).node_record node ≡ busy actor node ((after h).node_record node)
+          → (next h (entry_of user actor (Kill pid (place_of cube to) found))).node_record node ≡ with_call_mark actor node ((after h).node_record node)
       killed-away node no_host away =
           each (kills pid to) fits (Kill pid (place_of cube to) found) killed-as node no_host
           ∙ kill-away cube.grant.sub user actor node (was node) pid (place_of cube to) found away
@@ -200,19 +198,19 @@ module _ (parts : MachineParts) (machine : IsMachine parts) (h : List Entry) (la
     pub killed-here : kill_found ((after h).node_record (node_of cube.grant.sub to.node)) to.pid ≡ Killed
         → let node = node_of cube.grant.sub to.node in let kept = (after h).node_record node in
         (next h (entry_of user actor (Kill pid (place_of cube to) Killed))).node_record node
-        ≡ record (busy actor node kept) { waiting = kept.waiting ++ kill to.pid ∷ []; killed = kept.killed ++ to.pid ∷ [] }
+        ≡ record (with_call_mark actor node kept) { waiting = kept.waiting ++ kill to.pid ∷ []; killed = kept.killed ++ to.pid ∷ [] }
     killed-here e =
         each (kills pid to) fits (Kill pid (place_of cube to) Killed) (killed-as Killed e) kill_at kill_no_host
         ∙ kill-here cube.grant.sub user actor kill_at (was kill_at) pid (place_of cube to) (eq-eqb kill_at kill_at refl)
 
     pub kill_unused-each : kill_found ((after h).node_record (node_of cube.grant.sub to.node)) to.pid ≡ Unused → (node : ℕ) → (node == HOST) ≡ false
-        → (next h (entry_of user actor (Kill pid (place_of cube to) Unused))).node_record node ≡ busy actor node ((after h).node_record node)
+        → (next h (entry_of user actor (Kill pid (place_of cube to) Unused))).node_record node ≡ with_call_mark actor node ((after h).node_record node)
     kill_unused-each e node no_host =
         each (kills pid to) fits (Kill pid (place_of cube to) Unused) (killed-as Unused e) node no_host
         ∙ kill-unused cube.grant.sub user actor node (was node) pid (place_of cube to)
 
     pub kill_already-each : kill_found ((after h).node_record (node_of cube.grant.sub to.node)) to.pid ≡ Already → (node : ℕ) → (node == HOST) ≡ false
-        → (next h (entry_of user actor (Kill pid (place_of cube to) Already))).node_record node ≡ busy actor node ((after h).node_record node)
+        → (next h (entry_of user actor (Kill pid (place_of cube to) Already))).node_record node ≡ with_call_mark actor node ((after h).node_record node)
     kill_already-each e node no_host =
         each (kills pid to) fits (Kill pid (place_of cube to) Already) (killed-as Already e) node no_host
         ∙ kill-already cube.grant.sub user actor node (was node) pid (place_of cube to)
@@ -248,39 +246,3 @@ module _ (parts : MachineParts) (machine : IsMachine parts) (h : List Entry) (la
       pub took-cube : held_by (next h (entry_of user actor (Take asking dead poller given))) user
           ≡ Some (record cube { dispatched = if is_work given then cube.dispatched + 1 else cube.dispatched })
       took-cube = whole call fits (Take asking dead poller given) took-as ∙ ap Some (take-cube user actor cube asking dead poller given no_host)
-
-    pub offered-item : (item : Item) → find (is_eligible asking dead) ((after h).node_record actor).waiting ≡ Some item → (cube.dispatched == cube.armed) ≡ false
-        → offered (find (is_eligible asking dead) ((after h).node_record actor).waiting) poller (cube.dispatched == cube.armed) ≡ given_as item
-    offered-item item found left = rw (found, left) refl
-
-    -- an item that is given is the first that can be
-    pub took-item : (item : Item) → find (is_eligible asking dead) ((after h).node_record actor).waiting ≡ Some item → (cube.dispatched == cube.armed) ≡ false
-        → let kept = (after h).node_record actor in (next h (entry_of user actor (Take asking dead poller (given_as item)))).node_record actor
-        ≡ record kept { waiting = without_first (is_eligible asking dead) kept.waiting; mark = record { idle = false; asking = asking; dead = dead } }
-    took-item item found left =
-        took-own (given_as item) (offered-item item found left)
-        ∙ (λ i. record (was actor) { waiting = without i; mark = record { idle = no_idle item i; asking = asking; dead = dead } })
-      where
-        no_idle : (item : Item) → is_idle (given_as item) ≡ false
-        no_idle (start pid image) = refl
-        no_idle (mail parcel) = refl
-        no_idle (kill pid) = refl
-
-        named : (item : Item) → taken_in (Take asking dead poller (given_as item)) ≡ Some (given_as item)
-        named (start pid image) = refl
-        named (mail parcel) = refl
-        named (kill pid) = refl
-
-        without : without_taken (taken_in (Take asking dead poller (given_as item))) (was actor).waiting ≡ without_first (is_eligible asking dead) (was actor).waiting
-        without =
-            ap (λ taken. without_taken taken (was actor).waiting) (named item)
-            ∙ taken-first parts machine h lawful user cube holds fits.not_drained actor taker asking dead item found
-
-    pub took-item_cube : (item : Item) → find (is_eligible asking dead) ((after h).node_record actor).waiting ≡ Some item → (cube.dispatched == cube.armed) ≡ false
-        → held_by (next h (entry_of user actor (Take asking dead poller (given_as item)))) user ≡ Some (record cube { dispatched = cube.dispatched + 1 })
-    took-item_cube item found left = took-cube (given_as item) (offered-item item found left) ∙ ap (λ (b : Bool). Some (record cube { dispatched = if b then cube.dispatched + 1 else cube.dispatched })) (works item)
-      where
-        works : (item : Item) → is_work (given_as item) ≡ true
-        works (start pid image) = refl
-        works (mail parcel) = refl
-        works (kill pid) = refl

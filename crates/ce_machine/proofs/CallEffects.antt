@@ -1,10 +1,8 @@
 -- What each kind of call makes of what is kept for a node and of how its cube stands, and how a message comes to its places one by one.
-use Rattle.std.proofs.Common.{◌≡◌, ℕ, zero, suc, ◌+◌, ◌<◌, ◌≤◌, Bool, true, false, ◌==◌, if◌then◌else◌, List, [], ◌∷◌, ◌++◌, map, filter, take, length, get_or, Option, Some, None, refl, ap, sym, ◌∙◌, subst, inl, inr, arith, append-nil, length-append}
+use Rattle.std.proofs.Common.{◌≡◌, ℕ, ◌+◌, ◌≤◌, Bool, true, false, ◌==◌, if◌then◌else◌, List, [], ◌∷◌, ◌++◌, map, filter, length, Option, Some, None, refl, ap, sym, ◌∙◌, subst, inl, inr, arith, append-nil, length-append}
 use Rattle.std.specs.List.{AllByRecursion}
-use Rattle.std.proofs.lemmas.Bool.{cases_Bool, cond_both, both_ways, eq-eqb, ne_eqb, eqb-true}
-use Rattle.std.proofs.lemmas.List.{map-append, length-map, length-take}
-use Rattle.std.proofs.lemmas.List.Elements.{filter-append}
-use Rattle.std.proofs.Math.Seq.{take-suc}
+use Rattle.std.proofs.lemmas.Bool.{cases_Bool, both_ways, eq-eqb, ne_eqb, eqb-true}
+use Rattle.std.proofs.lemmas.List.{length-map}
 use Rattle.ce_model.specs.declared.topology.TheConstants.{HOST}
 use Rattle.ce_model.specs.declared.topology.Place.{Place}
 use Rattle.ce_model.specs.declared.topology.BlockId.{BlockId}
@@ -22,37 +20,27 @@ use Rattle.ce_model.specs.Parcels.{Parcel, Item, start, mail, kill, is_named_by,
 use Rattle.ce_model.specs.Node.{Call, takes, sends, spawns, kills, notes, arms, looks, takes_mail}
 use Rattle.ce_model.specs.Trace.{NodeRecord, Standing, taken_in, is_work, is_idle}
 use Rattle.ce_model.specs.Answers.{answer, call_of, is_quiet, is_used_up, found_where}
-use Rattle.ce_model.specs.Subcubes.{is_inside, relative}
+use Rattle.ce_model.specs.Subcubes.{is_inside}
 use Rattle.ce_model.specs.Renaming.{CubeGrant, place_outward, number_outward, targets_renamed}
+use Rattle.ce_model.specs.Limits.{greatest_blocks}
 use Rattle.ce_model.specs.Machine.{MachineParts, IsMachine, HeldCube, held_by, nodes_of, standing_of, item_inward, without_taken, record_by, held_by_entry, after, with_places_outward, IsCallOf, IsLawful}
 use Rattle.ce_model.proofs.Subcubes.{is_inside-node_of}
 use Rattle.ce_model.proofs.AloneByEntries.{call_of-answer}
 use Rattle.ce_solo.proofs.Sending.{place_parts}
-use Rattle.ce_solo.proofs.Projection.Numbers.{IsPlaced, IsNumber, out_node, place_in_out}
+use Rattle.ce_solo.proofs.Projection.Numbers.{IsPlaced, IsNumber, out_node}
 use Rattle.ce_solo.proofs.Projection.Kinds.{entry_of}
 use Rattle.ce_machine.proofs.Changes.{next}
 use Rattle.ce_machine.proofs.Called.{IsTarget, target-number, HasPlacesOf, placed-now, call-places}
 use Rattle.ce_machine.proofs.Answered.{send-answer}
-use Rattle.ce_machine.proofs.QueueRoom.{few-parcels, mail_room, queue_room, node-limits, cube-limits}
+use Rattle.ce_machine.proofs.QueueRoom.{few-parcels, queue_room, node-limits, cube-limits}
 use Rattle.ce_machine.proofs.Effects.{call-own, call-inside, call-outside}
 
 -- ---- what a message brings
-
--- the parcel to one place of a message, as its cube knows it
-abbrev pub sent_parcel : Place → ℕ → List ℕ → Place × BlockId → Parcel
-sent_parcel from number bytes target = record { from = from; to = target.0; number = number; block = record { id = target.1; bytes = bytes } }
 
 -- what the entry of a message to these places of the cube brings to a number of the machine, which may be the host's
 abbrev pub mails_at : Subcube → Place → ℕ → List ℕ → ℕ → List (Place × BlockId) → List Item
 mails_at sub from first bytes node to =
     map (item_inward sub) (map mail (filter (λ parcel. parcel.to.node == node) (parcels_from from first bytes (targets_renamed (place_outward sub) (λ id. id) to))))
-
-parcels-append : (from : Place) (first : ℕ) (bytes : List ℕ) (front behind : List (Place × BlockId))
-    → parcels_from from first bytes (front ++ behind) ≡ parcels_from from first bytes front ++ parcels_from from (first + length front) bytes behind
-parcels-append from first bytes [] behind = ap (λ n. parcels_from from n bytes behind) (omega arith)
-parcels-append from first bytes (target ∷ front) behind =
-    ap (λ ps. sent_parcel from first bytes target ∷ ps)
-    (parcels-append from (first + 1) bytes front behind ∙ ap (λ n. parcels_from from (first + 1) bytes front ++ parcels_from from n bytes behind) (omega arith))
 
 -- where none of the targets is, nothing comes
 pub mails-none : (sub : Subcube) (from : Place) (first : ℕ) (bytes : List ℕ) (node : ℕ) (to : List (Place × BlockId))
@@ -60,75 +48,13 @@ pub mails-none : (sub : Subcube) (from : Place) (first : ℕ) (bytes : List ℕ)
 mails-none sub from first bytes node [] all = refl
 mails-none sub from first bytes node (target ∷ to) all = rw all.0 (mails-none sub from (first + 1) bytes node to all.1)
 
--- no less comes with more targets
-pub mails-front : (sub : Subcube) (from : Place) (first : ℕ) (bytes : List ℕ) (node k : ℕ) (to : List (Place × BlockId))
-    → length (mails_at sub from first bytes node (take k to)) ≤ length (mails_at sub from first bytes node to)
-mails-front sub from first bytes node zero to = omega arith
-mails-front sub from first bytes node (suc k) [] = omega arith
-mails-front sub from first bytes node (suc k) (target ∷ to) =
-    elim (cases_Bool (number_outward sub target.0.node == node)) [
-      | inl t ↦ rw t (omega (arith, mails-front sub from (first + 1) bytes node k to))
-      | inr f ↦ rw f (mails-front sub from (first + 1) bytes node k to)
-    ]
-
--- who sent it, as the cube knows the place
-abbrev pub sender : Subcube → Place → Place
-sender sub from = record { node = relative sub from.node; pid = from.pid }
-
--- what one target brings to a number of the machine, with this number for its parcel
-abbrev pub posted : Subcube → Place → List ℕ → ℕ → ℕ → Place × BlockId → List Item
-posted sub from bytes node number target = if number_outward sub target.0.node == node then mail (sent_parcel (sender sub from) number bytes target) ∷ [] else []
-
-module _ (dim : ℕ) (grant : CubeGrant) (placed : IsPlaced dim grant) (from : Place) (bytes : List ℕ) (node : ℕ) where
-  abbrev sub : Subcube
-  sub = grant.sub
-
-  -- the first target brings its parcel, with the first number
-  pub mails-first : (first : ℕ) (target : Place × BlockId) (to : List (Place × BlockId)) → IsNumber grant.dim target.0.node
-      → mails_at grant.sub from first bytes node (target ∷ to) ≡ posted sub from bytes node first target ++ mails_at grant.sub from (first + 1) bytes node to
-  mails-first first target to is =
-      let inward : List Parcel → List Item = λ ps. map (item_inward sub) (map mail ps) in
-      let here : Parcel → Bool = λ parcel. parcel.to.node == node in
-      let out = sent_parcel from first bytes (place_outward sub target.0, target.1) in
-      let rest = parcels_from from (first + 1) bytes (targets_renamed (place_outward sub) (λ id. id) to) in
-      elim (cases_Bool (number_outward sub target.0.node == node)) [
-        | inl t ↦ rw t (ap (λ to. mail (sent_parcel (sender sub from) first bytes (to, target.1)) ∷ inward (filter here rest)) (place_in_out dim grant placed target.0 is))
-        | inr f ↦ rw f refl
-      ]
-
-  -- a target more brings its parcel, with the next number
-  pub mails-more : (first : ℕ) (front : List (Place × BlockId)) (target : Place × BlockId) → IsNumber grant.dim target.0.node
-      → mails_at grant.sub from first bytes node (front ++ target ∷ []) ≡ mails_at grant.sub from first bytes node front ++ posted sub from bytes node (first + length front) target
-  mails-more first front target is =
-      let out : List (Place × BlockId) → List (Place × BlockId) = targets_renamed (place_outward sub) (λ id. id) in
-      let here : Parcel → Bool = λ parcel. parcel.to.node == node in
-      let inward : List Parcel → List Item = λ ps. map (item_inward sub) (map mail ps) in
-      let number : first + length (out front) ≡ first + length front = omega (arith, length-map {B = Place × BlockId} front (λ target. (place_outward sub target.0, target.1))) in
-      ap (λ ps. inward (filter here ps))
-      (ap (λ to. parcels_from from first bytes to) (map-append (λ (target : Place × BlockId). (place_outward sub target.0, target.1)) front (target ∷ []))
-      ∙ parcels-append from first bytes (out front) (out (target ∷ []))
-      ∙ ap (λ n. parcels_from from first bytes (out front) ++ parcels_from from n bytes (out (target ∷ []))) number)
-      ∙ ap inward (filter-append here (parcels_from from first bytes (out front)) (parcels_from from (first + length front) bytes (out (target ∷ []))))
-      ∙ ap (map (item_inward sub)) (map-append mail (filter here (parcels_from from first bytes (out front))) (filter here (parcels_from from (first + length front) bytes (out (target ∷ [])))))
-      ∙ map-append (item_inward sub) (map mail (filter here (parcels_from from first bytes (out front)))) (map mail (filter here (parcels_from from (first + length front) bytes (out (target ∷ [])))))
-      ∙ ap (λ items. mails_at sub from first bytes node front ++ items) (mails-first (first + length front) target [] is ∙ append-nil (posted sub from bytes node (first + length front) target))
-
-  -- the same for a loop over the targets, which has come to number k
-  pub mails-next : (first : ℕ) (to : List (Place × BlockId)) (k : ℕ) (other : Place × BlockId) → k < length to → IsNumber grant.dim (get_or to k other).0.node
-      → mails_at grant.sub from first bytes node (take (suc k) to) ≡ mails_at grant.sub from first bytes node (take k to) ++ posted sub from bytes node (first + k) (get_or to k other)
-  mails-next first to k other below is =
-      let long : length (take k to) ≡ k = omega (arith, below, length-take k to) in
-      ap (mails_at grant.sub from first bytes node) (take-suc to k other below)
-      ∙ mails-more first (take k to) (get_or to k other) is
-      ∙ ap (λ n. mails_at grant.sub from first bytes node (take k to) ++ posted sub from bytes node (first + n) (get_or to k other)) long
-
 -- ---- what is kept for a node
 
 -- what is kept for a node, once an actor has made an entry that is no take
-abbrev pub busy : ℕ → ℕ → NodeRecord → NodeRecord
-busy actor node kept = record kept { mark = if actor == node then record kept.mark { idle = false } else kept.mark }
+abbrev pub with_call_mark : ℕ → ℕ → NodeRecord → NodeRecord
+with_call_mark actor node kept = record kept { mark = if actor == node then record kept.mark { idle = false } else kept.mark }
 
-pub busy-other : (actor node : ℕ) (kept : NodeRecord) → (actor == node) ≡ false → busy actor node kept ≡ kept
+pub busy-other : (actor node : ℕ) (kept : NodeRecord) → (actor == node) ≡ false → with_call_mark actor node kept ≡ kept
 busy-other actor node kept differ = rw differ refl
 
 -- nothing is taken, and nothing is sent
@@ -143,20 +69,12 @@ comes : (b : Bool) (items more : List Item) → (if b then items else items) ++ 
 comes true items more = refl
 comes false items more = refl
 
--- that is, its mark changes where it is the actor
-pub busy-if : (actor node : ℕ) (kept : NodeRecord) → busy actor node kept ≡ (if actor == node then record kept { mark = record kept.mark { idle = false } } else kept)
-busy-if actor node kept = by_test (actor == node)
-  where
-    by_test : (b : Bool) → record kept { mark = if b then record kept.mark { idle = false } else kept.mark } ≡ (if b then record kept { mark = record kept.mark { idle = false } } else kept)
-    by_test true = refl
-    by_test false = refl
-
 module _ (sub : Subcube) (user actor node : ℕ) (kept : NodeRecord) where
   -- what is kept once this entry is made
   abbrev pub by : What → NodeRecord
   by what = record_by sub (entry_of user actor what) node kept
 
-  pub note-record : (pid word : ℕ) → by (Note pid word) ≡ busy actor node kept
+  pub note-record : (pid word : ℕ) → by (Note pid word) ≡ with_call_mark actor node kept
   note-record pid word = λ i. record {
     waiting = stays (actor == node) kept.waiting i;
     spawned = append-nil kept.spawned i;
@@ -166,7 +84,7 @@ module _ (sub : Subcube) (user actor node : ℕ) (kept : NodeRecord) where
 
   -- a spawn, of an id that is new
   pub spawn-here : (pid image : ℕ) (to : Place) → (to.node == node) ≡ true
-      → by (Spawn pid image to true) ≡ record (busy actor node kept) { waiting = kept.waiting ++ start to.pid image ∷ []; spawned = kept.spawned ++ to.pid ∷ [] }
+      → by (Spawn pid image to true) ≡ record (with_call_mark actor node kept) { waiting = kept.waiting ++ start to.pid image ∷ []; spawned = kept.spawned ++ to.pid ∷ [] }
   spawn-here pid image to here = rw here (λ i. record {
     waiting = comes (actor == node) kept.waiting (start to.pid image ∷ []) i;
     spawned = kept.spawned ++ to.pid ∷ [];
@@ -174,17 +92,17 @@ module _ (sub : Subcube) (user actor node : ℕ) (kept : NodeRecord) where
     mark = if actor == node then record kept.mark { idle = false } else kept.mark;
   })
 
-  pub spawn-away : (pid image : ℕ) (to : Place) (fresh : Bool) → (to.node == node) ≡ false → by (Spawn pid image to fresh) ≡ busy actor node kept
+  pub spawn-away : (pid image : ℕ) (to : Place) (fresh : Bool) → (to.node == node) ≡ false → by (Spawn pid image to fresh) ≡ with_call_mark actor node kept
   spawn-away pid image to true away = rw away (note-record pid image)
   spawn-away pid image to false away = note-record pid image
 
   -- and of one that isn't
-  pub spawn-used : (pid image : ℕ) (to : Place) → by (Spawn pid image to false) ≡ busy actor node kept
+  pub spawn-used : (pid image : ℕ) (to : Place) → by (Spawn pid image to false) ≡ with_call_mark actor node kept
   spawn-used pid image to = note-record pid image
 
   -- a kill that is accepted
   pub kill-here : (pid : ℕ) (to : Place) → (to.node == node) ≡ true
-      → by (Kill pid to Killed) ≡ record (busy actor node kept) { waiting = kept.waiting ++ kill to.pid ∷ []; killed = kept.killed ++ to.pid ∷ [] }
+      → by (Kill pid to Killed) ≡ record (with_call_mark actor node kept) { waiting = kept.waiting ++ kill to.pid ∷ []; killed = kept.killed ++ to.pid ∷ [] }
   kill-here pid to here = rw here (λ i. record {
     waiting = comes (actor == node) kept.waiting (kill to.pid ∷ []) i;
     spawned = append-nil kept.spawned i;
@@ -192,22 +110,22 @@ module _ (sub : Subcube) (user actor node : ℕ) (kept : NodeRecord) where
     mark = if actor == node then record kept.mark { idle = false } else kept.mark;
   })
 
-  pub kill-away : (pid : ℕ) (to : Place) (found : KillFound) → (to.node == node) ≡ false → by (Kill pid to found) ≡ busy actor node kept
+  pub kill-away : (pid : ℕ) (to : Place) (found : KillFound) → (to.node == node) ≡ false → by (Kill pid to found) ≡ with_call_mark actor node kept
   kill-away pid to Killed away = rw away (note-record pid 0)
   kill-away pid to Unused away = note-record pid 0
   kill-away pid to Already away = note-record pid 0
 
   -- and one that isn't
-  pub kill-unused : (pid : ℕ) (to : Place) → by (Kill pid to Unused) ≡ busy actor node kept
+  pub kill-unused : (pid : ℕ) (to : Place) → by (Kill pid to Unused) ≡ with_call_mark actor node kept
   kill-unused pid to = note-record pid 0
 
-  pub kill-already : (pid : ℕ) (to : Place) → by (Kill pid to Already) ≡ busy actor node kept
+  pub kill-already : (pid : ℕ) (to : Place) → by (Kill pid to Already) ≡ with_call_mark actor node kept
   kill-already pid to = note-record pid 0
 
   -- a message to places of the cube
   pub send-record : (pid first : ℕ) (to : List (Place × BlockId)) (bytes : List ℕ)
       → by (Send pid first (targets_renamed (place_outward sub) (λ id. id) to) bytes)
-      ≡ record (busy actor node kept) { waiting = kept.waiting ++ mails_at sub (record { node = actor; pid = pid }) first bytes node to }
+      ≡ record (with_call_mark actor node kept) { waiting = kept.waiting ++ mails_at sub (record { node = actor; pid = pid }) first bytes node to }
   send-record pid first to bytes = λ i. record {
     waiting = comes (actor == node) kept.waiting (mails_at sub (record { node = actor; pid = pid }) first bytes node to) i;
     spawned = append-nil kept.spawned i;
@@ -388,7 +306,7 @@ module _ (parts : MachineParts) (machine : IsMachine parts) (h : List Entry) (la
 
   -- what a message that fits brings to a node of the machine, and to the host
   pub sent-each : (node : ℕ) → (node == HOST) ≡ false → (next h (entry_of user actor sending)).node_record node
-      ≡ record (busy actor node ((after h).node_record node)) { waiting = ((after h).node_record node).waiting ++ arrived node to }
+      ≡ record (with_call_mark actor node ((after h).node_record node)) { waiting = ((after h).node_record node).waiting ++ arrived node to }
   sent-each node no_host =
       call-each parts machine h lawful user cube holds actor (sends pid to bytes) fits sending (send-answer (after h) cube actor pid to bytes) node no_host
       ∙ send-record cube.grant.sub user actor node ((after h).node_record node) pid cube.parcel_count to bytes
@@ -410,29 +328,10 @@ module _ (parts : MachineParts) (machine : IsMachine parts) (h : List Entry) (la
           length-append ((after h).node_record node).waiting (arrived node to),
         )
 
-    pub sent-mail_room : length cube.mail + length (arrived HOST to) ≤ mail_room
+    pub sent-mail_room : length cube.mail + length (arrived HOST to) ≤ greatest_blocks
     sent-mail_room =
         omega (
           arith,
           (cube-limits parts (h ++ entry_of user actor sending ∷ []) machine lawful' user _ sent-cube).mail,
           length-append cube.mail (arrived HOST to),
-        )
-
-    -- and for what comes with the targets so far
-    pub send-room : (node k : ℕ) → (node == HOST) ≡ false → length (((after h).node_record node).waiting ++ arrived node (take k to)) ≤ queue_room
-    send-room node k no_host =
-        omega (
-          arith,
-          sent-room node no_host,
-          length-append ((after h).node_record node).waiting (arrived node (take k to)),
-          mails-front cube.grant.sub (record { node = actor; pid = pid }) cube.parcel_count bytes node k to,
-        )
-
-    pub send-mail_room : (k : ℕ) → length (cube.mail ++ arrived HOST (take k to)) ≤ mail_room
-    send-mail_room k =
-        omega (
-          arith,
-          sent-mail_room,
-          length-append cube.mail (arrived HOST (take k to)),
-          mails-front cube.grant.sub (record { node = actor; pid = pid }) cube.parcel_count bytes HOST k to,
         )

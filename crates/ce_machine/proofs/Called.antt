@@ -8,7 +8,7 @@ use Rattle.ce_model.specs.declared.topology.Place.{Place}
 use Rattle.ce_model.specs.declared.topology.BlockId.{BlockId}
 use Rattle.ce_model.specs.declared.entry.Entry.{Entry}
 use Rattle.ce_model.specs.Limits.{greatest_targets, process_count, process_count_lem}
-use Rattle.ce_model.specs.Node.{Node, Call, takes, sends, spawns, kills, notes, arms, looks, takes_mail, is_place, host_place}
+use Rattle.ce_model.specs.Node.{Node, Call, sends, spawns, kills, is_place, host_place}
 use Rattle.ce_model.specs.Kernel.{is_target}
 use Rattle.ce_model.specs.Saying.{says}
 use Rattle.ce_model.specs.Cube.{Cube, CubeState, IsCube, opening, left_by, asked_by, call_by}
@@ -16,7 +16,7 @@ use Rattle.ce_model.specs.Sound.{IsSound}
 use Rattle.ce_model.specs.Subcubes.{relative, is_inside}
 use Rattle.ce_model.specs.Renaming.{targets_renamed, call_with, block_outward}
 use Rattle.ce_model.specs.Views.{trace_behind}
-use Rattle.ce_model.specs.Machine.{MachineParts, IsMachine, HeldCube, held_by, cube_of, after, HoldsCube, IsCallOf, IsLawful}
+use Rattle.ce_model.specs.Machine.{MachineParts, IsMachine, HeldCube, held_by, cube_of, after, HasHeldCube, IsCallOf, IsLawful}
 use Rattle.ce_solo.proofs.Lists.{all-weaker}
 use Rattle.ce_solo.proofs.Words as words
 use Rattle.ce_solo.proofs.Sending.{not_host, place_parts}
@@ -109,7 +109,7 @@ pub record HasCube (h : List Entry) (user : ℕ) (P : HeldCube → Type 0) : Typ
   pub holds : held_by (after h) user ≡ Some cube
   pub is : P cube
 
-pub has-cube : (h : List Entry) (user : ℕ) (P : HeldCube → Type 0) → HoldsCube h user P → HasCube h user P
+pub has-cube : (h : List Entry) (user : ℕ) (P : HeldCube → Type 0) → HasHeldCube h user P → HasCube h user P
 has-cube h user P some = by_held (held_by (after h) user) refl some
   where
     by_held : (held : Option HeldCube) → held_by (after h) user ≡ held → IsSomeAnd held P → HasCube h user P

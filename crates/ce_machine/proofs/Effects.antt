@@ -1,17 +1,13 @@
 -- What one entry more makes of the machine's state, point by point: which cubes are held, how each stands, and what is kept for each node.
-use Rattle.std.proofs.Common.{◌≡◌, ℕ, ◌+◌, Bool, true, false, not, ◌==◌, if◌then◌else◌, List, [], ◌∷◌, ◌++◌, map, filter, find, Some, None, option_map, refl, ap, sym, ◌∙◌, subst, inl, inr}
-use Rattle.std.proofs.lemmas.Bool.{cases_Bool, cond_both}
-use Rattle.std.proofs.lemmas.List.{map-append}
+use Rattle.std.proofs.Common.{◌≡◌, ℕ, true, false, ◌==◌, if◌then◌else◌, List, [], Some, None, refl, ap, sym, ◌∙◌, subst}
 use Rattle.ce_model.specs.declared.topology.Subcube.{Subcube}
 use Rattle.ce_model.specs.declared.entry.Entry.{Entry}
-use Rattle.ce_model.specs.declared.entry.What.{What}
 use Rattle.ce_model.specs.declared.entry.What.TheVariants.{Getcube, Peek, Drain, Freecube}
 use Rattle.ce_model.specs.Node.{Call}
 use Rattle.ce_model.specs.Trace.{NodeRecord, blank_record}
 use Rattle.ce_model.specs.Answers.{call_of}
 use Rattle.ce_model.specs.Subcubes.{is_inside}
-use Rattle.ce_model.specs.Renaming.{CubeGrant}
-use Rattle.ce_model.specs.Machine.{HeldCube, MachineState, is_held_by, held_by, held_grants, record_by, held_by_entry, with_cube, with_grant, with_drained, without_cube, changed_by, changed_by_call, after}
+use Rattle.ce_model.specs.Machine.{HeldCube, MachineState, is_held_by, held_by, held_grants, record_by, held_by_entry, with_cube, with_grant, with_drained, without_cube, changed_by_call, after}
 use Rattle.ce_solo.proofs.Projection.Held.{held-own, held-other, record-own, record-other, granted-own, granted-other, left-own, left-other}
 use Rattle.ce_solo.proofs.Projection.Kinds.{entry_of}
 use Rattle.ce_solo.proofs.Projection.Law.{after-more}
@@ -19,15 +15,6 @@ pub use Rattle.ce_machine.specs.Keeping.{grant_of, grants-kept, grant-found, gra
 use Rattle.ce_machine.proofs.Changes.{grant_to, next}
 
 -- ---- the grants that are held
-
-grants-filtered : (user : ℕ) (cubes : List HeldCube) → map grant_of (filter (λ cube. not (is_held_by user cube)) cubes)
-    ≡ filter (λ (grant : ℕ × CubeGrant). not (grant.1.user == user)) (map grant_of cubes)
-grants-filtered user [] = refl
-grants-filtered user (cube ∷ cubes) =
-    elim (cases_Bool (is_held_by user cube)) [
-      | inl t ↦ rw t (grants-filtered user cubes)
-      | inr f ↦ rw f (ap (λ grants. grant_of cube ∷ grants) (grants-filtered user cubes))
-    ]
 
 -- ---- an entry of a call
 
@@ -85,12 +72,6 @@ module _ (h : List Entry) (user actor : ℕ) where
     pub grant-state : next h getcube ≡ with_grant (grant_to user dim sub) (after h)
     grant-state = after-more h getcube
 
-    pub grant-count : (next h getcube).grant_count ≡ (after h).grant_count + 1
-    grant-count = ap (λ (s : MachineState). s.grant_count) grant-state
-
-    pub grant-grants : held_grants (next h getcube) ≡ held_grants (after h) ++ ((after h).grant_count, grant_to user dim sub) ∷ []
-    grant-grants = ap held_grants grant-state ∙ map-append grant_of (after h).held _
-
     pub grant-own : held_by (after h) user ≡ None → held_by (next h getcube) user
         ≡ Some (record { number = (after h).grant_count; grant = grant_to user dim sub; drained = false; armed = 0; dispatched = 0; parcel_count = 0; mail = [] })
     grant-own none = ap (λ s. held_by s user) grant-state ∙ granted-own (grant_to user dim sub) (after h) none
@@ -136,12 +117,6 @@ module _ (h : List Entry) (user actor : ℕ) where
 
   pub free-state : next h freeing ≡ without_cube user (after h)
   free-state = after-more h freeing
-
-  pub free-count : (next h freeing).grant_count ≡ (after h).grant_count
-  free-count = ap (λ (s : MachineState). s.grant_count) free-state
-
-  pub free-grants : held_grants (next h freeing) ≡ filter (λ (grant : ℕ × CubeGrant). not (grant.1.user == user)) (held_grants (after h))
-  free-grants = ap held_grants free-state ∙ grants-filtered user (after h).held
 
   pub free-own : held_by (next h freeing) user ≡ None
   free-own = ap (λ s. held_by s user) free-state ∙ left-own user (after h)

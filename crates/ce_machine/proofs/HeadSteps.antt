@@ -1,5 +1,5 @@
 -- What hosts ask, answered.
-use Rattle.std.proofs.Common.{◌≡◌, ℕ, ◌+◌, ◌^◌, ◌<◌, ◌≤◌, Bool, true, false, ◌==◌, if◌then◌else◌, List, [], ◌∷◌, ◌++◌, length, map, find, flat_map, get_or, set, count_by, Option, Some, None, IsSome, option_map, option_and_then, IsSomeAnd, refl, ap, ap₂, sym, ◌∙◌, subst, arith}
+use Rattle.std.proofs.Common.{◌≡◌, ℕ, ◌^◌, ◌<◌, Bool, true, false, ◌==◌, List, [], ◌∷◌, ◌++◌, length, map, flat_map, get_or, set, count_by, Option, Some, None, IsSome, option_map, IsSomeAnd, refl, ap, ap₂, sym, ◌∙◌, subst}
 use Rattle.std.specs.List.{list_all, range_with_len, AllByRecursion}
 use Rattle.std.proofs.lemmas.Bool.{eq-eqb}
 use Rattle.ce_model.specs.declared.topology.TheConstants.{HOST}
@@ -8,7 +8,6 @@ use Rattle.ce_model.specs.declared.entry.Entry.{Entry}
 use Rattle.ce_model.specs.declared.entry.Found.{Found}
 use Rattle.ce_model.specs.declared.entry.What.{What}
 use Rattle.ce_model.specs.declared.entry.What.TheVariants as entry
-use Rattle.ce_model.specs.declared.entry.Given.TheVariants as given
 use Rattle.ce_model.specs.Blocks.{Block}
 use Rattle.ce_model.specs.Parcels as model
 use Rattle.ce_model.specs.Parcels.{parcel_in, parcels_among, is_named_by}
@@ -16,7 +15,7 @@ use Rattle.ce_model.specs.Cube.{parcel_numbered}
 use Rattle.ce_model.specs.Node.{Call as NodeCall, arms, looks, takes_mail}
 use Rattle.ce_model.specs.Trace.{NodeRecord, blank_record}
 use Rattle.ce_model.specs.Answers.{is_quiet_node, found_where, call_of}
-use Rattle.ce_model.specs.Subcubes.{node_of, is_inside, first_free}
+use Rattle.ce_model.specs.Subcubes.{node_of, first_free}
 use Rattle.ce_model.specs.Sound.{IsHostItem}
 use Rattle.ce_model.specs.Machine.{MachineParts, MachineState, HeldCube, held_by, held_grants, is_free, nodes_of, all_parcels, after, answered, IsCallOf}
 use Rattle.ce_solo.proofs.Projection.Kinds.{entry_of}
@@ -36,12 +35,11 @@ use Rattle.ce_machine.specs.declared.call.Call.TheVariants as call
 use Rattle.ce_machine.specs.declared.call.Reply.{Reply}
 use Rattle.ce_machine.specs.declared.call.Reply.TheVariants as reply
 use Rattle.ce_machine.specs.Rooms.{greatest_history}
-use Rattle.ce_machine.specs.Requests.{request_of, FitsBehind}
+use Rattle.ce_machine.specs.Requests.{request_of, IsFittingCall}
 use Rattle.ce_machine.specs.Replies.{IsReplyTo, found_reply, IsMail, IsDrained, next_grant}
-use Rattle.ce_machine.specs.Meanings.{MachineFacts}
 use Rattle.ce_machine.specs.Tables.{HostRecord, blank_host, host_of, desk_at, host_at, holding_of, AreTables, IsSoundMachine}
 use Rattle.ce_machine.specs.Desks.{AreChanged, at_nodes, without_items, IsOnDesks}
-use Rattle.ce_machine.proofs.Changes.{next, grant_to}
+use Rattle.ce_machine.proofs.Changes.{next}
 use Rattle.ce_machine.proofs.Effects as effects
 use Rattle.ce_machine.proofs.Holdings.{grant_held, held-same, free-same, grant-holding, free-holding, same-holding, placed-node}
 use Rattle.ce_machine.proofs.Drained.{drained-empty, all-blocks, flat_map-same, list_all-same}
@@ -67,7 +65,7 @@ module _ {N : Type 0} (home : N → ℕ) (clean : N → Type 0) (parts : Machine
       host-read hosts user host (user-below parts h holding desks hosts sound user below) read ∙ host-held parts h holding desks hosts sound user cube below holds
 
   -- a call of a cube that leaves all desks as they are
-  still : (call : Call N) (reply : Reply N) (what : What) (made : NodeCall) → call_of what ≡ Some made → FitsBehind home clean parts h who call
+  still : (call : Call N) (reply : Reply N) (what : What) (made : NodeCall) → call_of what ≡ Some made → IsFittingCall home clean parts h who call
       → answered parts (after h) who.family who.actor (request_of call) ≡ Some what → ((node : ℕ) → (node == HOST) ≡ false → (now what).node_record node ≡ (after h).node_record node)
       → (hosts' : List HostRecord) (cube' : HeldCube) (host' : HostRecord) → IsSet hosts hosts' who.family host' → held_by (now what) who.family ≡ Some cube' → host' ≡ host_of (Some cube')
       → IsReplyTo home clean parts (after h) who.family who.actor what reply → h' ≡ h ++ entry_of who.family who.actor what ∷ []
@@ -76,7 +74,7 @@ module _ {N : Type 0} (home : N → ℕ) (clean : N → Type 0) (parts : Machine
       done-with home clean parts h holding desks hosts sound few who h' call reply what fits answer reply_is is holding desks hosts'
       (tables-call parts h holding desks hosts sound user actor what made called desks hosts' cube' host' refl (desks-same parts h holding desks hosts sound (now what) each) set held host_is)
 
-  pub armed : (count : ℕ) (host host' : HostRecord) → FitsBehind home clean parts h who (call.Arm count) → host ≡ get_or hosts who.family host
+  pub armed : (count : ℕ) (host host' : HostRecord) → IsFittingCall home clean parts h who (call.Arm count) → host ≡ get_or hosts who.family host
       → host' ≡ record host { armed = count; dispatched = 0 } → h' ≡ h ++ entry_of who.family who.actor (entry.Arm count) ∷ []
       → IsDone home clean parts h h' holding desks (set hosts who.family host') who (call.Arm count) reply.Armed
   armed count host host' fits read changed is =
@@ -90,7 +88,7 @@ module _ {N : Type 0} (home : N → ℕ) (clean : N → Type 0) (parts : Machine
       (acted.armed-cube parts sound.machine h sound.lawful user in_cube.cube in_cube.holds actor count in_cube.is)
       (changed ∙ ap (λ (host : HostRecord). record host { armed = count; dispatched = 0 }) (host-was host in_cube.cube fits.fits.0 read in_cube.holds)) refl is
 
-  pub looked : (found : Found) (grant : Grant) (host : HostRecord) (reply : Reply N) → FitsBehind home clean parts h who call.Look → daemon.held_by holding who.family ≡ Some grant
+  pub looked : (found : Found) (grant : Grant) (host : HostRecord) (reply : Reply N) → IsFittingCall home clean parts h who call.Look → daemon.held_by holding who.family ≡ Some grant
       → host ≡ get_or hosts who.family host
       → found ≡ found_where (list_all (λ node. is_quiet_node (desk_at desks node)) (map (node_of grant.sub) (range_with_len 0 (2 ^ grant.dim)))) (host.dispatched == host.armed) → reply ≡ found_reply found
       → h' ≡ h ++ entry_of who.family who.actor (entry.Look found) ∷ [] → IsDone home clean parts h h' holding desks hosts who call.Look reply
@@ -116,21 +114,21 @@ module _ {N : Type 0} (home : N → ℕ) (clean : N → Type 0) (parts : Machine
       subst P (sym same) done reply_is is
 
   -- what waits for a host is a message
-  pub no_start : (pid image : ℕ) (rest : List model.Item) (host : HostRecord) → FitsBehind home clean parts h who call.HostTake → host ≡ get_or hosts who.family host
+  pub no_start : (pid image : ℕ) (rest : List model.Item) (host : HostRecord) → IsFittingCall home clean parts h who call.HostTake → host ≡ get_or hosts who.family host
       → host.mail ≡ model.start pid image ∷ rest → ⊥
   no_start pid image rest host fits read first =
       let in_cube = is-in h user (IsCallOf parts h actor takes_mail) fits.fits.1 in
       let mail : in_cube.cube.mail ≡ model.start pid image ∷ rest = ap (λ (host : HostRecord). host.mail) (sym (host-was host in_cube.cube fits.fits.0 read in_cube.holds)) ∙ first in
       (subst (AllByRecursion IsHostItem) mail (cube-limits parts h sound.machine sound.lawful user in_cube.cube in_cube.holds).own).0
 
-  pub no_kill : (pid : ℕ) (rest : List model.Item) (host : HostRecord) → FitsBehind home clean parts h who call.HostTake → host ≡ get_or hosts who.family host
+  pub no_kill : (pid : ℕ) (rest : List model.Item) (host : HostRecord) → IsFittingCall home clean parts h who call.HostTake → host ≡ get_or hosts who.family host
       → host.mail ≡ model.kill pid ∷ rest → ⊥
   no_kill pid rest host fits read first =
       let in_cube = is-in h user (IsCallOf parts h actor takes_mail) fits.fits.1 in
       let mail : in_cube.cube.mail ≡ model.kill pid ∷ rest = ap (λ (host : HostRecord). host.mail) (sym (host-was host in_cube.cube fits.fits.0 read in_cube.holds)) ∙ first in
       (subst (AllByRecursion IsHostItem) mail (cube-limits parts h sound.machine sound.lawful user in_cube.cube in_cube.holds).own).0
 
-  pub mail_taken : (parcel : Parcel) (host host' : HostRecord) → FitsBehind home clean parts h who call.HostTake → host ≡ get_or hosts who.family host
+  pub mail_taken : (parcel : Parcel) (host host' : HostRecord) → IsFittingCall home clean parts h who call.HostTake → host ≡ get_or hosts who.family host
       → host.mail ≡ model.mail (parcel_of parcel) ∷ host'.mail → host' ≡ record host { mail = host'.mail }
       → h' ≡ h ++ entry_of who.family who.actor (entry.HostTake (Some parcel.number)) ∷ []
       → IsDone home clean parts h h' holding desks (set hosts who.family host') who call.HostTake (reply.Mail parcel)
@@ -150,7 +148,7 @@ module _ {N : Type 0} (home : N → ℕ) (clean : N → Type 0) (parts : Machine
       (changed ∙ ap (λ (host : HostRecord). record host { mail = host'.mail }) was)
       (if-held (after h) user (λ cube. IsMail {N = N} parcel.number cube.mail (reply.Mail parcel)) cube in_cube.holds at) is
 
-  pub no_mail : (host host' : HostRecord) → FitsBehind home clean parts h who call.HostTake → host ≡ get_or hosts who.family host
+  pub no_mail : (host host' : HostRecord) → IsFittingCall home clean parts h who call.HostTake → host ≡ get_or hosts who.family host
       → host.mail ≡ [] → host.mail ≡ host'.mail → host' ≡ record host { mail = host'.mail }
       → h' ≡ h ++ entry_of who.family who.actor (entry.HostTake None) ∷ []
       → IsDone home clean parts h h' holding desks (set hosts who.family host') who call.HostTake reply.NoMail
@@ -170,7 +168,7 @@ module _ {N : Type 0} (home : N → ℕ) (clean : N → Type 0) (parts : Machine
 
   -- ---- what is made alone
 
-  pub peeked_done : (shown : Peeked) → FitsBehind home clean parts h who call.Peek
+  pub peeked_done : (shown : Peeked) → IsFittingCall home clean parts h who call.Peek
       → shown.free ≡ count_by (daemon.is_free holding) (range_with_len 0 (2 ^ holding.dim)) → shown.grants ≡ holding.held
       → h' ≡ h ++ entry_of who.family who.actor entry.Peek ∷ [] → IsDone home clean parts h h' holding desks hosts who call.Peek (reply.Peeked shown)
   peeked_done shown fits free grants is =
@@ -184,7 +182,7 @@ module _ {N : Type 0} (home : N → ℕ) (clean : N → Type 0) (parts : Machine
       done-with home clean parts h holding desks hosts sound few who h' call.Peek (reply.Peeked shown) entry.Peek fits refl (ap reply.Peeked same) is holding desks hosts
       (subst (λ state. AreTables parts state holding desks hosts) (sym (effects.peek-state h user actor)) sound.tables)
 
-  pub getcube_free : (dim : ℕ) → FitsBehind home clean parts h who (call.Getcube dim) → daemon.held_by holding who.family ≡ None
+  pub getcube_free : (dim : ℕ) → IsFittingCall home clean parts h who (call.Getcube dim) → daemon.held_by holding who.family ≡ None
   getcube_free dim fits =
       ap (λ held. daemon.held_by held user) sound.tables.holding_is ∙ held-same parts.dim (after h) user ∙ ap (option_map grant_held) fits.fits.1.2
 
@@ -193,7 +191,7 @@ module _ {N : Type 0} (home : N → ℕ) (clean : N → Type 0) (parts : Machine
       sym (e ∙ ap (λ (held : Holding). first_free (daemon.is_free held) held.dim dim) sound.tables.holding_is
       ∙ ap (λ test. first_free test parts.dim dim) (free-same parts.dim (after h)))
 
-  pub none_granted : (dim : ℕ) (holding' : Holding) → FitsBehind home clean parts h who (call.Getcube dim) → None ≡ first_free (daemon.is_free holding) holding.dim dim → holding' ≡ holding
+  pub none_granted : (dim : ℕ) (holding' : Holding) → IsFittingCall home clean parts h who (call.Getcube dim) → None ≡ first_free (daemon.is_free holding) holding.dim dim → holding' ≡ holding
       → h' ≡ h ++ entry_of who.family who.actor (entry.Getcube dim None) ∷ [] → IsDone home clean parts h h' holding' desks hosts who (call.Getcube dim) reply.NoneFree
   none_granted dim holding' fits none same is =
       done-with home clean parts h holding desks hosts sound few who h' (call.Getcube dim) reply.NoneFree (entry.Getcube dim None) fits
@@ -201,7 +199,7 @@ module _ {N : Type 0} (home : N → ℕ) (clean : N → Type 0) (parts : Machine
       (subst (λ holding. AreTables parts (now (entry.Getcube dim None)) holding desks hosts) (sym same)
       (subst (λ state. AreTables parts state holding desks hosts) (sym (effects.none_free-state h user actor dim)) sound.tables))
 
-  pub granted : (dim : ℕ) (grant : Grant) (boxes : Vec N) (holding' : Holding) → FitsBehind home clean parts h who (call.Getcube dim)
+  pub granted : (dim : ℕ) (grant : Grant) (boxes : Vec N) (holding' : Holding) → IsFittingCall home clean parts h who (call.Getcube dim)
       → Some grant.sub ≡ first_free (daemon.is_free holding) holding.dim dim → grant ≡ daemon.next_grant holding who.family dim grant.sub
       → AreBoxesOf home clean grant boxes.items → holding' ≡ daemon.with_grant grant holding
       → h' ≡ h ++ entry_of who.family who.actor (entry.Getcube dim (Some grant.sub)) ∷ []
@@ -225,7 +223,7 @@ module _ {N : Type 0} (home : N → ℕ) (clean : N → Type 0) (parts : Machine
       (sound.tables.host_is user fits.fits.0 ∙ ap host_of none ∙ sym (ap host_of (effects.grant-own h user actor dim sub none)))
       (λ other differ. effects.grant-other h user actor dim sub other differ))
 
-  pub drained : (grant : Grant) (host host' : HostRecord) (desks' : List NodeRecord) (reply : Reply N) → FitsBehind home clean parts h who call.Drain
+  pub drained : (grant : Grant) (host host' : HostRecord) (desks' : List NodeRecord) (reply : Reply N) → IsFittingCall home clean parts h who call.Drain
       → daemon.held_by holding who.family ≡ Some grant → host ≡ get_or hosts who.family host → host' ≡ record host { drained = true; mail = [] }
       → AreChanged desks desks' (at_nodes grant.sub without_items)
       → ((parcels : List model.Parcel) → map (λ (parcel : model.Parcel). parcel.block) parcels
@@ -261,7 +259,7 @@ module _ {N : Type 0} (home : N → ℕ) (clean : N → Type 0) (parts : Machine
 
   -- ---- a cube is given back
 
-  module _ (boxes : Vec N) (fits : FitsBehind home clean parts h who (call.Freecube boxes)) where
+  module _ (boxes : Vec N) (fits : IsFittingCall home clean parts h who (call.Freecube boxes)) where
     freeing : IsIn h who.family (λ cube. cube.drained ≡ true)
     freeing = is-in h user (λ cube. cube.drained ≡ true) fits.fits.1.1
 

@@ -1,14 +1,14 @@
 -- The daemon's holding is the machine's: the grants that are held, the nodes that are free, and how an entry changes both.
-use Rattle.std.proofs.Common.{◌≡◌, ℕ, ◌+◌, ◌^◌, ◌<◌, ◌≤◌, true, not, ◌||◌, List, [], ◌∷◌, ◌++◌, map, filter, find, option_map, refl, ap, ◌∙◌, subst, inl, inr, arith, pow_mono}
+use Rattle.std.proofs.Common.{◌≡◌, ℕ, ◌+◌, ◌^◌, ◌<◌, ◌≤◌, not, ◌||◌, List, [], ◌∷◌, ◌++◌, map, filter, find, option_map, refl, ap, ◌∙◌, inl, inr, arith, pow_mono}
 use Rattle.std.specs.List.{list_any}
 use Rattle.std.proofs.lemmas.Bool.{cases_Bool}
 use Rattle.std.proofs.lemmas.List.{map-append}
 use Rattle.ce_model.specs.declared.topology.Subcube.{Subcube}
 use Rattle.ce_model.specs.Limits.{greatest_dim}
-use Rattle.ce_model.specs.Subcubes.{extract, node_of, is_inside, IsSubcube}
+use Rattle.ce_model.specs.Subcubes.{node_of, is_inside, IsSubcube}
 use Rattle.ce_model.specs.Renaming.{CubeGrant}
 use Rattle.ce_model.specs.Machine.{HeldCube, MachineState, held_by, is_held_by, held_grants, is_free, with_grant, without_cube}
-use Rattle.ce_model.proofs.Subcubes.{node_of-within, node_of-extract, ones_of-bound}
+use Rattle.ce_model.proofs.Subcubes.{node_of-within, ones_of-bound}
 use Rattle.ce_solo.proofs.Projection.Numbers.{IsPlaced}
 use Rattle.ce_daemon.specs.declared.grant.Grant.{Grant}
 use Rattle.ce_daemon.specs.Holding as daemon
@@ -89,6 +89,3 @@ module _ (dim : ℕ) (grant : CubeGrant) (placed : IsPlaced dim grant) where
   -- its nodes are the machine's
   pub placed-node : (r : ℕ) → node_of grant.sub r < 2 ^ dim
   placed-node r = node_of-within dim r grant.sub placed.sub.base_within placed.sub.mask_within placed.sub.apart
-
-  pub placed-inside : (node : ℕ) → is_inside grant.sub node ≡ true → node < 2 ^ dim
-  placed-inside node inside = subst (λ n. n < 2 ^ dim) (node_of-extract grant.sub node inside) (placed-node (extract node grant.sub.mask))

@@ -1,5 +1,5 @@
 -- A message that is posted place by place.
-use Rattle.std.proofs.Common.{◌≡◌, ◌⊎◌, ℕ, ◌+◌, ◌^◌, ◌<◌, ◌≤◌, Bool, true, false, inl, inr, ◌==◌, if◌then◌else◌, List, [], ◌∷◌, ◌++◌, length, refl, ap, sym, ◌∙◌, arith, append_assoc, append-nil}
+use Rattle.std.proofs.Common.{◌≡◌, ◌⊎◌, ℕ, ◌+◌, ◌^◌, ◌<◌, Bool, true, false, inl, inr, ◌==◌, if◌then◌else◌, List, [], ◌∷◌, ◌++◌, length, refl, ap, sym, ◌∙◌, arith, append_assoc, append-nil}
 use Rattle.std.proofs.lemmas.Bool.{cases_Bool, both_ways, eq-eqb, ne_eqb}
 use Rattle.std.proofs.lemmas.List.{length-append}
 use Rattle.ce_model.specs.declared.topology.TheConstants.{HOST}
@@ -12,7 +12,7 @@ use Rattle.ce_model.specs.Subcubes.{node_of}
 use Rattle.ce_model.specs.Renaming.{number_outward}
 use Rattle.ce_machine.specs.Rooms.{node_room, mail_room}
 use Rattle.ce_machine.specs.Tables.{HostRecord, desk_at}
-use Rattle.ce_machine.specs.Desks.{AreChanged, at_node, with_items, letter, letters, IsOnDesks, IsInCube, HaveRoom}
+use Rattle.ce_machine.specs.Desks.{AreChanged, at_node, with_items, letter, letters, IsOnDesks, IsInCube, HasMailRoom}
 use Rattle.ce_solo.proofs.Renaming.Grants.{few_nodes}
 
 -- so far this was posted, and these places are left
@@ -92,7 +92,7 @@ out-own count dim sub n on below =
     let no : (n == HOST) ≡ false = ne_eqb n HOST (λ e. omega (arith, below, few_nodes dim on.small, e)) in
     rw no (eq-eqb (node_of sub n) (node_of sub n) refl)
 
-module _ (sub : Subcube) (from : Place) (number : ℕ) (targets : List (Place × Block)) (desks : List NodeRecord) (host : HostRecord) (room : HaveRoom sub from number targets desks host)
+module _ (sub : Subcube) (from : Place) (number : ℕ) (targets : List (Place × Block)) (desks : List NodeRecord) (host : HostRecord) (room : HasMailRoom sub from number targets desks host)
     (number' : ℕ) (target : Place × Block) (rest : List (Place × Block)) (desks' : List NodeRecord) (host' : HostRecord)
     (posted : IsPosted sub from number targets desks host number' (target ∷ rest) desks' host') where
   -- there is room for the next

@@ -19,4 +19,5 @@ pub mod Asking
 pub mod Steps
 pub mod HeadSteps
 pub mod SaySteps
+pub mod Callers
 pub mod SendSteps

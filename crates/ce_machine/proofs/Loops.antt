@@ -1,8 +1,8 @@
 -- The nodes of a cube from one on, and how a loop over them goes on.
-use Rattle.std.proofs.Common.{◌≡◌, ◌≢◌, ℕ, suc, ◌+◌, ◌-◌, ◌^◌, ◌<◌, ◌≤◌, Bool, true, false, ◌&&◌, ◌==◌, nat_lt, if◌then◌else◌, List, [], ◌∷◌, ◌++◌, map, flat_map, length, set, get_or, refl, ap, sym, ◌∙◌, subst, arith, inl, inr}
+use Rattle.std.proofs.Common.{◌≡◌, ◌≢◌, ℕ, suc, ◌+◌, ◌-◌, ◌^◌, ◌<◌, ◌≤◌, Bool, true, false, ◌&&◌, nat_lt, if◌then◌else◌, List, [], ◌∷◌, ◌++◌, map, length, set, get_or, refl, ap, sym, ◌∙◌, subst, arith, inl, inr}
 use Rattle.std.specs.List.{range_with_len}
-use Rattle.std.proofs.lemmas.Bool.{cases_Bool, cases_eq, cases_lt, cond_both, eq-eqb, ne_eqb, lt-ltb, le-ltb, ltb-true, both_ways}
-use Rattle.std.proofs.lemmas.List.{get_or-set_same, get_or-set_other, length-set, length-append, length-map}
+use Rattle.std.proofs.lemmas.Bool.{cases_Bool, cases_eq, cases_lt, eq-eqb, lt-ltb, le-ltb}
+use Rattle.std.proofs.lemmas.List.{get_or-set_same, get_or-set_other, get_or_read, length-set, length-append, length-map}
 use Rattle.ce_model.specs.declared.topology.Subcube.{Subcube}
 use Rattle.ce_model.specs.Limits.{greatest_dim}
 use Rattle.ce_model.specs.Blocks.{Block}
@@ -26,6 +26,14 @@ rest-none sub r end above = let e : end - r ≡ 0 = omega arith in rw e refl
 
 pub rest-all : (sub : Subcube) (end : ℕ) → rest_from sub 0 end ≡ map (node_of sub) (range_with_len 0 end)
 rest-all sub end = let e : end - 0 ≡ end = omega arith in rw e refl
+
+-- all of them, with their number as the code has it
+pub rest-whole : (sub : Subcube) (end count : ℕ) → end ≡ count → rest_from sub 0 end ≡ map (node_of sub) (range_with_len 0 count)
+rest-whole sub end count is = rest-all sub end ∙ ap (λ n. map (node_of sub) (range_with_len 0 n)) is
+
+-- the desk that code reads at a number, which it has computed
+pub read-at : (desks : List NodeRecord) (n at : ℕ) (desk : NodeRecord) → n < length desks → at ≡ n → desk ≡ get_or desks at desk → desk ≡ desk_at desks n
+read-at desks n at desk below same is = get_or_read desks n desk below (subst (λ n. desk ≡ get_or desks n desk) same is) blank_record
 
 -- the desks of the first nodes of a cube changed
 abbrev pub at_first : Subcube → ℕ → (NodeRecord → NodeRecord) → ℕ → NodeRecord → NodeRecord
@@ -68,6 +76,11 @@ module _ (sub : Subcube) (d r : ℕ) (is : IsSubcube greatest_dim d sub) (below 
       let desk = desk_at desks (node_of sub r) in
       first.each (node_of sub r) has ∙ ap (λ (b : Bool). if b then change desk else desk)
       (ap (λ b. is_inside sub (node_of sub r) && b) (le-ltb (extract (node_of sub r) sub.mask) r (omega (arith, own))) ∙ and_false _)
+
+  pub first-read : (change : NodeRecord → NodeRecord) (desks desks' : List NodeRecord) (at : ℕ) (desk : NodeRecord) → node_of sub r < length desks
+      → AreChanged desks desks' (at_first sub r change) → at ≡ node_of sub r → desk ≡ get_or desks' at desk → desk ≡ desk_at desks (node_of sub r)
+  first-read change desks desks' at desk has first same is =
+      read-at desks' (node_of sub r) at desk (omega (arith, has, first.count)) same is ∙ first-next change desks desks' has first
 
   -- other nodes are among the first as before
   other_test : (node : ℕ) → node ≢ node_of sub r → (is_inside sub node && nat_lt (extract node sub.mask) (r + 1)) ≡ (is_inside sub node && nat_lt (extract node sub.mask) r)

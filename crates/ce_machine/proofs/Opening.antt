@@ -1,5 +1,5 @@
 -- The tables of a machine of which nothing was asked yet.
-use Rattle.std.proofs.Common.{◌≡◌, ℕ, ◌^◌, List, [], length, sym, ap, subst, ◌∙◌}
+use Rattle.std.proofs.Common.{◌≡◌, ℕ, ◌^◌, List, [], length, sym, ap, subst}
 use Rattle.ce_model.specs.declared.entry.Entry.{Entry}
 use Rattle.ce_model.specs.Trace.{NodeRecord, blank_record}
 use Rattle.ce_model.specs.Machine.{MachineParts, IsMachine, after}

@@ -7,9 +7,9 @@ use Rattle.ce_model.specs.declared.topology.TheConstants.{HOST}
 use Rattle.ce_model.specs.declared.topology.Place.{Place}
 use Rattle.ce_model.specs.declared.topology.BlockId.{BlockId}
 use Rattle.ce_model.specs.declared.entry.Entry.{Entry}
-use Rattle.ce_model.specs.Limits.{greatest_dim, greatest_count, greatest_targets, greatest_targets_lem, process_count, process_count_lem, home_blocks, home_blocks_lem, greatest_nodes_lem}
+use Rattle.ce_model.specs.Limits.{greatest_dim, greatest_count, greatest_targets, greatest_targets_lem, process_count, process_count_lem, home_blocks, home_blocks_lem, greatest_nodes_lem, greatest_blocks, greatest_blocks_lem}
 use Rattle.ce_model.specs.Parcels.{Item, start, mail, kill, item_id, parcels_from}
-use Rattle.ce_model.specs.Node.{Call, takes, sends, spawns, kills, notes, arms, looks, takes_mail}
+use Rattle.ce_model.specs.Node.{Call, sends, arms}
 use Rattle.ce_model.specs.Trace.{Standing, NodeRecord, blank_record, parcels_of, armed_by}
 use Rattle.ce_model.specs.Answers.{answer, is_among}
 use Rattle.ce_model.specs.Cube.{Cube, CubeState, IsCube}
@@ -19,7 +19,7 @@ use Rattle.ce_model.specs.Renaming.{CubeGrant, block_outward, place_outward, ite
 use Rattle.ce_model.specs.Machine.{MachineParts, IsMachine, HeldCube, MachineState, held_by, nodes_of, standing_of, cube_of, record_by, held_by_entry, changed_record, with_cube, after, with_places_outward, IsWithinLimits, IsCallOf, IsLawfulEntry, IsLawful}
 use Rattle.ce_model.proofs.Subcubes.{node_of-extract}
 use Rattle.ce_model.proofs.Walked.{kept_by_each, each-more}
-use Rattle.ce_solo.proofs.Lists.{all-map, all-split, all-weaker, count_by-cons}
+use Rattle.ce_solo.proofs.Lists.{all-map, all-weaker, count_by-cons}
 use Rattle.ce_solo.proofs.Room.{few-distinct, node_room, host_room}
 use Rattle.ce_solo.proofs.Records.{among-all}
 use Rattle.ce_solo.proofs.Renaming.Grants.{few_nodes}
@@ -33,28 +33,22 @@ use Rattle.ce_machine.proofs.Called.{HasFewPlaces, left_now, own-is, sound-now, 
 
 -- ---- the room
 
--- as many parcels can wait for one actor as the largest cube has blocks; for a node also a start and a kill of each of its ids
-abbrev pub mail_room : ℕ
-mail_room = (2 ^ greatest_dim + 1) * home_blocks
-
+-- as many parcels can wait for a node as the largest cube has blocks, and a start and a kill of each of its ids
 abbrev pub queue_room : ℕ
-queue_room = mail_room + 2 * process_count
-
-pub mail_room_lem : mail_room ≡ 2_080
-mail_room_lem = omega (arith, greatest_nodes_lem, ap (λ n. (2 ^ greatest_dim + 1) * n) home_blocks_lem)
+queue_room = greatest_blocks + 2 * process_count
 
 pub queue_room_lem : queue_room ≡ 2_096
-queue_room_lem = omega (arith, mail_room_lem, process_count_lem)
+queue_room_lem = omega (arith, greatest_blocks_lem, process_count_lem)
 
 -- a cube has no more blocks than the largest
-room-most : (d : ℕ) → d ≤ greatest_dim → (2 ^ d + 1) * home_blocks ≤ mail_room
+room-most : (d : ℕ) → d ≤ greatest_dim → (2 ^ d + 1) * home_blocks ≤ greatest_blocks
 room-most d small =
     omega (
       arith,
       few_nodes d small,
       greatest_nodes_lem,
       ap (λ n. (2 ^ d + 1) * n) home_blocks_lem,
-      ap (λ n. (2 ^ greatest_dim + 1) * n) home_blocks_lem,
+      greatest_blocks_lem,
     )
 
 -- ---- what is kept for a node
@@ -124,7 +118,7 @@ sound-small cube s r rename of sound below =
 
 -- so have a cube's counts and what waits for its host: who holds a cube was granted it, so one entry at least sent nothing
 pub record IsSmallCube (entries : ℕ) (cube : HeldCube) : Type 0 where
-  pub mail : length cube.mail ≤ mail_room
+  pub mail : length cube.mail ≤ greatest_blocks
   pub own : AllByRecursion IsHostItem cube.mail
   pub armed : cube.armed ≤ greatest_count
   pub dispatched : cube.dispatched ≤ cube.armed
@@ -159,7 +153,7 @@ module _ (parts : MachineParts) (machine : IsMachine parts) (h : List Entry) (la
       subst (λ n. IsSmallRecord ((after h).node_record n)) (node_of-extract cube.grant.sub node inside)
       (subst IsSmallRecord (sym ((was.kept goes).nodes r below)) (sound-small own now r (block_outward cube.grant) own_is sound below))
 
-  mail-small : length cube.mail ≤ mail_room
+  mail-small : length cube.mail ≤ greatest_blocks
   mail-small =
       let items = (now.standing.node_record HOST).waiting in
       omega (arith, ap length (was.kept goes).mail, length-map items (item_with (block_outward cube.grant)), host_room own now own_is sound, room-most own.dim own_is.dim)
@@ -231,7 +225,6 @@ more_room entries cube small = record {
 -- a history with what its state has room for
 record IsRoomy (parts : MachineParts) (h : List Entry) : Type 0 where
   pub lawful : IsLawful parts h
-  pub grants : (after h).grant_count ≤ length h
   pub nodes : (node : ℕ) → IsSmallRecord ((after h).node_record node)
   pub cubes : (user : ℕ) (cube : HeldCube) → held_by (after h) user ≡ Some cube → IsSmallCube (length h) cube
 
@@ -330,24 +323,16 @@ module _ (parts : MachineParts) (machine : IsMachine parts) (h : List Entry) (en
         | inr other ↦ more_room (length h) cube' (room.cubes user cube' (sym (step.others user other) ∙ held))
       ]
 
-  grants-next : Change parts h entry → (after h').grant_count ≤ length h + 1
-  grants-next (nothing e) = omega (arith, room.grants, ap (λ (s : MachineState). s.grant_count) e)
-  grants-next (grants dim sub none free e) = omega (arith, room.grants, ap (λ (s : MachineState). s.grant_count) e)
-  grants-next (drains cube holds e) = omega (arith, room.grants, ap (λ (s : MachineState). s.grant_count) e)
-  grants-next (frees cube holds drained e) = omega (arith, room.grants, ap (λ (s : MachineState). s.grant_count) e)
-  grants-next (calls call cube holds fits what e) = omega (arith, room.grants, ap (λ (s : MachineState). s.grant_count) e)
-
   roomy-next : IsRoomy parts h'
   roomy-next = record {
     lawful = lawful-next;
-    grants = omega (arith, grants-next (change-of parts h entry is), length-append h (entry ∷ []));
     nodes = node-next (change-of parts h entry is);
     cubes = λ user cube held. let one : length h + 1 ≡ length h' = omega (arith, length-append h (entry ∷ [])) in subst (λ n. IsSmallCube n cube) one (cube-next user cube held);
   }
 
 roomy-nil : (parts : MachineParts) → IsRoomy parts []
 unfolding after
-roomy-nil parts = record { lawful = tt; grants = omega arith; nodes = λ node. blank-small; cubes = λ user cube held. absurd (cc) }
+roomy-nil parts = record { lawful = tt; nodes = λ node. blank-small; cubes = λ user cube held. absurd (cc) }
 
 roomy : (parts : MachineParts) (history : List Entry) → IsMachine parts → IsLawful parts history → IsRoomy parts history
 roomy parts history machine lawful =
@@ -367,15 +352,3 @@ cube-limits parts history machine lawful user cube holds = (roomy parts history 
 -- the parcels of a cube have a number of 64 bits
 pub parcels-fit : (entries : ℕ) (cube : HeldCube) → IsSmallCube entries cube → entries ≤ 2 ^ 57 → cube.parcel_count < 2 ^ 63
 parcels-fit entries cube small few = omega (arith, small.parcel_count, ap (λ n. n * entries) greatest_targets_lem, greatest_targets_lem)
-
--- no more cubes are granted than entries are made
-pub grants-limit : (parts : MachineParts) (history : List Entry) → IsMachine parts → IsLawful parts history → (after history).grant_count ≤ length history
-grants-limit parts history machine lawful = (roomy parts history machine lawful).grants
-
--- where one item more is within the limits, there was room for it, and it is for one of the node's processes
-pub room-for_one : (items : List Item) (item : Item) (kept : NodeRecord) → kept.waiting ≡ items ++ item ∷ [] → IsSmallRecord kept
-    → (length items < queue_room) × (item_id item < process_count)
-room-for_one items item kept is small = (
-  omega (arith, small.waiting, ap length is, length-append items (item ∷ [])),
-  all-split (λ item. item_id item < process_count) items item [] (subst (AllByRecursion (λ item. item_id item < process_count)) is small.ids),
-)

@@ -1,6 +1,5 @@
 -- What nodes and hosts say, answered.
-use Rattle.std.proofs.Common.{◌≡◌, ◌≢◌, ◌⊎◌, ℕ, ◌+◌, ◌^◌, ◌<◌, ◌≤◌, Bool, true, false, not, ◌==◌, if◌then◌else◌, List, [], ◌∷◌, ◌++◌, length, map, find, get_or, set, Option, Some, None, option_map, IsTrue, refl, ap, ap₂, sym, ◌∙◌, subst, arith, inl, inr, append-nil}
-use Rattle.std.specs.List.{AllByRecursion}
+use Rattle.std.proofs.Common.{◌≡◌, ◌⊎◌, ℕ, ◌+◌, ◌^◌, ◌<◌, ◌≤◌, Bool, true, false, not, ◌==◌, if◌then◌else◌, List, [], ◌∷◌, ◌++◌, length, find, get_or, set, Option, Some, None, IsTrue, refl, ap, ap₂, sym, ◌∙◌, subst, arith, inl, inr}
 use Rattle.std.proofs.lemmas.Bool.{cond_both, cases_Bool, eqb-true, eq-eqb}
 use Rattle.std.proofs.lemmas.List.{get_or-set_same, get_or-set_other, length-set, length-append}
 use Rattle.ce_model.specs.declared.topology.TheConstants.{HOST}
@@ -16,12 +15,12 @@ use Rattle.ce_model.specs.Lists.{without_first}
 use Rattle.ce_model.specs.Parcels as model
 use Rattle.ce_model.specs.Parcels.{is_eligible, is_named_by, given_as}
 use Rattle.ce_model.specs.Cube.{parcel_numbered}
-use Rattle.ce_model.specs.Node.{Call as NodeCall, takes, sends, spawns, kills, notes, is_place}
+use Rattle.ce_model.specs.Node.{Call as NodeCall, takes, spawns, kills, notes}
 use Rattle.ce_model.specs.Trace.{Mark, NodeRecord, blank_record, taken_in, is_work, is_idle}
 use Rattle.ce_model.specs.Answers.{call_of, offered, is_among, kill_found}
 use Rattle.ce_model.specs.Subcubes.{node_of, is_inside}
 use Rattle.ce_model.specs.Renaming.{place_outward}
-use Rattle.ce_model.specs.Machine.{MachineParts, MachineState, HeldCube, host_record, held_by, after, answered, without_taken, IsCallOf, IsLawful}
+use Rattle.ce_model.specs.Machine.{MachineParts, MachineState, HeldCube, host_record, held_by, after, answered, without_taken, IsCallOf}
 use Rattle.ce_solo.proofs.Sending.{place_parts}
 use Rattle.ce_solo.proofs.Projection.Numbers.{inside_no_host, out_node}
 use Rattle.ce_solo.proofs.Projection.Kinds.{entry_of}
@@ -40,10 +39,10 @@ use Rattle.ce_machine.specs.declared.call.Call.TheVariants as call
 use Rattle.ce_machine.specs.declared.call.Reply.{Reply}
 use Rattle.ce_machine.specs.declared.call.Reply.TheVariants as reply
 use Rattle.ce_machine.specs.Rooms.{greatest_history, node_room, node_room_lem}
-use Rattle.ce_machine.specs.Requests.{request_of, FitsBehind}
+use Rattle.ce_machine.specs.Requests.{request_of, IsFittingCall}
 use Rattle.ce_machine.specs.Replies.{IsReplyTo, IsHeard, items_for}
 use Rattle.ce_machine.specs.Tables.{HostRecord, host_of, desk_at, host_at, IsSoundMachine}
-use Rattle.ce_machine.specs.Desks.{AreChanged, at_node, busy, started, killed_by, HasStartRoom, HasKillRoom}
+use Rattle.ce_machine.specs.Desks.{AreChanged, at_node, with_busy_mark, with_start, with_kill, HasStartRoom, HasKillRoom}
 use Rattle.ce_machine.specs.Gives.{item_in, given_in, item_for, items_left}
 use Rattle.ce_machine.proofs.Changes.{next}
 use Rattle.ce_machine.proofs.QueueRoom.{queue_room_lem, node-limits}
@@ -54,12 +53,12 @@ use Rattle.ce_machine.proofs.Taking.{taken-first, taken-parcel}
 use Rattle.ce_machine.proofs.Acted as acted
 use Rattle.ce_machine.proofs.Holdings.{grant_held, placed-node}
 use Rattle.ce_machine.proofs.Firsts.{none-left}
-use Rattle.ce_machine.proofs.Steps.{IsIn, is-in, if-held, IsSet, host-same, host-set, host-read, host-held, desk-read, differs, user-below, inside-below, placed, grant-is, desks-changed, tables-call, more-lawful, IsDone, done-with}
+use Rattle.ce_machine.proofs.Steps.{IsIn, is-in, if-held, host-same, host-set, host-read, host-held, desk-read, differs, user-below, inside-below, placed, grant-is, desks-changed, tables-call, more-lawful, IsDone, done-with}
 
 -- a node that is busy, told in two ways
-busy-same : (actor node : ℕ) (kept : NodeRecord) → effects.busy actor node kept ≡ at_node actor busy node kept
+busy-same : (actor node : ℕ) (kept : NodeRecord) → effects.with_call_mark actor node kept ≡ at_node actor with_busy_mark node kept
 busy-same actor node kept =
-    cond_both (actor == node) (busy kept) kept (λ now. effects.busy actor node kept ≡ now) (λ t. rw t refl) (λ f. rw f refl)
+    cond_both (actor == node) (with_busy_mark kept) kept (λ now. effects.with_call_mark actor node kept ≡ now) (λ t. rw t refl) (λ f. rw f refl)
 
 -- one change behind another
 pub chained : (a b c : List NodeRecord) (f g : ℕ → NodeRecord → NodeRecord) → AreChanged a b f → AreChanged b c g → AreChanged a c (λ node kept. g node (f node kept))
@@ -73,8 +72,10 @@ pub still-actor : (a b : List NodeRecord) (f : ℕ → NodeRecord → NodeRecord
 still-actor a b f actor changed (inl host) = inl host
 still-actor a b f actor changed (inr below) = inr (omega (arith, changed.count))
 
-pub busy-few : (a b : List NodeRecord) (f : ℕ → NodeRecord → NodeRecord) → AreChanged a b f → length a ≤ 64 → length b ≤ 64
-busy-few a b f changed few = omega (arith, changed.count)
+-- a place has a desk, and is a process's
+pub record HasDesk (desks : List NodeRecord) (at : Place) : Type 0 where
+  pub node : at.node < length desks
+  pub process : at.pid < process_count
 
 -- ---- what a node that asks for work is given
 
@@ -133,7 +134,7 @@ module _ {N : Type 0} (home : N → ℕ) (clean : N → Type 0) (parts : Machine
   now what = next h (entry_of who.family who.actor what)
 
   -- a call of a cube that leaves all hosts as they are
-  stays : (call : Call N) (reply : Reply N) (what : What) (made : NodeCall) → call_of what ≡ Some made → FitsBehind home clean parts h who call
+  stays : (call : Call N) (reply : Reply N) (what : What) (made : NodeCall) → call_of what ≡ Some made → IsFittingCall home clean parts h who call
       → answered parts (after h) who.family who.actor (request_of call) ≡ Some what → (cube : HeldCube) → held_by (after h) who.family ≡ Some cube
       → (desks' : List NodeRecord) (change : ℕ → NodeRecord → NodeRecord) → AreChanged desks desks' change
       → ((node : ℕ) → (node == HOST) ≡ false → (now what).node_record node ≡ change node ((after h).node_record node))
@@ -145,7 +146,7 @@ module _ {N : Type 0} (home : N → ℕ) (clean : N → Type 0) (parts : Machine
       (desks-changed parts h holding desks hosts sound (now what) desks' change changed each) (host-same hosts user) held
       (host-held parts h holding desks hosts sound user cube fits.fits.0 holds))
 
-  pub noted : (pid word : ℕ) (desks' : List NodeRecord) → FitsBehind home clean parts h who (call.Say (say.Note pid word)) → AreChanged desks desks' (at_node who.actor busy)
+  pub noted : (pid word : ℕ) (desks' : List NodeRecord) → IsFittingCall home clean parts h who (call.Say (say.Note pid word)) → AreChanged desks desks' (at_node who.actor with_busy_mark)
       → h' ≡ h ++ entry_of who.family who.actor (entry.Note pid word) ∷ []
       → IsDone home clean parts h h' holding desks' hosts who (call.Say (say.Note pid word)) (reply.Heard heard.Noted)
   noted pid word desks' fits changed is =
@@ -154,13 +155,13 @@ module _ {N : Type 0} (home : N → ℕ) (clean : N → Type 0) (parts : Machine
       let each = acted.noted-each parts sound.machine h sound.lawful user in_cube.cube in_cube.holds actor pid word in_cube.is in
       stays (call.Say (say.Note pid word)) (reply.Heard heard.Noted) what (notes pid word) refl fits
       (call-answered (after h) in_cube.cube actor parts user (notes pid word) in_cube.holds ∙ ap Some (note-answer (after h) in_cube.cube actor pid word))
-      in_cube.cube in_cube.holds desks' (at_node who.actor busy) changed (λ node apart. each node apart ∙ busy-same actor node ((after h).node_record node))
+      in_cube.cube in_cube.holds desks' (at_node who.actor with_busy_mark) changed (λ node apart. each node apart ∙ busy-same actor node ((after h).node_record node))
       (acted.noted-cube parts sound.machine h sound.lawful user in_cube.cube in_cube.holds actor pid word in_cube.is)
       (if-held (after h) user (λ cube. IsHeard {N = N} (items_for (after h) cube actor) what (reply.Heard heard.Noted)) in_cube.cube in_cube.holds refl) is
 
   -- ---- takes
 
-  module _ (asking dead : ℕ) (poller : Option ℕ) (fits : FitsBehind home clean parts h who (call.Say (say.Take asking dead poller))) where
+  module _ (asking dead : ℕ) (poller : Option ℕ) (fits : IsFittingCall home clean parts h who (call.Say (say.Take asking dead poller))) where
     taking : IsIn h who.family (IsCallOf parts h who.actor (takes asking dead poller))
     taking = is-in h user (IsCallOf parts h actor (takes asking dead poller)) fits.fits.1
 
@@ -251,14 +252,34 @@ module _ {N : Type 0} (home : N → ℕ) (clean : N → Type 0) (parts : Machine
 
   -- ---- spawns and kills
 
-  -- a place of the cube, by the machine's number for its node
-  at_is : (cube : HeldCube) (grant : Grant) (to at : Place) → held_by (after h) who.family ≡ Some cube → grant ≡ grant_held cube → to.node < 2 ^ cube.grant.dim
-      → at ≡ place_outward grant.sub to → at ≡ place_of cube to
-  at_is cube grant to at holds same below is =
-      is ∙ ap (λ (g : Grant). place_outward g.sub to) same
-      ∙ ap (λ node. record { node = node; pid = to.pid }) (out_node parts.dim cube.grant (placed parts h holding desks hosts sound user cube holds) to.node below)
+  -- a place of the user's cube
+  module _ (cube : HeldCube) (holds : held_by (after h) who.family ≡ Some cube) (to : Place) (is_in : (to.node < 2 ^ cube.grant.dim) × (to.pid < process_count)) where
+    kept_at : desk_at desks (node_of cube.grant.sub to.node) ≡ (after h).node_record (node_of cube.grant.sub to.node)
+    kept_at =
+        sound.tables.desk_is (node_of cube.grant.sub to.node)
+        (placed-node parts.dim cube.grant (placed parts h holding desks hosts sound user cube holds) to.node)
 
-  module _ (pid image : ℕ) (to : Place) (fits : FitsBehind home clean parts h who (call.Say (say.Spawn pid image to))) where
+    module _ (grant : Grant) (known : daemon.held_by holding who.family ≡ Some grant) where
+      is_held : grant ≡ grant_held cube
+      is_held = grant-is parts h holding desks hosts sound user cube grant holds known
+
+      number_below : to.node < 2 ^ grant.dim
+      number_below = subst (λ (g : Grant). to.node < 2 ^ g.dim) (sym is_held) is_in.0
+
+      -- by the machine's number for its node
+      at_is : (at : Place) → at ≡ place_outward grant.sub to → at ≡ place_of cube to
+      at_is at is =
+          is ∙ ap (λ (g : Grant). place_outward g.sub to) is_held
+          ∙ ap (λ node. record { node = node; pid = to.pid }) (out_node parts.dim cube.grant (placed parts h holding desks hosts sound user cube holds) to.node is_in.0)
+
+      has_desk : (at : Place) → at ≡ place_outward grant.sub to → HasDesk desks at
+      has_desk at is =
+          subst (HasDesk desks) (sym (at_is at is)) (record {
+            node = omega (arith, sound.tables.desk_count, placed-node parts.dim cube.grant (placed parts h holding desks hosts sound user cube holds) to.node);
+            process = is_in.1;
+          })
+
+  module _ (pid image : ℕ) (to : Place) (fits : IsFittingCall home clean parts h who (call.Say (say.Spawn pid image to))) where
     spawning : IsIn h who.family (IsCallOf parts h who.actor (spawns pid image to))
     spawning = is-in h user (IsCallOf parts h actor (spawns pid image to)) fits.fits.1
 
@@ -266,17 +287,9 @@ module _ {N : Type 0} (home : N → ℕ) (clean : N → Type 0) (parts : Machine
     spawn_place =
         place_parts spawning.cube.grant.dim to (call-places parts sound.machine h sound.lawful user spawning.cube spawning.holds actor (spawns pid image to) spawning.is)
 
-    spawn_node : ℕ
-    spawn_node = node_of spawning.cube.grant.sub to.node
-
-    spawn_kept : desk_at desks (node_of spawning.cube.grant.sub to.node) ≡ (after h).node_record (node_of spawning.cube.grant.sub to.node)
-    spawn_kept =
-        sound.tables.desk_is (node_of spawning.cube.grant.sub to.node)
-        (placed-node parts.dim spawning.cube.grant (placed parts h holding desks hosts sound user spawning.cube spawning.holds) to.node)
-
     was_fresh : (fresh : Bool) → fresh ≡ not (is_among to.pid (desk_at desks (node_of spawning.cube.grant.sub to.node)).spawned)
         → not (is_among to.pid ((after h).node_record (node_of spawning.cube.grant.sub to.node)).spawned) ≡ fresh
-    was_fresh fresh is = sym (is ∙ ap (λ (kept : NodeRecord). not (is_among to.pid kept.spawned)) spawn_kept)
+    was_fresh fresh is = sym (is ∙ ap (λ (kept : NodeRecord). not (is_among to.pid kept.spawned)) (kept_at spawning.cube spawning.holds to spawn_place))
 
     spawn_said : (fresh : Bool) → fresh ≡ not (is_among to.pid (desk_at desks (node_of spawning.cube.grant.sub to.node)).spawned)
         → answered parts (after h) who.family who.actor (request_of {N = N} (call.Say (say.Spawn pid image to))) ≡ Some (entry.Spawn pid image (place_of spawning.cube to) fresh)
@@ -286,11 +299,11 @@ module _ {N : Type 0} (home : N → ℕ) (clean : N → Type 0) (parts : Machine
 
     spawn_each : (fresh : Bool) → not (is_among to.pid ((after h).node_record (node_of spawning.cube.grant.sub to.node)).spawned) ≡ fresh → (node : ℕ) → (node == HOST) ≡ false
         → (now (entry.Spawn pid image (place_of spawning.cube to) fresh)).node_record node
-        ≡ at_node who.actor busy node (at_node (node_of spawning.cube.grant.sub to.node) (λ kept. if fresh then started to.pid image kept else kept) node ((after h).node_record node))
+        ≡ at_node who.actor with_busy_mark node (at_node (node_of spawning.cube.grant.sub to.node) (λ kept. if fresh then with_start to.pid image kept else kept) node ((after h).node_record node))
     spawn_each false e node apart =
         acted.spawn_used-each parts sound.machine h sound.lawful user spawning.cube spawning.holds actor pid image to spawning.is e node apart
         ∙ busy-same actor node ((after h).node_record node)
-        ∙ ap (at_node actor busy node) (same_both (node_of spawning.cube.grant.sub to.node == node) ((after h).node_record node))
+        ∙ ap (at_node actor with_busy_mark node) (same_both (node_of spawning.cube.grant.sub to.node == node) ((after h).node_record node))
       where
         same_both : (b : Bool) (kept : NodeRecord) → kept ≡ (if b then kept else kept)
         same_both true kept = refl
@@ -299,7 +312,7 @@ module _ {N : Type 0} (home : N → ℕ) (clean : N → Type 0) (parts : Machine
         elim (cases_Bool (node_of spawning.cube.grant.sub to.node == node)) [
           | inl here ↦
               subst (λ n. (now (entry.Spawn pid image (place_of spawning.cube to) true)).node_record n
-              ≡ at_node actor busy n (at_node (node_of spawning.cube.grant.sub to.node) (λ kept. started to.pid image kept) n ((after h).node_record n)))
+              ≡ at_node actor with_busy_mark n (at_node (node_of spawning.cube.grant.sub to.node) (λ kept. with_start to.pid image kept) n ((after h).node_record n)))
               (eqb-true (node_of spawning.cube.grant.sub to.node) node here)
               (acted.spawned-here parts sound.machine h sound.lawful user spawning.cube spawning.holds actor pid image to spawning.is e
               ∙ started_busy (actor == node_of spawning.cube.grant.sub to.node) (node_of spawning.cube.grant.sub to.node == node_of spawning.cube.grant.sub to.node)
@@ -307,7 +320,7 @@ module _ {N : Type 0} (home : N → ℕ) (clean : N → Type 0) (parts : Machine
           | inr away ↦
               acted.spawned-away parts sound.machine h sound.lawful user spawning.cube spawning.holds actor pid image to spawning.is true e node apart away
               ∙ busy-same actor node ((after h).node_record node)
-              ∙ ap (at_node actor busy node) (sym (rw away refl))
+              ∙ ap (at_node actor with_busy_mark node) (sym (rw away refl))
         ]
       where
         started_busy : (own here : Bool) → here ≡ true → (kept : NodeRecord)
@@ -315,50 +328,40 @@ module _ {N : Type 0} (home : N → ℕ) (clean : N → Type 0) (parts : Machine
               waiting = kept.waiting ++ model.start to.pid image ∷ [];
               spawned = kept.spawned ++ to.pid ∷ [];
               mark = if own then record kept.mark { idle = false } else kept.mark;
-            } ≡ (if own then busy (if here then started to.pid image kept else kept) else (if here then started to.pid image kept else kept))
+            } ≡ (if own then with_busy_mark (if here then with_start to.pid image kept else kept) else (if here then with_start to.pid image kept else kept))
         started_busy true true e kept = refl
         started_busy false true e kept = refl
         started_busy own false e kept = absurd (cc)
 
     pub spawned : (grant : Grant) (at : Place) (fresh : Bool) (told : Heard) (mid desks' : List NodeRecord) → daemon.held_by holding who.family ≡ Some grant → at ≡ place_outward grant.sub to
         → fresh ≡ not (is_among at.pid (desk_at desks at.node).spawned)
-        → AreChanged desks mid (at_node at.node (λ kept. if fresh then started at.pid image kept else kept)) → AreChanged mid desks' (at_node who.actor busy)
+        → AreChanged desks mid (at_node at.node (λ kept. if fresh then with_start at.pid image kept else kept)) → AreChanged mid desks' (at_node who.actor with_busy_mark)
         → told ≡ (if fresh then heard.Spawned else heard.Used)
         → h' ≡ h ++ entry_of who.family who.actor (entry.Spawn pid image at fresh) ∷ []
         → IsDone home clean parts h h' holding desks' hosts who (call.Say (say.Spawn pid image to)) (reply.Heard told)
     spawned grant at fresh told mid desks' known at_outward =
         let cube = spawning.cube in
-        let same = grant-is parts h holding desks hosts sound user cube grant spawning.holds known in
         let P : Place → Type 0 = λ at. fresh ≡ not (is_among at.pid (desk_at desks at.node).spawned)
-        → AreChanged desks mid (at_node at.node (λ kept. if fresh then started at.pid image kept else kept)) → AreChanged mid desks' (at_node who.actor busy)
+        → AreChanged desks mid (at_node at.node (λ kept. if fresh then with_start at.pid image kept else kept)) → AreChanged mid desks' (at_node who.actor with_busy_mark)
         → told ≡ (if fresh then heard.Spawned else heard.Used) → h' ≡ h ++ entry_of who.family who.actor (entry.Spawn pid image at fresh) ∷ []
         → IsDone home clean parts h h' holding desks' hosts who (call.Say (say.Spawn pid image to)) (reply.Heard told) in
         let done : P (place_of cube to) = λ fresh_is first second told_is is.
         let what = entry.Spawn pid image (place_of cube to) fresh in
-        let change : ℕ → NodeRecord → NodeRecord = λ node kept. at_node who.actor busy node (at_node (node_of cube.grant.sub to.node) (λ kept. if fresh then started to.pid image kept else kept) node kept) in
+        let change : ℕ → NodeRecord → NodeRecord = λ node kept. at_node who.actor with_busy_mark node (at_node (node_of cube.grant.sub to.node) (λ kept. if fresh then with_start to.pid image kept else kept) node kept) in
         stays (call.Say (say.Spawn pid image to)) (reply.Heard told) what (spawns pid image (place_of cube to)) refl fits (spawn_said fresh fresh_is) cube spawning.holds desks' change
-        (chained desks mid desks' (at_node (node_of cube.grant.sub to.node) (λ kept. if fresh then started to.pid image kept else kept)) (at_node who.actor busy) first second)
+        (chained desks mid desks' (at_node (node_of cube.grant.sub to.node) (λ kept. if fresh then with_start to.pid image kept else kept)) (at_node who.actor with_busy_mark) first second)
         (spawn_each fresh (was_fresh fresh fresh_is))
         (acted.spawned-cube parts sound.machine h sound.lawful user cube spawning.holds actor pid image to spawning.is fresh (was_fresh fresh fresh_is))
         (if-held (after h) user (λ cube. IsHeard {N = N} (items_for (after h) cube actor) what (reply.Heard told)) cube spawning.holds told_is) is in
-        subst P (sym (at_is cube grant to at spawning.holds same spawn_place.0 at_outward)) done
+        subst P (sym (at_is cube spawning.holds to spawn_place grant known at at_outward)) done
 
     -- there is a desk for the process, and room on it
     module _ (grant : Grant) (at : Place) (known : daemon.held_by holding who.family ≡ Some grant) (at_outward : at ≡ place_outward grant.sub to) where
-      spawn_at : at ≡ place_of spawning.cube to
-      spawn_at =
-          at_is spawning.cube grant to at spawning.holds (grant-is parts h holding desks hosts sound user spawning.cube grant spawning.holds known) spawn_place.0 at_outward
-
-      pub spawn-node : at.node < length desks
-      spawn-node =
-          subst (λ (at : Place). at.node < length desks) (sym spawn_at)
-          (omega (arith, sound.tables.desk_count, placed-node parts.dim spawning.cube.grant (placed parts h holding desks hosts sound user spawning.cube spawning.holds) to.node))
-
-      pub spawn-process : at.pid < process_count
-      spawn-process = subst (λ (at : Place). at.pid < process_count) (sym spawn_at) spawn_place.1
+      pub spawn-desk : HasDesk desks at
+      spawn-desk = has_desk spawning.cube spawning.holds to spawn_place grant known at at_outward
 
       pub spawn-room : not (is_among at.pid (desk_at desks at.node).spawned) ≡ true → HasStartRoom (desk_at desks at.node)
-      spawn-room = subst (λ (at : Place). not (is_among at.pid (desk_at desks at.node).spawned) ≡ true → HasStartRoom (desk_at desks at.node)) (sym spawn_at) (λ fresh. has_room fresh)
+      spawn-room = subst (λ (at : Place). not (is_among at.pid (desk_at desks at.node).spawned) ≡ true → HasStartRoom (desk_at desks at.node)) (sym (at_is spawning.cube spawning.holds to spawn_place grant known at at_outward)) (λ fresh. has_room fresh)
         where
           has_room : not (is_among to.pid (desk_at desks (node_of spawning.cube.grant.sub to.node)).spawned) ≡ true → HasStartRoom (desk_at desks (node_of spawning.cube.grant.sub to.node))
           has_room fresh =
@@ -372,13 +375,12 @@ module _ {N : Type 0} (home : N → ℕ) (clean : N → Type 0) (parts : Machine
               omega (arith, small.waiting, ap (λ (kept : NodeRecord). length kept.waiting) is, length-append kept.waiting (model.start to.pid image ∷ []), queue_room_lem, node_room_lem) in
               let ids : length kept.spawned + 1 ≤ process_count =
               omega (arith, small.spawned, ap (λ (kept : NodeRecord). length kept.spawned) is, length-append kept.spawned (to.pid ∷ [])) in
-              subst HasStartRoom (sym spawn_kept) (omega (arith, waits), omega (arith, ids))
+              subst HasStartRoom (sym (kept_at spawning.cube spawning.holds to spawn_place)) (omega (arith, waits), omega (arith, ids))
 
     pub spawn-below : (grant : Grant) → daemon.held_by holding who.family ≡ Some grant → to.node < 2 ^ grant.dim
-    spawn-below grant known =
-        subst (λ (g : Grant). to.node < 2 ^ g.dim) (sym (grant-is parts h holding desks hosts sound user spawning.cube grant spawning.holds known)) spawn_place.0
+    spawn-below grant known = number_below spawning.cube spawning.holds to spawn_place grant known
 
-  module _ (pid : ℕ) (to : Place) (fits : FitsBehind home clean parts h who (call.Say (say.Kill pid to))) where
+  module _ (pid : ℕ) (to : Place) (fits : IsFittingCall home clean parts h who (call.Say (say.Kill pid to))) where
     killing : IsIn h who.family (IsCallOf parts h who.actor (kills pid to))
     killing = is-in h user (IsCallOf parts h actor (kills pid to)) fits.fits.1
 
@@ -386,14 +388,9 @@ module _ {N : Type 0} (home : N → ℕ) (clean : N → Type 0) (parts : Machine
     kill_place =
         place_parts killing.cube.grant.dim to (call-places parts sound.machine h sound.lawful user killing.cube killing.holds actor (kills pid to) killing.is)
 
-    kill_kept : desk_at desks (node_of killing.cube.grant.sub to.node) ≡ (after h).node_record (node_of killing.cube.grant.sub to.node)
-    kill_kept =
-        sound.tables.desk_is (node_of killing.cube.grant.sub to.node)
-        (placed-node parts.dim killing.cube.grant (placed parts h holding desks hosts sound user killing.cube killing.holds) to.node)
-
     was_found : (found : KillFound) → found ≡ kill_found (desk_at desks (node_of killing.cube.grant.sub to.node)) to.pid
         → kill_found ((after h).node_record (node_of killing.cube.grant.sub to.node)) to.pid ≡ found
-    was_found found is = sym (is ∙ ap (λ (kept : NodeRecord). kill_found kept to.pid) kill_kept)
+    was_found found is = sym (is ∙ ap (λ (kept : NodeRecord). kill_found kept to.pid) (kept_at killing.cube killing.holds to kill_place))
 
     kill_said : (found : KillFound) → found ≡ kill_found (desk_at desks (node_of killing.cube.grant.sub to.node)) to.pid
         → answered parts (after h) who.family who.actor (request_of {N = N} (call.Say (say.Kill pid to))) ≡ Some (entry.Kill pid (place_of killing.cube to) found)
@@ -407,20 +404,20 @@ module _ {N : Type 0} (home : N → ℕ) (clean : N → Type 0) (parts : Machine
 
     kill_each : (found : KillFound) → kill_found ((after h).node_record (node_of killing.cube.grant.sub to.node)) to.pid ≡ found → (node : ℕ) → (node == HOST) ≡ false
         → (now (entry.Kill pid (place_of killing.cube to) found)).node_record node
-        ≡ at_node who.actor busy node (at_node (node_of killing.cube.grant.sub to.node) (λ kept. killed_by found to.pid kept) node ((after h).node_record node))
+        ≡ at_node who.actor with_busy_mark node (at_node (node_of killing.cube.grant.sub to.node) (λ kept. with_kill found to.pid kept) node ((after h).node_record node))
     kill_each Unused e node apart =
         acted.kill_unused-each parts sound.machine h sound.lawful user killing.cube killing.holds actor pid to killing.is e node apart
         ∙ busy-same actor node ((after h).node_record node)
-        ∙ ap (at_node actor busy node) (unchanged (node_of killing.cube.grant.sub to.node == node) ((after h).node_record node))
+        ∙ ap (at_node actor with_busy_mark node) (unchanged (node_of killing.cube.grant.sub to.node == node) ((after h).node_record node))
     kill_each Already e node apart =
         acted.kill_already-each parts sound.machine h sound.lawful user killing.cube killing.holds actor pid to killing.is e node apart
         ∙ busy-same actor node ((after h).node_record node)
-        ∙ ap (at_node actor busy node) (unchanged (node_of killing.cube.grant.sub to.node == node) ((after h).node_record node))
+        ∙ ap (at_node actor with_busy_mark node) (unchanged (node_of killing.cube.grant.sub to.node == node) ((after h).node_record node))
     kill_each Killed e node apart =
         elim (cases_Bool (node_of killing.cube.grant.sub to.node == node)) [
           | inl here ↦
               subst (λ n. (now (entry.Kill pid (place_of killing.cube to) Killed)).node_record n
-              ≡ at_node actor busy n (at_node (node_of killing.cube.grant.sub to.node) (λ kept. killed_by Killed to.pid kept) n ((after h).node_record n)))
+              ≡ at_node actor with_busy_mark n (at_node (node_of killing.cube.grant.sub to.node) (λ kept. with_kill Killed to.pid kept) n ((after h).node_record n)))
               (eqb-true (node_of killing.cube.grant.sub to.node) node here)
               (acted.killed-here parts sound.machine h sound.lawful user killing.cube killing.holds actor pid to killing.is e
               ∙ killed_busy (actor == node_of killing.cube.grant.sub to.node) (node_of killing.cube.grant.sub to.node == node_of killing.cube.grant.sub to.node)
@@ -428,7 +425,7 @@ module _ {N : Type 0} (home : N → ℕ) (clean : N → Type 0) (parts : Machine
           | inr away ↦
               acted.killed-away parts sound.machine h sound.lawful user killing.cube killing.holds actor pid to killing.is Killed e node apart away
               ∙ busy-same actor node ((after h).node_record node)
-              ∙ ap (at_node actor busy node) (sym (rw away refl))
+              ∙ ap (at_node actor with_busy_mark node) (sym (rw away refl))
         ]
       where
         killed_busy : (own here : Bool) → here ≡ true → (kept : NodeRecord)
@@ -436,53 +433,42 @@ module _ {N : Type 0} (home : N → ℕ) (clean : N → Type 0) (parts : Machine
               waiting = kept.waiting ++ model.kill to.pid ∷ [];
               killed = kept.killed ++ to.pid ∷ [];
               mark = if own then record kept.mark { idle = false } else kept.mark;
-            } ≡ (if own then busy (if here then killed_by Killed to.pid kept else kept) else (if here then killed_by Killed to.pid kept else kept))
+            } ≡ (if own then with_busy_mark (if here then with_kill Killed to.pid kept else kept) else (if here then with_kill Killed to.pid kept else kept))
         killed_busy true true e kept = refl
         killed_busy false true e kept = refl
         killed_busy own false e kept = absurd (cc)
 
     pub killed : (grant : Grant) (at : Place) (found : KillFound) (heard : Heard) (mid desks' : List NodeRecord) → daemon.held_by holding who.family ≡ Some grant → at ≡ place_outward grant.sub to
         → found ≡ kill_found (desk_at desks at.node) at.pid
-        → AreChanged desks mid (at_node at.node (λ kept. killed_by found at.pid kept)) → AreChanged mid desks' (at_node who.actor busy)
+        → AreChanged desks mid (at_node at.node (λ kept. with_kill found at.pid kept)) → AreChanged mid desks' (at_node who.actor with_busy_mark)
         → heard ≡ heard_of_kill found
         → h' ≡ h ++ entry_of who.family who.actor (entry.Kill pid at found) ∷ []
         → IsDone home clean parts h h' holding desks' hosts who (call.Say (say.Kill pid to)) (reply.Heard heard)
     killed grant at found heard mid desks' known at_outward =
         let cube = killing.cube in
-        let same = grant-is parts h holding desks hosts sound user cube grant killing.holds known in
         let P : Place → Type 0 = λ at. found ≡ kill_found (desk_at desks at.node) at.pid
-        → AreChanged desks mid (at_node at.node (λ kept. killed_by found at.pid kept)) → AreChanged mid desks' (at_node who.actor busy)
+        → AreChanged desks mid (at_node at.node (λ kept. with_kill found at.pid kept)) → AreChanged mid desks' (at_node who.actor with_busy_mark)
         → heard ≡ heard_of_kill found → h' ≡ h ++ entry_of who.family who.actor (entry.Kill pid at found) ∷ []
         → IsDone home clean parts h h' holding desks' hosts who (call.Say (say.Kill pid to)) (reply.Heard heard) in
         let done : P (place_of cube to) = λ found_is first second heard_is is.
         let what = entry.Kill pid (place_of cube to) found in
-        let change : ℕ → NodeRecord → NodeRecord = λ node kept. at_node who.actor busy node (at_node (node_of cube.grant.sub to.node) (λ kept. killed_by found to.pid kept) node kept) in
+        let change : ℕ → NodeRecord → NodeRecord = λ node kept. at_node who.actor with_busy_mark node (at_node (node_of cube.grant.sub to.node) (λ kept. with_kill found to.pid kept) node kept) in
         stays (call.Say (say.Kill pid to)) (reply.Heard heard) what (kills pid (place_of cube to)) refl fits (kill_said found found_is) cube killing.holds desks' change
-        (chained desks mid desks' (at_node (node_of cube.grant.sub to.node) (λ kept. killed_by found to.pid kept)) (at_node who.actor busy) first second)
+        (chained desks mid desks' (at_node (node_of cube.grant.sub to.node) (λ kept. with_kill found to.pid kept)) (at_node who.actor with_busy_mark) first second)
         (kill_each found (was_found found found_is))
         (acted.killed-cube parts sound.machine h sound.lawful user cube killing.holds actor pid to killing.is found (was_found found found_is))
         (if-held (after h) user (λ cube. IsHeard {N = N} (items_for (after h) cube actor) what (reply.Heard heard)) cube killing.holds heard_is) is in
-        subst P (sym (at_is cube grant to at killing.holds same kill_place.0 at_outward)) done
+        subst P (sym (at_is cube killing.holds to kill_place grant known at at_outward)) done
 
     pub kill-below : (grant : Grant) → daemon.held_by holding who.family ≡ Some grant → to.node < 2 ^ grant.dim
-    kill-below grant known =
-        subst (λ (g : Grant). to.node < 2 ^ g.dim) (sym (grant-is parts h holding desks hosts sound user killing.cube grant killing.holds known)) kill_place.0
+    kill-below grant known = number_below killing.cube killing.holds to kill_place grant known
 
     module _ (grant : Grant) (at : Place) (known : daemon.held_by holding who.family ≡ Some grant) (at_outward : at ≡ place_outward grant.sub to) where
-      kill_at : at ≡ place_of killing.cube to
-      kill_at =
-          at_is killing.cube grant to at killing.holds (grant-is parts h holding desks hosts sound user killing.cube grant killing.holds known) kill_place.0 at_outward
-
-      pub kill-node : at.node < length desks
-      kill-node =
-          subst (λ (at : Place). at.node < length desks) (sym kill_at)
-          (omega (arith, sound.tables.desk_count, placed-node parts.dim killing.cube.grant (placed parts h holding desks hosts sound user killing.cube killing.holds) to.node))
-
-      pub kill-process : at.pid < process_count
-      kill-process = subst (λ (at : Place). at.pid < process_count) (sym kill_at) kill_place.1
+      pub kill-desk : HasDesk desks at
+      kill-desk = has_desk killing.cube killing.holds to kill_place grant known at at_outward
 
       pub kill-room : kill_found (desk_at desks at.node) at.pid ≡ Killed → HasKillRoom (desk_at desks at.node)
-      kill-room = subst (λ (at : Place). kill_found (desk_at desks at.node) at.pid ≡ Killed → HasKillRoom (desk_at desks at.node)) (sym kill_at) (λ found. has_room found)
+      kill-room = subst (λ (at : Place). kill_found (desk_at desks at.node) at.pid ≡ Killed → HasKillRoom (desk_at desks at.node)) (sym (at_is killing.cube killing.holds to kill_place grant known at at_outward)) (λ found. has_room found)
         where
           has_room : kill_found (desk_at desks (node_of killing.cube.grant.sub to.node)) to.pid ≡ Killed → HasKillRoom (desk_at desks (node_of killing.cube.grant.sub to.node))
           has_room found =
@@ -496,4 +482,4 @@ module _ {N : Type 0} (home : N → ℕ) (clean : N → Type 0) (parts : Machine
               omega (arith, small.waiting, ap (λ (kept : NodeRecord). length kept.waiting) is, length-append kept.waiting (model.kill to.pid ∷ []), queue_room_lem, node_room_lem) in
               let ids : length kept.killed + 1 ≤ process_count =
               omega (arith, small.killed, ap (λ (kept : NodeRecord). length kept.killed) is, length-append kept.killed (to.pid ∷ [])) in
-              subst HasKillRoom (sym kill_kept) (omega (arith, waits), omega (arith, ids))
+              subst HasKillRoom (sym (kept_at killing.cube killing.holds to kill_place)) (omega (arith, waits), omega (arith, ids))

@@ -1,23 +1,23 @@
 -- A message is sent, answered.
-use Rattle.std.proofs.Common.{◌≡◌, ◌⊎◌, ℕ, suc, zero, ◌+◌, ◌*◌, ◌^◌, ◌<◌, ◌≤◌, Bool, true, false, ◌==◌, if◌then◌else◌, List, [], ◌∷◌, ◌++◌, length, map, filter, get_or, set, Option, Some, None, refl, ap, ap₂, sym, ◌∙◌, subst, arith, inl, inr}
+use Rattle.std.proofs.Common.{◌≡◌, ℕ, suc, ◌+◌, ◌^◌, ◌<◌, ◌≤◌, Bool, true, false, ◌==◌, if◌then◌else◌, List, [], ◌∷◌, ◌++◌, length, get_or, set, Some, refl, ap, ap₂, sym, ◌∙◌, subst, arith}
 use Rattle.std.specs.Prelude.{All}
 use Rattle.std.specs.List.{AllByRecursion}
 use Rattle.std.proofs.lemmas.Bool.{cond_both}
-use Rattle.std.proofs.lemmas.List.{length-map, length-append}
+use Rattle.std.proofs.lemmas.List.{length-map}
 use Rattle.ce_model.specs.declared.topology.TheConstants.{HOST}
 use Rattle.ce_model.specs.declared.topology.Place.{Place}
 use Rattle.ce_model.specs.declared.topology.BlockId.{BlockId}
 use Rattle.ce_model.specs.declared.entry.Entry.{Entry}
 use Rattle.ce_model.specs.declared.entry.What.{What}
 use Rattle.ce_model.specs.declared.entry.What.TheVariants as entry
-use Rattle.ce_model.specs.Limits.{greatest_targets, greatest_targets_lem}
+use Rattle.ce_model.specs.Limits.{greatest_targets, greatest_targets_lem, greatest_blocks_lem}
 use Rattle.ce_model.specs.Blocks.{Block}
-use Rattle.ce_model.specs.Parcels.{Item, Parcel, mail, parcels_from}
+use Rattle.ce_model.specs.Parcels.{Item, mail}
 use Rattle.ce_model.specs.Node.{sends}
 use Rattle.ce_model.specs.Trace.{NodeRecord}
 use Rattle.ce_model.specs.Subcubes.{relative}
 use Rattle.ce_model.specs.Renaming.{CubeGrant, number_outward, place_outward, targets_renamed}
-use Rattle.ce_model.specs.Machine.{MachineParts, HeldCube, item_inward, held_by, after, answered, IsCallOf}
+use Rattle.ce_model.specs.Machine.{MachineParts, HeldCube, after, answered, IsCallOf}
 use Rattle.ce_solo.proofs.Projection.Numbers.{IsPlaced, IsNumber, place_in_out}
 use Rattle.ce_solo.proofs.Projection.Kinds.{entry_of}
 use Rattle.ce_lock.specs.declared.who.Who.{Who}
@@ -27,21 +27,18 @@ use Rattle.ce_daemon.specs.Holding as daemon
 use Rattle.rk_mail.specs.declared.talk.Heard.{Heard}
 use Rattle.rk_mail.specs.declared.talk.Say.TheVariants as say
 use Rattle.rk_mail.specs.declared.talk.Heard.TheVariants as heard
-use Rattle.rk_mail.specs.Targets.{bytes_of, HaveEqualBytes, targets_of}
-use Rattle.ce_machine.specs.declared.call.Call.{Call}
+use Rattle.rk_mail.specs.Targets.{bytes_of, HasEqualBytes, targets_of}
 use Rattle.ce_machine.specs.declared.call.Call.TheVariants as call
-use Rattle.ce_machine.specs.declared.call.Reply.{Reply}
 use Rattle.ce_machine.specs.declared.call.Reply.TheVariants as reply
-use Rattle.ce_machine.specs.Rooms.{greatest_history, greatest_history_lem, node_room, node_room_lem, mail_room, mail_room_lem}
-use Rattle.ce_machine.specs.Requests.{request_of, FitsBehind}
+use Rattle.ce_machine.specs.Rooms.{greatest_history, greatest_history_lem, node_room_lem, mail_room_lem}
+use Rattle.ce_machine.specs.Requests.{request_of, IsFittingCall}
 use Rattle.ce_machine.specs.Replies.{IsHeard, items_for}
-use Rattle.ce_machine.specs.Tables.{HostRecord, host_of, desk_at, host_at, IsSoundMachine}
-use Rattle.ce_machine.specs.Desks.{AreChanged, at_node, busy, with_items, letter, letters, IsInCube, HaveRoom}
+use Rattle.ce_machine.specs.Tables.{HostRecord, host_of, IsSoundMachine}
+use Rattle.ce_machine.specs.Desks.{AreChanged, at_node, with_busy_mark, with_items, letter, letters, IsInCube, HasMailRoom}
 use Rattle.ce_machine.proofs.Changes.{next}
 use Rattle.ce_machine.proofs.QueueRoom as room
 use Rattle.ce_machine.proofs.Called.{IsTarget, target-number, target-pid, call-places}
 use Rattle.ce_machine.proofs.Answered.{call-answered, send-answer}
-use Rattle.ce_machine.proofs.CallEffects as effects
 use Rattle.ce_machine.proofs.CallEffects.{mails_at, sent-each, sent-cube, sent-room, sent-mail_room}
 use Rattle.ce_machine.proofs.Holdings.{grant_held}
 use Rattle.ce_machine.proofs.Steps.{IsIn, is-in, if-held, host-set, host-read, host-held, user-below, node-below, placed, grant-is, desks-changed, tables-call, more-lawful, IsDone, done-with}
@@ -81,7 +78,7 @@ module _ (dim : ℕ) (grant : CubeGrant) (at : IsPlaced dim grant) (actor pid : 
 
 module _ {N : Type 0} (home : N → ℕ) (clean : N → Type 0) (parts : MachineParts) (h : List Entry) (holding : Holding) (desks : List NodeRecord) (hosts : List HostRecord)
     (sound : IsSoundMachine parts h holding desks hosts) (few : length h < greatest_history) (who : Who) (h' : List Entry)
-    (pid : ℕ) (batch : List (Place × Block)) (fits : FitsBehind home clean parts h who (call.Say (say.Send pid batch))) (equal : HaveEqualBytes batch) (some : length batch ≤ greatest_targets) where
+    (pid : ℕ) (batch : List (Place × Block)) (fits : IsFittingCall home clean parts h who (call.Say (say.Send pid batch))) (equal : HasEqualBytes batch) (some : length batch ≤ greatest_targets) where
   abbrev user : ℕ
   user = who.family
 
@@ -144,14 +141,14 @@ module _ {N : Type 0} (home : N → ℕ) (clean : N → Type 0) (parts : Machine
 
     -- there is room at each desk, and for the host
     pub send-room : (host host' : HostRecord) → host ≡ get_or hosts who.family host → host' ≡ record host { parcel_count = host.parcel_count + length batch }
-        → HaveRoom grant.sub (record { node = relative grant.sub who.actor; pid = pid }) host.parcel_count batch desks host'
+        → HasMailRoom grant.sub (record { node = relative grant.sub who.actor; pid = pid }) host.parcel_count batch desks host'
     send-room host host' read counted =
         let was = host-read hosts user host (user-below parts h holding desks hosts sound user fits.fits.0) read ∙ host-held parts h holding desks hosts sound user cube fits.fits.0 sending.holds in
         let count : host.parcel_count ≡ cube.parcel_count = ap (λ (host : HostRecord). host.parcel_count) was in
         let mail_is : host'.mail ≡ cube.mail = ap (λ (host : HostRecord). host.mail) (counted ∙ ap (λ (host : HostRecord). record host { parcel_count = host.parcel_count + length batch }) was) in
         let lawful' = more-lawful parts h holding desks hosts sound home clean who (call.Say (say.Send pid batch)) fits few
         (entry.Send pid cube.parcel_count (targets_renamed (place_outward cube.grant.sub) (λ id. id) to) bytes) said in
-        let own : HaveRoom cube.grant.sub (record { node = relative cube.grant.sub actor; pid = pid }) cube.parcel_count batch desks host' = record {
+        let own : HasMailRoom cube.grant.sub (record { node = relative cube.grant.sub actor; pid = pid }) cube.parcel_count batch desks host' = record {
           nodes = λ node below.
               let inside : node < 2 ^ parts.dim = omega (arith, below, sound.tables.desk_count) in
               omega (
@@ -167,18 +164,18 @@ module _ {N : Type 0} (home : N → ℕ) (clean : N → Type 0) (parts : Machine
             sent-mail_room parts sound.machine h sound.lawful user cube sending.holds actor pid to bytes sending.is lawful',
             ap length (arrive HOST),
             ap length mail_is,
-            room.mail_room_lem,
+            greatest_blocks_lem,
             mail_room_lem,
           );
         } in
-        subst (λ (g : Grant). HaveRoom g.sub (record { node = relative g.sub actor; pid = pid }) host.parcel_count batch desks host') (sym same_grant)
-        (subst (λ count. HaveRoom cube.grant.sub (record { node = relative cube.grant.sub actor; pid = pid }) count batch desks host') (sym count) own)
+        subst (λ (g : Grant). HasMailRoom g.sub (record { node = relative g.sub actor; pid = pid }) host.parcel_count batch desks host') (sym same_grant)
+        (subst (λ count. HasMailRoom cube.grant.sub (record { node = relative cube.grant.sub actor; pid = pid }) count batch desks host') (sym count) own)
 
     pub sent : (host host' host'' : HostRecord) (first : ℕ) (mid desks' : List NodeRecord) (at_places : List (Place × BlockId)) (sent_bytes : List ℕ) (told : Heard) → told ≡ heard.Posted [] → host ≡ get_or hosts who.family host
         → first ≡ host.parcel_count → host' ≡ record host { parcel_count = host.parcel_count + length batch }
         → AreChanged desks mid (λ node. with_items (letters grant.sub (record { node = relative grant.sub who.actor; pid = pid }) first batch node))
         → host'' ≡ record host' { mail = host'.mail ++ letters grant.sub (record { node = relative grant.sub who.actor; pid = pid }) first batch HOST }
-        → AreChanged mid desks' (at_node who.actor busy) → at_places ≡ targets_renamed (place_outward grant.sub) (λ id. id) (targets_of batch) → sent_bytes ≡ bytes_of batch
+        → AreChanged mid desks' (at_node who.actor with_busy_mark) → at_places ≡ targets_renamed (place_outward grant.sub) (λ id. id) (targets_of batch) → sent_bytes ≡ bytes_of batch
         → h' ≡ h ++ entry_of who.family who.actor (entry.Send pid first at_places sent_bytes) ∷ []
         → IsDone home clean parts h h' holding desks' (set hosts who.family host'') who (call.Say (say.Send pid batch)) (reply.Heard told)
     sent host host' host'' first mid desks' at_places sent_bytes told told_is read first_is counted posted host_is busied places_are bytes_are is =
@@ -192,11 +189,11 @@ module _ {N : Type 0} (home : N → ℕ) (clean : N → Type 0) (parts : Machine
         let places : at_places ≡ targets_renamed (place_outward cube.grant.sub) (λ id. id) to =
         places_are ∙ ap (λ (g : Grant). targets_renamed (place_outward g.sub) (λ id. id) to) same_grant in
         let what_is : entry.Send pid first at_places sent_bytes ≡ made = λ i. entry.Send pid (count i) (places i) (bytes_are i) in
-        let change : ℕ → NodeRecord → NodeRecord = λ node kept. at_node actor busy node (with_items (letters grant.sub (record { node = relative grant.sub actor; pid = pid }) first batch node) kept) in
+        let change : ℕ → NodeRecord → NodeRecord = λ node kept. at_node actor with_busy_mark node (with_items (letters grant.sub (record { node = relative grant.sub actor; pid = pid }) first batch node) kept) in
         let each : (node : ℕ) → (node == HOST) ≡ false → (next h (entry_of who.family who.actor made)).node_record node ≡ change node ((after h).node_record node) =
         λ node apart. sent-each parts sound.machine h sound.lawful user cube sending.holds actor pid to bytes sending.is node apart
         ∙ busy_with (actor == node) ((after h).node_record node) (arrived node)
-        ∙ ap (λ items. at_node actor busy node (with_items items ((after h).node_record node))) (sym (all node)) in
+        ∙ ap (λ items. at_node actor with_busy_mark node (with_items items ((after h).node_record node))) (sym (all node)) in
         let host_now : host'' ≡ record (host_of (Some cube)) { parcel_count = cube.parcel_count + length to; mail = cube.mail ++ arrived HOST } =
         host_is ∙ ap (λ (host' : HostRecord). record host' { mail = host'.mail ++ letters grant.sub (record { node = relative grant.sub actor; pid = pid }) first batch HOST }) (counted
         ∙ ap (λ (host : HostRecord). record host { parcel_count = host.parcel_count + length batch }) was)
@@ -210,12 +207,12 @@ module _ {N : Type 0} (home : N → ℕ) (clean : N → Type 0) (parts : Machine
         (tables-call parts h holding desks hosts sound user actor made (sends pid (targets_renamed (place_outward cube.grant.sub) (λ id. id) to) bytes) refl desks' (set hosts user host'') _ host''
         (busied.count ∙ posted.count)
         (desks-changed parts h holding desks hosts sound (next h (entry_of who.family who.actor made)) desks' change
-        (chained desks mid desks' (λ node. with_items (letters grant.sub (record { node = relative grant.sub actor; pid = pid }) first batch node)) (at_node actor busy) posted busied) each)
+        (chained desks mid desks' (λ node. with_items (letters grant.sub (record { node = relative grant.sub actor; pid = pid }) first batch node)) (at_node actor with_busy_mark) posted busied) each)
         (host-set hosts user host'' host'' below refl)
         (sent-cube parts sound.machine h sound.lawful user cube sending.holds actor pid to bytes sending.is) host_now)
       where
         busy_with : (own : Bool) (kept : NodeRecord) (items : List Item)
             → record kept { waiting = kept.waiting ++ items; mark = if own then record kept.mark { idle = false } else kept.mark }
-            ≡ (if own then busy (with_items items kept) else with_items items kept)
+            ≡ (if own then with_busy_mark (with_items items kept) else with_items items kept)
         busy_with true kept items = refl
         busy_with false kept items = refl

@@ -1,18 +1,17 @@
 -- What the machine's tables show once an entry is made, and that the call is then answered.
-use Rattle.std.proofs.Common.{◌≡◌, ◌≢◌, ◌⊎◌, ℕ, ◌+◌, ◌^◌, ◌<◌, ◌≤◌, Bool, true, false, ◌==◌, List, [], ◌∷◌, ◌++◌, length, map, get_or, set, Option, Some, None, IsSome, IsSomeAnd, option_map, refl, ap, sym, ◌∙◌, subst, arith, inl, inr}
+use Rattle.std.proofs.Common.{◌≡◌, ◌≢◌, ◌⊎◌, ℕ, ◌^◌, ◌<◌, ◌≤◌, true, false, ◌==◌, List, [], ◌∷◌, ◌++◌, length, map, get_or, set, Option, Some, None, IsSome, IsSomeAnd, option_map, refl, ap, sym, ◌∙◌, subst, arith, inl, inr}
 use Rattle.std.specs.List.{AllByRecursion}
 use Rattle.std.proofs.lemmas.Bool.{both_ways, eq-eqb, eqb-true, ne_eqb, cases_Bool}
 use Rattle.std.proofs.lemmas.List.{get_or-set_same, get_or-set_other, get_or_read, length-set, length-append}
 use Rattle.ce_model.specs.declared.topology.TheConstants.{HOST}
 use Rattle.ce_model.specs.declared.entry.Entry.{Entry}
 use Rattle.ce_model.specs.declared.entry.What.{What}
-use Rattle.ce_model.specs.Limits.{greatest_dim, greatest_dim_lem}
 use Rattle.ce_model.specs.Node as node
 use Rattle.ce_model.specs.Trace.{NodeRecord, blank_record}
 use Rattle.ce_model.specs.Answers.{call_of}
 use Rattle.ce_model.specs.Subcubes.{extract, node_of, is_inside}
 use Rattle.ce_model.proofs.Subcubes.{node_of-within, node_of-extract}
-use Rattle.ce_model.specs.Machine.{MachineParts, IsMachine, MachineState, HeldCube, held_by, held_grants, after, answered, IsCallOf, HoldsCube, IsLawful}
+use Rattle.ce_model.specs.Machine.{MachineParts, MachineState, HeldCube, held_by, held_grants, after, answered, IsCallOf, HasHeldCube, IsLawful}
 use Rattle.ce_model.specs.Renaming.{CubeGrant}
 use Rattle.ce_solo.proofs.Renaming.Grants.{few_nodes}
 use Rattle.ce_solo.proofs.Projection.Numbers.{IsPlaced}
@@ -26,9 +25,9 @@ use Rattle.ce_daemon.specs.Peeks.{numbered}
 use Rattle.ce_machine.specs.declared.call.Call.{Call}
 use Rattle.ce_machine.specs.declared.call.Reply.{Reply}
 use Rattle.ce_machine.specs.Rooms.{greatest_history, greatest_history_lem}
-use Rattle.ce_machine.specs.Requests.{request_of, FitsBehind}
+use Rattle.ce_machine.specs.Requests.{request_of, IsFittingCall}
 use Rattle.ce_machine.specs.Replies.{IsReplyTo, OfHeldCube}
-use Rattle.ce_machine.specs.Meanings.{MachineFacts, Stands}
+use Rattle.ce_machine.specs.Meanings.{MachineFacts}
 use Rattle.ce_machine.specs.Tables.{HostRecord, blank_host, host_of, desk_at, host_at, holding_of, AreTables, IsSoundMachine}
 use Rattle.ce_machine.specs.Desks.{AreChanged, IsOnDesks}
 use Rattle.ce_machine.proofs.Holdings.{grant_held, held-same, placed-small, placed-wide, placed-node}
@@ -78,7 +77,7 @@ is_in_by : (h : List Entry) (user : ℕ) (P : HeldCube → Type 0) (held : Optio
 is_in_by h user P None e some = absurd some
 is_in_by h user P (Some cube) e some = record { cube = cube; holds = e; is = some }
 
-pub is-in : (h : List Entry) (user : ℕ) (P : HeldCube → Type 0) → HoldsCube h user P → IsIn h user P
+pub is-in : (h : List Entry) (user : ℕ) (P : HeldCube → Type 0) → HasHeldCube h user P → IsIn h user P
 is-in h user P some = is_in_by h user P (held_by (after h) user) refl some
 
 pub if-held : (state : MachineState) (user : ℕ) (P : HeldCube → Type 0) (cube : HeldCube) → held_by state user ≡ Some cube → P cube → OfHeldCube state user P
@@ -193,7 +192,7 @@ module _ (parts : MachineParts) (h : List Entry) (holding : Holding) (desks : Li
 
   -- ---- a call is answered
 
-  module _ {N : Type 0} (home : N → ℕ) (clean : N → Type 0) (who : Who) (call : Call N) (fits : FitsBehind home clean parts h who call) (few : length h < greatest_history)
+  module _ {N : Type 0} (home : N → ℕ) (clean : N → Type 0) (who : Who) (call : Call N) (fits : IsFittingCall home clean parts h who call) (few : length h < greatest_history)
       (what : What) (answer : answered parts (after h) who.family who.actor (request_of call) ≡ Some what) where
     abbrev made : Entry
     made = entry_of who.family who.actor what
@@ -229,7 +228,7 @@ pub record IsDone {N : Type 0} (home : N → ℕ) (clean : N → Type 0) (parts 
 
 module _ {N : Type 0} (home : N → ℕ) (clean : N → Type 0) (parts : MachineParts) (h : List Entry) (holding : Holding) (desks : List NodeRecord) (hosts : List HostRecord)
     (sound : IsSoundMachine parts h holding desks hosts) (few : length h < greatest_history) (who : Who) (h' : List Entry) where
-  pub done-with : (call : Call N) (reply : Reply N) (what : What) → FitsBehind home clean parts h who call → answered parts (after h) who.family who.actor (request_of call) ≡ Some what
+  pub done-with : (call : Call N) (reply : Reply N) (what : What) → IsFittingCall home clean parts h who call → answered parts (after h) who.family who.actor (request_of call) ≡ Some what
       → IsReplyTo home clean parts (after h) who.family who.actor what reply → h' ≡ h ++ entry_of who.family who.actor what ∷ []
       → (holding' : Holding) (desks' : List NodeRecord) (hosts' : List HostRecord) → AreTables parts (next h (entry_of who.family who.actor what)) holding' desks' hosts'
       → IsDone home clean parts h h' holding' desks' hosts' who call reply
@@ -254,8 +253,8 @@ pub few-now : (h h1 : List Entry) → h1 ≡ h → length h1 < greatest_history 
 few-now h h1 same few = omega (arith, few, ap length same)
 
 module _ {N : Type 0} (home : N → ℕ) (clean : N → Type 0) (m m' : MachineFacts) (same : m ≡ m') (who : Who) (call : Call N) where
-  pub fits-inside : FitsBehind home clean m'.parts m'.history who call → FitsBehind home clean m.parts m.history who call
-  fits-inside fits = subst (λ (m : MachineFacts). FitsBehind home clean m.parts m.history who call) (sym same) fits
+  pub fits-inside : IsFittingCall home clean m'.parts m'.history who call → IsFittingCall home clean m.parts m.history who call
+  fits-inside fits = subst (λ (m : MachineFacts). IsFittingCall home clean m.parts m.history who call) (sym same) fits
 
   pub answered-outside : (new : MachineFacts) (reply : Reply N) → HasAnswered home clean m new who call reply → HasAnswered home clean m' new who call reply
   answered-outside new reply is = subst (λ (m : MachineFacts). HasAnswered home clean m new who call reply) same is

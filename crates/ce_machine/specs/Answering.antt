@@ -1,11 +1,11 @@
 -- What a call of the machine does, as its caller sees it.
-use Rattle.std.specs.Prelude.{◌≡◌, ℕ, ◌^◌, ◌<◌, List, [], ◌∷◌, ◌++◌, length}
+use Rattle.std.specs.Prelude.{◌≡◌, ℕ, ◌^◌, ◌<◌, [], ◌∷◌, ◌++◌, length}
 use Rattle.ce_model.specs.declared.entry.Entry.{Entry}
 use Rattle.ce_model.specs.Machine.{IsLawful}
 use Rattle.ce_lock.specs.declared.who.Who.{Who}
 use Rattle.ce_machine.specs.declared.call.Call.{Call}
 use Rattle.ce_machine.specs.declared.call.Reply.{Reply}
-use Rattle.ce_machine.specs.Meanings.{MachineFacts, Stands}
+use Rattle.ce_machine.specs.Meanings.{MachineFacts, IsAnsweredBy}
 
 -- the machine has answered this call: it has one entry more, the one of the call, and the reply is the one that the call gets; its
 -- history is lawful, and not too long
@@ -13,6 +13,6 @@ pub record HasAnswered {N : Type 0} (home : N → ℕ) (clean : N → Type 0) (o
   pub parts : new.parts ≡ old.parts
   pub entry : Entry
   pub grows : new.history ≡ old.history ++ entry ∷ []
-  pub stands : Stands home clean old.parts old.history entry who call reply
+  pub stands : IsAnsweredBy home clean old.parts old.history entry who call reply
   pub lawful : IsLawful new.parts new.history
   pub few : length new.history < 2 ^ 63

@@ -1,6 +1,5 @@
 -- What changes on the desks of nodes.
 use Rattle.std.specs.Prelude.{◌≡◌, ◌⊎◌, ℕ, ◌+◌, ◌^◌, ◌<◌, ◌≤◌, ◌==◌, if◌then◌else◌, false, List, [], ◌∷◌, ◌++◌, length}
-use Rattle.std.specs.List.{AllByRecursion}
 use Rattle.ce_model.specs.declared.topology.TheConstants.{HOST}
 use Rattle.ce_model.specs.declared.topology.Place.{Place}
 use Rattle.ce_model.specs.declared.topology.Subcube.{Subcube}
@@ -8,7 +7,7 @@ use Rattle.ce_model.specs.declared.entry.KillFound.{KillFound}
 use Rattle.ce_model.specs.declared.entry.KillFound.TheVariants.{Killed}
 use Rattle.ce_model.specs.Limits.{greatest_dim, process_count}
 use Rattle.ce_model.specs.Blocks.{Block}
-use Rattle.ce_model.specs.Parcels.{Parcel, Item, start, mail, kill}
+use Rattle.ce_model.specs.Parcels.{Item, start, mail, kill}
 use Rattle.ce_model.specs.Trace.{NodeRecord}
 use Rattle.ce_model.specs.Renaming.{number_outward}
 use Rattle.ce_model.specs.Subcubes.{node_of, is_inside, IsSubcube}
@@ -29,8 +28,8 @@ abbrev pub at_nodes : Subcube → (NodeRecord → NodeRecord) → ℕ → NodeRe
 at_nodes sub change node kept = if is_inside sub node then change kept else kept
 
 -- a node has made an entry that isn't a Take
-abbrev pub busy : NodeRecord → NodeRecord
-busy kept = record kept { mark = record kept.mark { idle = false } }
+abbrev pub with_busy_mark : NodeRecord → NodeRecord
+with_busy_mark kept = record kept { mark = record kept.mark { idle = false } }
 
 -- an item waits from now on
 abbrev pub with_items : List Item → NodeRecord → NodeRecord
@@ -41,13 +40,13 @@ abbrev pub without_items : NodeRecord → NodeRecord
 without_items kept = record kept { waiting = [] }
 
 -- the start of a process waits from now on, and its id is used
-abbrev pub started : (pid image : ℕ) → NodeRecord → NodeRecord
-started pid image kept = record kept { waiting = kept.waiting ++ start pid image ∷ []; spawned = kept.spawned ++ pid ∷ [] }
+abbrev pub with_start : (pid image : ℕ) → NodeRecord → NodeRecord
+with_start pid image kept = record kept { waiting = kept.waiting ++ start pid image ∷ []; spawned = kept.spawned ++ pid ∷ [] }
 
 -- so does the end of a process, where a kill found it
-abbrev pub killed_by : KillFound → ℕ → NodeRecord → NodeRecord
-killed_by Killed pid kept = record kept { waiting = kept.waiting ++ kill pid ∷ []; killed = kept.killed ++ pid ∷ [] }
-killed_by other pid kept = kept
+abbrev pub with_kill : KillFound → ℕ → NodeRecord → NodeRecord
+with_kill Killed pid kept = record kept { waiting = kept.waiting ++ kill pid ∷ []; killed = kept.killed ++ pid ∷ [] }
+with_kill other pid kept = kept
 
 -- there is room for the start of a process, and for the end of one
 abbrev pub HasStartRoom : NodeRecord → Type 0
@@ -80,6 +79,6 @@ abbrev pub IsInCube : ℕ → Place → Type 0
 IsInCube dim to = ((to.node < 2 ^ dim) ⊎ (to.node ≡ HOST)) × (to.pid < process_count)
 
 -- there is room at the desks and at the host's for a message to these places
-pub record HaveRoom (sub : Subcube) (from : Place) (number : ℕ) (targets : List (Place × Block)) (desks : List NodeRecord) (host : HostRecord) : Type 0 where
+pub record HasMailRoom (sub : Subcube) (from : Place) (number : ℕ) (targets : List (Place × Block)) (desks : List NodeRecord) (host : HostRecord) : Type 0 where
   pub nodes : (node : ℕ) → node < length desks → length (desk_at desks node).waiting + length (letters sub from number targets node) ≤ node_room
   pub mail : length host.mail + length (letters sub from number targets HOST) ≤ mail_room

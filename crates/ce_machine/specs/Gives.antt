@@ -5,7 +5,7 @@ use Rattle.ce_model.specs.declared.entry.Given.TheVariants as given
 use Rattle.ce_model.specs.Lists.{without_first}
 use Rattle.ce_model.specs.Parcels.{Item, start, mail, kill, is_eligible}
 use Rattle.rk_mail.specs.declared.talk.Heard.{Heard}
-use Rattle.rk_mail.specs.declared.talk.Heard.TheVariants.{Start, Mail, Kill, Poll, Idle, Spent}
+use Rattle.rk_mail.specs.declared.talk.Heard.TheVariants.{Start, Mail, Kill, Poll, Spent}
 use Rattle.rk_mail.specs.Items.{parcel_of}
 
 -- the item that a node hears of, if any

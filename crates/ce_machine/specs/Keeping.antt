@@ -1,6 +1,6 @@
 -- The laws by which a book keeps the machine: fronts of lawful histories are lawful, an entry tells whose it is and whether its call is
 -- made alone, and what fits goes on fitting behind the entries of others.
-use Rattle.std.proofs.Common.{◌≡◌, ℕ, Bool, true, false, not, ◌==◌, if◌then◌else◌, List, [], ◌∷◌, ◌++◌, map, find, Option, Some, None, IsSomeAnd, option_map, refl, ap, sym, ◌∙◌, subst, inl, inr}
+use Rattle.std.proofs.Common.{◌≡◌, ℕ, Bool, true, false, ◌==◌, if◌then◌else◌, List, [], ◌∷◌, ◌++◌, map, find, Option, Some, None, IsSomeAnd, option_map, refl, ap, sym, ◌∙◌, subst, inl, inr}
 use Rattle.std.proofs.lemmas.Bool.{ne_eqb, cond_both, false≢true}
 use Rattle.ce_model.specs.declared.entry.Entry.{Entry}
 use Rattle.ce_model.specs.declared.entry.What.{What}
@@ -9,7 +9,7 @@ use Rattle.ce_model.specs.Node as node
 use Rattle.ce_model.specs.Answers.{answer, call_of}
 use Rattle.ce_model.specs.Trace.{Standing}
 use Rattle.ce_model.specs.Renaming.{CubeGrant}
-use Rattle.ce_model.specs.Machine.{MachineParts, IsMachine, HeldCube, MachineState, is_held_by, held_by, held_grants, held_by_entry, changed_by, changed_by_call, after, Request, getcube, peek, drain, freecube, in_cube, is_alone, answered, nodes_of, standing_of, with_places_outward, Fits, IsLawfulEntry, IsLawful}
+use Rattle.ce_model.specs.Machine.{MachineParts, IsMachine, HeldCube, MachineState, is_held_by, held_by, held_grants, held_by_entry, changed_by, changed_by_call, after, Request, getcube, peek, drain, freecube, in_cube, is_alone, answered, nodes_of, standing_of, with_places_outward, IsLawfulEntry, IsLawful}
 use Rattle.ce_model.proofs.Walked.{each_of_front, each_behind}
 use Rattle.ce_daemon.specs.Boxes.{AreBoxesOf}
 use Rattle.ce_daemon.specs.Peeks.{numbered}
@@ -22,8 +22,8 @@ use Rattle.ce_solo.proofs.Projection.Law.{after-more, projected, lawful-step}
 use Rattle.ce_machine.specs.declared.call.Call.{Call}
 use Rattle.ce_machine.specs.declared.call.Call.TheVariants as asked
 use Rattle.ce_machine.specs.declared.call.Reply.{Reply}
-use Rattle.ce_machine.specs.Requests.{request_of, BringsBoxes, FitsBehind}
-use Rattle.ce_machine.specs.Meanings.{whose, is_alone_call, is_alone_what, is_alone_entry, Stands}
+use Rattle.ce_machine.specs.Requests.{request_of, HasBroughtBoxes, IsFittingCall}
+use Rattle.ce_machine.specs.Meanings.{whose, is_alone_call, is_alone_what, is_alone_entry, IsAnsweredBy}
 
 -- ---- options
 
@@ -122,7 +122,7 @@ pub last-lawful : (parts : MachineParts) (before : List Entry) (entry : Entry) �
 last-lawful parts before entry lawful = (each_behind (IsLawfulEntry parts) [] before (entry ∷ []) lawful).0
 
 module _ {N : Type 0} (home : N → ℕ) (clean : N → Type 0) (parts : MachineParts) where
-  pub stands_for : (before : List Entry) (entry : Entry) (who : Who) (call : Call N) (reply : Reply N) → Stands home clean parts before entry who call reply
+  pub stands_for : (before : List Entry) (entry : Entry) (who : Who) (call : Call N) (reply : Reply N) → IsAnsweredBy home clean parts before entry who call reply
       → (whose entry ≡ who) × (is_alone_entry entry ≡ is_alone_call call)
   stands_for before entry who call reply stands =
       (stands.whose_is, alone-answered parts (after before) who.family who.actor (request_of call) entry.what stands.answer)
@@ -155,13 +155,13 @@ module _ {N : Type 0} (home : N → ℕ) (clean : N → Type 0) (parts : Machine
 
   boxes_stay : (before behind : List Entry) (user : ℕ) (call : Call N)
       → option_map grant_of (held_by (after behind) user) ≡ option_map grant_of (held_by (after before) user)
-      → BringsBoxes home clean before user call → BringsBoxes home clean behind user call
+      → HasBroughtBoxes home clean before user call → HasBroughtBoxes home clean behind user call
   boxes_stay before behind user (asked.Freecube boxes) e some =
       boxes_held (held_by (after before) user) (held_by (after behind) user) (λ grant. AreBoxesOf home clean (numbered grant) boxes.items) e some
   boxes_stay before behind user other e some = some
 
   pub still_fits : (before : List Entry) (entry : Entry) (who : Who) (call : Call N) → IsLawful parts (before ++ entry ∷ [])
-      → FitsBehind home clean parts before who call → IsForeign whose is_alone_entry who entry → FitsBehind home clean parts (before ++ entry ∷ []) who call
+      → IsFittingCall home clean parts before who call → IsForeign whose is_alone_entry who entry → IsFittingCall home clean parts (before ++ entry ∷ []) who call
   still_fits before entry who call lawful fits foreign =
       let was = prefix_is_lawful parts before (entry ∷ []) lawful in
       let last = last-lawful parts before entry lawful in

@@ -34,7 +34,7 @@ abbrev pub is_alone_entry : Entry → Bool
 is_alone_entry entry = is_alone_what entry.what
 
 -- behind this history the entry is the one of the call of this user or of its node, and the reply is the one that the call gets
-pub record Stands {N : Type 0} (home : N → ℕ) (clean : N → Type 0) (parts : MachineParts) (before : List Entry) (entry : Entry) (who : Who) (call : Call N) (reply : Reply N) : Type 0 where
+pub record IsAnsweredBy {N : Type 0} (home : N → ℕ) (clean : N → Type 0) (parts : MachineParts) (before : List Entry) (entry : Entry) (who : Who) (call : Call N) (reply : Reply N) : Type 0 where
   pub whose_is : whose entry ≡ who
   pub answer : answered parts (after before) who.family who.actor (request_of call) ≡ Some entry.what
   pub reply_is : IsReplyTo home clean parts (after before) who.family who.actor entry.what reply

@@ -1,7 +1,6 @@
 -- The reply that a call of the machine gets, in full, by the state before it and by the entry that it makes.
 use Rattle.std.specs.Prelude.{◌≡◌, ℕ, List, map, Option, Some, None, IsSomeAnd}
 use Rattle.ce_model.specs.declared.topology.Subcube.{Subcube}
-use Rattle.ce_model.specs.declared.entry.Entry.{Entry}
 use Rattle.ce_model.specs.declared.entry.What.{What}
 use Rattle.ce_model.specs.declared.entry.What.TheVariants as entry
 use Rattle.ce_model.specs.declared.entry.Found.{Found}

@@ -2,7 +2,7 @@
 use Rattle.std.specs.Prelude.{ℕ, List}
 use Rattle.ce_model.specs.declared.entry.Entry.{Entry}
 use Rattle.ce_model.specs.Node.{arms, looks, takes_mail}
-use Rattle.ce_model.specs.Machine.{MachineParts, IsMachine, Request, getcube, peek, drain, freecube, in_cube, Fits, HoldsCube}
+use Rattle.ce_model.specs.Machine.{MachineParts, IsMachine, Request, getcube, peek, drain, freecube, in_cube, IsFitting, HasHeldCube}
 use Rattle.ce_daemon.specs.Boxes.{AreBoxesOf}
 use Rattle.ce_daemon.specs.Peeks.{numbered}
 use Rattle.ce_lock.specs.declared.who.Who.{Who}
@@ -22,13 +22,13 @@ request_of HostTake = in_cube takes_mail
 request_of (Say said) = in_cube (call_said said)
 
 -- who gives a cube back brings the clean boxes of its nodes
-abbrev pub BringsBoxes : {N : Type 0} → (N → ℕ) → (N → Type 0) → List Entry → ℕ → Call N → Type 0
-BringsBoxes home clean history user (Freecube boxes) =
-    HoldsCube history user (λ cube. AreBoxesOf home clean (numbered (cube.number, cube.grant)) boxes.items)
-BringsBoxes home clean history user other = Unit {0}
+abbrev pub HasBroughtBoxes : {N : Type 0} → (N → ℕ) → (N → Type 0) → List Entry → ℕ → Call N → Type 0
+HasBroughtBoxes home clean history user (Freecube boxes) =
+    HasHeldCube history user (λ cube. AreBoxesOf home clean (numbered (cube.number, cube.grant)) boxes.items)
+HasBroughtBoxes home clean history user other = Unit {0}
 
 -- a call of an actor of a family, which is a user of the machine, fits the history before it; the machine is within its limits
-pub record FitsBehind {N : Type 0} (home : N → ℕ) (clean : N → Type 0) (parts : MachineParts) (history : List Entry) (who : Who) (call : Call N) : Type 0 where
+pub record IsFittingCall {N : Type 0} (home : N → ℕ) (clean : N → Type 0) (parts : MachineParts) (history : List Entry) (who : Who) (call : Call N) : Type 0 where
   pub machine : IsMachine parts
-  pub fits : Fits parts history who.family who.actor (request_of call)
-  pub boxes : BringsBoxes home clean history who.family call
+  pub fits : IsFitting parts history who.family who.actor (request_of call)
+  pub boxes : HasBroughtBoxes home clean history who.family call

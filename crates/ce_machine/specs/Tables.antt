@@ -1,5 +1,5 @@
 -- What the machine keeps for its nodes, its hosts and its daemon, by the state that its history leaves.
-use Rattle.std.specs.Prelude.{◌≡◌, ℕ, ◌^◌, ◌<◌, ◌≤◌, Bool, false, List, [], Option, Some, None, map, length, slice_index_or}
+use Rattle.std.specs.Prelude.{◌≡◌, ℕ, ◌^◌, ◌<◌, Bool, false, List, [], Option, Some, None, map, length, slice_index_or}
 use Rattle.ce_model.specs.declared.entry.Entry.{Entry}
 use Rattle.ce_model.specs.Parcels.{Item}
 use Rattle.ce_model.specs.Trace.{NodeRecord, blank_record}

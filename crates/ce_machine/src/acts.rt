@@ -1,9 +1,9 @@
 //! The machine, as a book keeps it.
 ghost use Rattle.std.specs.Prelude.{◌≡◌, IfOk, IfErr, OnErr, Result, MatchResult};
 ghost use Rattle.ce_model.specs.Machine.{IsLawful};
-ghost use Rattle.ce_machine.specs.Requests.{FitsBehind};
+ghost use Rattle.ce_machine.specs.Requests.{IsFittingCall};
 ghost use Rattle.ce_machine.specs.Answering.{HasAnswered};
-ghost use Rattle.ce_machine.specs.Meanings.{whose, is_alone_call, is_alone_entry, Stands};
+ghost use Rattle.ce_machine.specs.Meanings.{whose, is_alone_call, is_alone_entry, IsAnsweredBy};
 
 use crate::{Call, Machine, Reply};
 use ce_daemon::Homed;
@@ -35,9 +35,9 @@ impl<N: Homed> Kept for Machine<N> {
 
     ghost lawful = { IsLawful };
 
-    ghost fits = { FitsBehind N.home N.clean };
+    ghost fits = { IsFittingCall N.home N.clean };
 
-    ghost stands = { Stands N.home N.clean };
+    ghost stands = { IsAnsweredBy N.home N.clean };
 
     fn act(
         &mut self,
@@ -65,7 +65,7 @@ impl<N: Homed> Machine<N> {
         who: Who,
         call: Call<N>,
     ) -> Result<Reply<N>, (Call<N>, NoMemory)>
-        requires { FitsBehind N.home N.clean self.old.parts self.old.history who call }
+        requires { IsFittingCall N.home N.clean self.old.parts self.old.history who call }
         ensures answered { IfOk result (λ reply.
             HasAnswered N.home N.clean self.old self.new who call reply) }
         ensures refused { IfErr result (λ back. (self.new ≡ self.old) × (back.0 ≡ call)) }

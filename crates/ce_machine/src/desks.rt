@@ -11,7 +11,7 @@ ghost use Rattle.rk_mail.specs.Items.{parcel_of};
 ghost use Rattle.rk_mail.specs.Targets.{targets_of};
 ghost use Rattle.ce_machine.specs.Rooms.{node_room, mail_room};
 ghost use Rattle.ce_machine.specs.Tables.{HostRecord, blank_host, desk_at, host_at};
-ghost use Rattle.ce_machine.specs.Desks.{AreChanged, at_node, at_nodes, busy, with_items, without_items, IsOnDesks, letters, IsInCube, HaveRoom, HasStartRoom, HasKillRoom, started, killed_by};
+ghost use Rattle.ce_machine.specs.Desks.{AreChanged, at_node, at_nodes, with_busy_mark, with_items, without_items, IsOnDesks, letters, IsInCube, HasMailRoom, HasStartRoom, HasKillRoom, with_start, with_kill};
 
 use crate::desk::Desk;
 use crate::host_desk::HostDesk;
@@ -50,7 +50,7 @@ pub(crate) fn blank_hosts(alloc: Global, count: u32) -> Result<Vec<HostDesk>, No
 pub(crate) fn mark_busy(desks: &mut Vec<Desk>, actor: u32)
     requires actor { (actor ≡ HOST) ⊎ (actor < length desks.old.items) }
     requires few { length desks.old.items ≤ 64 }
-    ensures { AreChanged desks.old.items desks.new.items (at_node actor busy) }
+    ensures { AreChanged desks.old.items desks.new.items (at_node actor with_busy_mark) }
 {
     if actor != HOST {
         let desk = &mut desks[actor as usize];
@@ -66,7 +66,7 @@ pub(crate) fn start(desks: &mut Vec<Desk>, at: Place, image: u32) -> bool
         → HasStartRoom (desk_at desks.old.items at.node) }
     ensures fresh { result ≡ not (is_among at.pid (desk_at desks.old.items at.node).spawned) }
     ensures desks { AreChanged desks.old.items desks.new.items
-        (at_node at.node (λ kept. if result then started at.pid image kept else kept)) }
+        (at_node at.node (λ kept. if result then with_start at.pid image kept else kept)) }
 {
     let desk = &mut desks[at.node as usize];
     let fresh = !desk.was_spawned(at.pid);
@@ -84,7 +84,7 @@ pub(crate) fn kill(desks: &mut Vec<Desk>, at: Place) -> KillFound
         → HasKillRoom (desk_at desks.old.items at.node) }
     ensures found { result ≡ kill_found (desk_at desks.old.items at.node) at.pid }
     ensures desks { AreChanged desks.old.items desks.new.items
-        (at_node at.node (λ kept. killed_by result at.pid kept)) }
+        (at_node at.node (λ kept. with_kill result at.pid kept)) }
 {
     let desk = &mut desks[at.node as usize];
     let found = desk.kill_found(at.pid);
@@ -196,7 +196,7 @@ pub(crate) fn post_all(
 ) -> Batch
     requires sub { IsOnDesks (length desks.old.items) grant.now.dim grant.now.sub }
     requires places { AllByRecursion (λ target. IsInCube grant.now.dim target.0) batch }
-    requires room { HaveRoom grant.now.sub from first batch desks.old.items host.old }
+    requires room { HasMailRoom grant.now.sub from first batch desks.old.items host.old }
     requires numbers { first + length batch < 2 ^ 64 }
     requires targets { length targets.old.items + length batch ≤ vec_capacity targets.old }
     ensures desks { AreChanged desks.old.items desks.new.items

@@ -2,7 +2,7 @@
 ghost use Rattle.std.specs.Prelude.{◌≡◌, IfOk, IfErr, OnErr};
 ghost use Rattle.ce_model.specs.Answers.{found_where};
 ghost use Rattle.ce_machine.specs.Replies.{found_reply};
-ghost use Rattle.ce_machine.specs.Requests.{FitsBehind};
+ghost use Rattle.ce_machine.specs.Requests.{IsFittingCall};
 ghost use Rattle.ce_machine.specs.Answering.{HasAnswered};
 
 use crate::desks::{clear_nodes, drain_nodes, is_quiet, waiting_count};
@@ -22,7 +22,7 @@ impl<N: Homed> Machine<N> {
         who: Who,
         dim: u32,
     ) -> Result<Reply<N>, NoMemory>
-        requires { FitsBehind N.home N.clean self.old.parts self.old.history who
+        requires { IsFittingCall N.home N.clean self.old.parts self.old.history who
             (Call.Getcube dim) }
         ensures answered { IfOk result (λ reply.
             HasAnswered N.home N.clean self.old self.new who (Call.Getcube dim) reply) }
@@ -47,7 +47,7 @@ impl<N: Homed> Machine<N> {
 
     // The host asks which cubes are held.
     pub(crate) fn peek(&mut self, alloc: Global, who: Who) -> Result<Reply<N>, NoMemory>
-        requires { FitsBehind N.home N.clean self.old.parts self.old.history who Call.Peek }
+        requires { IsFittingCall N.home N.clean self.old.parts self.old.history who Call.Peek }
         ensures answered { IfOk result (λ reply.
             HasAnswered N.home N.clean self.old self.new who Call.Peek reply) }
         ensures refused { OnErr result (self.new ≡ self.old) }
@@ -60,7 +60,7 @@ impl<N: Homed> Machine<N> {
 
     // The host takes all messages that wait in its cube.
     pub(crate) fn drain(&mut self, alloc: Global, who: Who) -> Result<Reply<N>, NoMemory>
-        requires { FitsBehind N.home N.clean self.old.parts self.old.history who Call.Drain }
+        requires { IsFittingCall N.home N.clean self.old.parts self.old.history who Call.Drain }
         ensures answered { IfOk result (λ reply.
             HasAnswered N.home N.clean self.old self.new who Call.Drain reply) }
         ensures refused { OnErr result (self.new ≡ self.old) }
@@ -82,7 +82,7 @@ impl<N: Homed> Machine<N> {
         who: Who,
         boxes: Vec<N>,
     ) -> Result<Reply<N>, (Vec<N>, NoMemory)>
-        requires { FitsBehind N.home N.clean self.old.parts self.old.history who
+        requires { IsFittingCall N.home N.clean self.old.parts self.old.history who
             (Call.Freecube boxes) }
         ensures answered { IfOk result (λ reply.
             HasAnswered N.home N.clean self.old self.new who (Call.Freecube boxes) reply) }
@@ -102,7 +102,7 @@ impl<N: Homed> Machine<N> {
 
     // The host allows so many dispatches.
     pub(crate) fn arm(&mut self, who: Who, count: u32) -> Result<Reply<N>, NoMemory>
-        requires { FitsBehind N.home N.clean self.old.parts self.old.history who (Call.Arm count) }
+        requires { IsFittingCall N.home N.clean self.old.parts self.old.history who (Call.Arm count) }
         ensures answered { IfOk result (λ reply.
             HasAnswered N.home N.clean self.old self.new who (Call.Arm count) reply) }
         ensures refused { OnErr result (self.new ≡ self.old) }
@@ -116,7 +116,7 @@ impl<N: Homed> Machine<N> {
 
     // The host looks whether its cube is quiet.
     pub(crate) fn look(&mut self, who: Who) -> Result<Reply<N>, NoMemory>
-        requires { FitsBehind N.home N.clean self.old.parts self.old.history who Call.Look }
+        requires { IsFittingCall N.home N.clean self.old.parts self.old.history who Call.Look }
         ensures answered { IfOk result (λ reply.
             HasAnswered N.home N.clean self.old self.new who Call.Look reply) }
         ensures refused { OnErr result (self.new ≡ self.old) }
@@ -131,7 +131,7 @@ impl<N: Homed> Machine<N> {
 
     // The host takes its next message.
     pub(crate) fn host_take(&mut self, who: Who) -> Result<Reply<N>, NoMemory>
-        requires { FitsBehind N.home N.clean self.old.parts self.old.history who Call.HostTake }
+        requires { IsFittingCall N.home N.clean self.old.parts self.old.history who Call.HostTake }
         ensures answered { IfOk result (λ reply.
             HasAnswered N.home N.clean self.old self.new who Call.HostTake reply) }
         ensures refused { OnErr result (self.new ≡ self.old) }

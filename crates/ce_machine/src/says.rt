@@ -1,9 +1,9 @@
 //! What nodes say to the machine, and hosts that send, spawn or kill.
 ghost use Rattle.std.specs.Prelude.{◌≡◌, ◌≤◌, [], if◌then◌else◌, length, vec_capacity, IfOk, IfErr, OnErr};
-ghost use Rattle.rk_mail.specs.Targets.{bytes_of, HaveEqualBytes};
+ghost use Rattle.rk_mail.specs.Targets.{bytes_of, HasEqualBytes};
 ghost use Rattle.ce_model.specs.Limits.{greatest_targets};
 ghost use Rattle.rk_mail.specs.Talk.{heard_of_kill};
-ghost use Rattle.ce_machine.specs.Requests.{FitsBehind};
+ghost use Rattle.ce_machine.specs.Requests.{IsFittingCall};
 ghost use Rattle.ce_machine.specs.Answering.{HasAnswered};
 
 use crate::desks::{kill, mark_busy, outward, post_all, relative, start};
@@ -24,7 +24,7 @@ impl<N: Homed> Machine<N> {
         who: Who,
         said: Say,
     ) -> Result<Reply<N>, (Say, NoMemory)>
-        requires { FitsBehind N.home N.clean self.old.parts self.old.history who (Call.Say said) }
+        requires { IsFittingCall N.home N.clean self.old.parts self.old.history who (Call.Say said) }
         ensures answered { IfOk result (λ reply.
             HasAnswered N.home N.clean self.old self.new who (Call.Say said) reply) }
         ensures refused { IfErr result (λ back. (self.new ≡ self.old) × (back.0 ≡ said)) }
@@ -73,7 +73,7 @@ impl<N: Homed> Machine<N> {
         dead: u32,
         poller: Option<u32>,
     ) -> Result<Heard, NoMemory>
-        requires { FitsBehind N.home N.clean self.old.parts self.old.history who
+        requires { IsFittingCall N.home N.clean self.old.parts self.old.history who
             (Call.Say (Say.Take asking dead poller)) }
         ensures answered { IfOk result (λ heard. HasAnswered N.home N.clean self.old self.new who
             (Call.Say (Say.Take asking dead poller)) (Reply.Heard heard)) }
@@ -106,7 +106,7 @@ impl<N: Homed> Machine<N> {
         pid: u32,
         batch: Batch,
     ) -> Result<Heard, (Batch, NoMemory)>
-        requires { FitsBehind N.home N.clean self.old.parts self.old.history who
+        requires { IsFittingCall N.home N.clean self.old.parts self.old.history who
             (Call.Say (Say.Send pid batch)) }
         ensures answered { IfOk result (λ heard. HasAnswered N.home N.clean self.old self.new who
             (Call.Say (Say.Send pid batch)) (Reply.Heard heard)) }
@@ -142,7 +142,7 @@ impl<N: Homed> Machine<N> {
 
     // A process is to be started.
     fn spawn(&mut self, who: Who, pid: u32, image: u32, to: Place) -> Result<Heard, NoMemory>
-        requires { FitsBehind N.home N.clean self.old.parts self.old.history who
+        requires { IsFittingCall N.home N.clean self.old.parts self.old.history who
             (Call.Say (Say.Spawn pid image to)) }
         ensures answered { IfOk result (λ heard. HasAnswered N.home N.clean self.old self.new who
             (Call.Say (Say.Spawn pid image to)) (Reply.Heard heard)) }
@@ -167,7 +167,7 @@ impl<N: Homed> Machine<N> {
 
     // A process is to be stopped.
     fn kill(&mut self, who: Who, pid: u32, to: Place) -> Result<Heard, NoMemory>
-        requires { FitsBehind N.home N.clean self.old.parts self.old.history who
+        requires { IsFittingCall N.home N.clean self.old.parts self.old.history who
             (Call.Say (Say.Kill pid to)) }
         ensures answered { IfOk result (λ heard. HasAnswered N.home N.clean self.old self.new who
             (Call.Say (Say.Kill pid to)) (Reply.Heard heard)) }
@@ -191,7 +191,7 @@ impl<N: Homed> Machine<N> {
 
     // A word goes into the trace.
     fn note(&mut self, who: Who, pid: u32, word: u32) -> Result<Heard, NoMemory>
-        requires { FitsBehind N.home N.clean self.old.parts self.old.history who
+        requires { IsFittingCall N.home N.clean self.old.parts self.old.history who
             (Call.Say (Say.Note pid word)) }
         ensures answered { IfOk result (λ heard. HasAnswered N.home N.clean self.old self.new who
             (Call.Say (Say.Note pid word)) (Reply.Heard heard)) }
@@ -211,7 +211,7 @@ fn room_for(alloc: Global, batch: &Batch) -> Result<(Vec<(Place, BlockId)>, Byte
     ensures none { IfOk result (λ taken. taken.0.items ≡ []) }
     ensures room { IfOk result (λ taken. length batch.now ≤ vec_capacity taken.0) }
     ensures bytes { IfOk result (λ taken. taken.1 ≡ bytes_of batch.now) }
-    ensures equal { IfOk result (λ _. HaveEqualBytes batch.now) }
+    ensures equal { IfOk result (λ _. HasEqualBytes batch.now) }
     ensures few { length batch.now ≤ greatest_targets }
 {
     let count = batch.count();

@@ -1,6 +1,6 @@
 -- The machine's limits: a name for each, behind which no proof computes unless it asks, and a lemma of its value.
 use Rattle.std.specs.Prelude.{◌≡◌, ℕ, ◌^◌, refl}
-use Rattle.ce_model.specs.declared.limits.TheConstants.{GREATEST_DIMENSION, PROCESS_COUNT, HOME_BLOCKS, BLOCK_ROOM, WINDOW_COUNT, WINDOW_BASE, WINDOW_SIZE, GREATEST_TARGETS, TURN_INSTRUCTIONS, TURN_CALLS, GREATEST_COUNT, GREATEST_USERS, GREATEST_IMAGES, HOST_HOME}
+use Rattle.ce_model.specs.declared.limits.TheConstants.{GREATEST_DIMENSION, PROCESS_COUNT, HOME_BLOCKS, GREATEST_BLOCKS, BLOCK_ROOM, WINDOW_COUNT, WINDOW_BASE, WINDOW_SIZE, GREATEST_TARGETS, TURN_INSTRUCTIONS, TURN_CALLS, GREATEST_COUNT, GREATEST_USERS, GREATEST_IMAGES, HOST_HOME}
 
 -- the greatest dimension of a machine or a cube
 unfoldable pub greatest_dim : ℕ
@@ -25,6 +25,14 @@ home_blocks = HOME_BLOCKS
 pub home_blocks_lem : home_blocks ≡ 32
 unfolding home_blocks
 home_blocks_lem = refl
+
+-- how many message blocks the greatest cube has: those that its nodes are home to, and those of its host
+unfoldable pub greatest_blocks : ℕ
+greatest_blocks = GREATEST_BLOCKS
+
+pub greatest_blocks_lem : greatest_blocks ≡ 2_080
+unfolding greatest_blocks
+greatest_blocks_lem = refl
 
 -- how many bytes a message block can hold
 unfoldable pub block_room : ℕ

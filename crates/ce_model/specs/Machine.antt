@@ -222,8 +222,8 @@ abbrev pub cube_of : List ImageParts → CubeGrant → Cube
 cube_of images grant = record { user = grant.user; dim = grant.dim; images = images }
 
 -- the user holds a cube, of which this holds
-abbrev pub HoldsCube : List Entry → ℕ → (HeldCube → Type 0) → Type 0
-HoldsCube history user P = IsSomeAnd (held_by (after history) user) P
+abbrev pub HasHeldCube : List Entry → ℕ → (HeldCube → Type 0) → Type 0
+HasHeldCube history user P = IsSomeAnd (held_by (after history) user) P
 
 -- the call is within the machine's limits, which a cube alone doesn't know: on what a host allows, and on the bytes that it sends
 abbrev pub IsWithinLimits : Call → Type 0
@@ -244,23 +244,23 @@ pub record IsCallOf (parts : MachineParts) (history : List Entry) (actor : ℕ) 
 
 -- what a request of an actor asks of the history before it: a host asks for a cube that holds none; a drained cube is given back,
 -- and one that isn't is drained; and a call of a cube is the next one of its actor
-abbrev pub FitsHistory : MachineParts → List Entry → ℕ → ℕ → Request → Type 0
-FitsHistory parts history user actor (getcube dim) = (actor ≡ HOST) × (dim ≤ greatest_dim) × (held_by (after history) user ≡ None)
-FitsHistory parts history user actor peek = actor ≡ HOST
-FitsHistory parts history user actor drain = (actor ≡ HOST) × HoldsCube history user (λ cube. cube.drained ≡ false)
-FitsHistory parts history user actor freecube = (actor ≡ HOST) × HoldsCube history user (λ cube. cube.drained ≡ true)
-FitsHistory parts history user actor (in_cube call) = HoldsCube history user (IsCallOf parts history actor call)
+abbrev pub IsFittingIn : MachineParts → List Entry → ℕ → ℕ → Request → Type 0
+IsFittingIn parts history user actor (getcube dim) = (actor ≡ HOST) × (dim ≤ greatest_dim) × (held_by (after history) user ≡ None)
+IsFittingIn parts history user actor peek = actor ≡ HOST
+IsFittingIn parts history user actor drain = (actor ≡ HOST) × HasHeldCube history user (λ cube. cube.drained ≡ false)
+IsFittingIn parts history user actor freecube = (actor ≡ HOST) × HasHeldCube history user (λ cube. cube.drained ≡ true)
+IsFittingIn parts history user actor (in_cube call) = HasHeldCube history user (IsCallOf parts history actor call)
 
 -- a request of one of the machine's users fits the history before it, whatever it is answered
-abbrev pub Fits : MachineParts → List Entry → ℕ → ℕ → Request → Type 0
-Fits parts history user actor request = (user < parts.users) × FitsHistory parts history user actor request
+abbrev pub IsFitting : MachineParts → List Entry → ℕ → ℕ → Request → Type 0
+IsFitting parts history user actor request = (user < parts.users) × IsFittingIn parts history user actor request
 
 -- ---- what is lawful
 
 -- the entry is made by a request that fits the history before it, and has the answer of that state
 pub record IsLawfulEntry (parts : MachineParts) (history : List Entry) (entry : Entry) : Type 0 where
   pub request : Request
-  pub fits : Fits parts history entry.user entry.actor request
+  pub fits : IsFitting parts history entry.user entry.actor request
   pub answer : answered parts (after history) entry.user entry.actor request ≡ Some entry.what
 
 -- the machine allows the history

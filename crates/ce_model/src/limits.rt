@@ -9,6 +9,9 @@ pub const PROCESS_COUNT: u32 = 8;
 /// How many message blocks are homed at each node and at each user's host.
 pub const HOME_BLOCKS: u32 = 32;
 
+/// How many message blocks the greatest cube has: those that its nodes are home to, and those of its host.
+pub const GREATEST_BLOCKS: u32 = ((1 << GREATEST_DIMENSION) + 1) * HOME_BLOCKS;
+
 /// How many bytes a message block can hold.
 pub const BLOCK_ROOM: u32 = 4_096;
 

@@ -15,7 +15,7 @@ use Rattle.ce_model.specs.Answers.{answer, call_of}
 use Rattle.ce_model.specs.Subcubes.{first_free}
 use Rattle.ce_model.specs.Renaming.{CubeGrant, entry_inward}
 use Rattle.ce_model.specs.Views.{from_grant, view}
-use Rattle.ce_model.specs.Machine.{MachineParts, IsMachine, HeldCube, MachineState, held_by, is_free, nodes_of, standing_of, record_by, held_by_entry, with_cube, with_grant, with_drained, without_cube, changed_by, changed_by_call, after, Request, getcube, peek, drain, freecube, in_cube, with_places_outward, answered, IsCallOf, Fits, IsLawfulEntry, IsLawful}
+use Rattle.ce_model.specs.Machine.{MachineParts, IsMachine, HeldCube, MachineState, held_by, is_free, nodes_of, standing_of, record_by, held_by_entry, with_cube, with_grant, with_drained, without_cube, changed_by, changed_by_call, after, Request, getcube, peek, drain, freecube, in_cube, with_places_outward, answered, IsCallOf, IsFitting, IsLawfulEntry, IsLawful}
 use Rattle.ce_model.proofs.Walked.{one_further, kept_by_each, each_of_front, each_behind}
 use Rattle.ce_solo.proofs.Projection.Views.{found-more, found-new, trace-stays, trace-grows, view-is}
 use Rattle.ce_solo.proofs.Projection.Held.{held-user, held-own, granted-own, left-own}
@@ -152,7 +152,7 @@ module _ (parts : MachineParts) (machine : IsMachine parts) (h : List Entry) (be
       (ap (λ call. changed_by_call call entry (after h)) own.called)
       (held-own entry.user (held_by_entry entry) (λ cube. refl) (λ cube. record_by cube.grant.sub entry) (after h) cube is))
 
-  by_request : (entry : Entry) (request : Request) → Fits parts h entry.user entry.actor request → answered parts (after h) entry.user entry.actor request ≡ Some entry.what
+  by_request : (entry : Entry) (request : Request) → IsFitting parts h entry.user entry.actor request → answered parts (after h) entry.user entry.actor request ≡ Some entry.what
       → Tells h entry
   by_request entry (getcube d) fits e = by_grant entry d (first_free (is_free (after h)) parts.dim d) fits.1.2 e
   by_request entry peek fits e = by_peek entry e

@@ -23,7 +23,7 @@ use Rattle.ce_script.specs.Moments.{moments}
 use Rattle.ce_script.specs.Doings.{Doing, AreDoings}
 use Rattle.ce_script.specs.Legal.{IsLegal, images_of, machine_of, EachUser, EachCube}
 use Rattle.ce_script.specs.Serial.{doings_of, IsSerial}
-use Rattle.ce_record.specs.Run.{IsRunSoFar, reply_of, KeepsRun}
+use Rattle.ce_record.specs.Run.{IsRunSoFar, reply_of, IsRecordOfRun}
 use Rattle.ce_record.specs.Laws.{ScriptHasMachine, RunIsLegal, NoUserIsLegal}
 use Rattle.ce_record.proofs.Run.{run_begins}
 
@@ -114,7 +114,7 @@ each_done P k [] all = tt
 each_done P k (user ∷ users) all = (all.0, each_done P (k + 1) users all.1)
 
 module _ (script : Script) (kept : Record) (all : List (ℕ × Doing)) (within : IsWithinLimits script) (lawful : IsLawful (machine_of script) kept.history)
-    (run : IsRunSoFar serial (machine_of script) kept.history all) (keeps : KeepsRun script all kept) where
+    (run : IsRunSoFar serial (machine_of script) kept.history all) (keeps : IsRecordOfRun script all kept) where
   empty : script.users ≡ [] → kept.history ≡ []
   empty none =
       let few = subst (λ users. AllByRecursion (IsOwnCommandWithin (length users) (length script.images)) script.commands) none within.commands in

@@ -14,7 +14,7 @@ use Rattle.ce_model.specs.Subcubes.{first_free}
 use Rattle.ce_model.specs.Renaming.{CubeGrant}
 use Rattle.ce_model.specs.Views.{is_drain, from_grant, view}
 use Rattle.ce_model.specs.Cube.{opening, next_call}
-use Rattle.ce_model.specs.Machine.{MachineParts, IsMachine, IsLawful, HeldCube, after, held_by, held_by_entry, record_by, is_free, nodes_of, standing_of, changed_by, changed_by_call, with_places_outward, Request, getcube, peek, drain, freecube, in_cube, answered, Fits, IsCallOf, IsLawfulEntry}
+use Rattle.ce_model.specs.Machine.{MachineParts, IsMachine, IsLawful, HeldCube, after, held_by, held_by_entry, record_by, is_free, nodes_of, standing_of, changed_by, changed_by_call, with_places_outward, Request, getcube, peek, drain, freecube, in_cube, answered, IsFitting, IsCallOf, IsLawfulEntry}
 use Rattle.ce_solo.proofs.Projection.Views.{found-new, view-is}
 use Rattle.ce_solo.proofs.Projection.Held.{held-own, granted-own, left-own}
 use Rattle.ce_solo.proofs.Projection.Kinds.{and_false, entry_of}
@@ -100,7 +100,7 @@ module _ (parts : MachineParts) (machine : IsMachine parts) (h : List Entry) (la
   no_drain : (entry : Entry) → is_drain entry.what ≡ false → Some Drain ≡ Some entry.what → ⊥
   no_drain entry goes e = let same : Drain ≡ entry.what = cc in both_ways _ goes (sym (ap is_drain same))
 
-  by_request : (entry : Entry) (request : Request) → entry.actor ≡ HOST → is_drain entry.what ≡ false → Fits parts h entry.user entry.actor request
+  by_request : (entry : Entry) (request : Request) → entry.actor ≡ HOST → is_drain entry.what ≡ false → IsFitting parts h entry.user entry.actor request
       → answered parts (after h) entry.user entry.actor request ≡ Some entry.what → Rests entry
   by_request entry (getcube d) host goes fits e = by_grant entry d (first_free (is_free (after h)) parts.dim d) fits.1.2 e
   by_request entry peek host goes fits e = by_what entry Peek e (idle (entry_of entry.user entry.actor Peek) refl refl)

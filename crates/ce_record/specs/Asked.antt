@@ -7,7 +7,7 @@ use Rattle.ce_model.specs.declared.entry.Entry.{Entry}
 use Rattle.ce_model.specs.declared.entry.What.{What}
 use Rattle.ce_model.specs.declared.entry.What.TheVariants.{Getcube as GetcubeMade, Peek as PeekMade, Send as SendMade, Spawn as SpawnMade, Kill as KillMade}
 use Rattle.ce_model.specs.Node.{sends, spawns, kills}
-use Rattle.ce_model.specs.Machine.{MachineParts, MachineState, after, Request, getcube, peek, in_cube, answered, Fits}
+use Rattle.ce_model.specs.Machine.{MachineParts, MachineState, after, Request, getcube, peek, in_cube, answered, IsFitting}
 use Rattle.rk_mail.specs.declared.talk.Heard.{Heard}
 use Rattle.rk_mail.specs.declared.talk.Heard.TheVariants.{Posted, Spawned, Used as HeardUsed, Killed, Unused as HeardUnused, Already as HeardAlready}
 use Rattle.ce_host.specs.declared.command.Command.{Command}
@@ -61,5 +61,5 @@ heard_reply other = None
 
 -- behind a history a user's host asks for this, and the machine makes this entry of it
 pub record IsAsked (parts : MachineParts) (history : List Entry) (user : ℕ) (request : Request) (what : What) : Type 0 where
-  pub fits : Fits parts history user HOST request
+  pub fits : IsFitting parts history user HOST request
   pub answer : answered parts (after history) user HOST request ≡ Some what

@@ -35,7 +35,7 @@ use Rattle.ce_script.specs.Serial.{IsSerial}
 use Rattle.ce_record.specs.Asked.{wants_cube, place_in, request_of, reply_by, heard_reply, IsAsked}
 use Rattle.ce_record.specs.CubeRounds.{IsCallBy, AreTurnsOf, IsRoundOf, IsRunOf, IsRecvOf}
 use Rattle.ce_record.specs.Held.{held_now, new_cube, cube_in, IsTurnOver, AreTurnsOverIn}
-use Rattle.ce_record.specs.Run.{IsRunSoFar, doing_behind, IsNextCommand, reply_of, AreReplies, KeepsRun}
+use Rattle.ce_record.specs.Run.{IsRunSoFar, doing_behind, IsNextCommand, reply_of, AreReplies, IsRecordOfRun}
 
 -- ---- what users hold
 
@@ -78,7 +78,7 @@ ScriptHasMachine = (script : Script) → IsWithinLimits script → 0 < length sc
 -- the record of a run of all the script's commands is legal and serial
 abbrev pub RunIsLegal : Type 0
 RunIsLegal = (script : Script) (kept : Record) (all : List (ℕ × Doing)) → IsWithinLimits script → IsLawful (machine_of script) kept.history
-    → IsRunSoFar serial (machine_of script) kept.history all → KeepsRun script all kept → IsLegal serial script kept × IsSerial script kept
+    → IsRunSoFar serial (machine_of script) kept.history all → IsRecordOfRun script all kept → IsLegal serial script kept × IsSerial script kept
 
 -- so is the empty record of a script without users
 abbrev pub NoUserIsLegal : Type 0

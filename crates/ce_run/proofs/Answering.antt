@@ -1,5 +1,5 @@
 -- What `run` and `recv` are answered.
-use Rattle.std.proofs.Common.{◌≡◌, ℕ, ◌+◌, ◌^◌, ◌<◌, ◌≤◌, Bool, true, false, if◌then◌else◌, IsTrue, List, [], ◌∷◌, ◌++◌, map, flat_map, Option, Some, None, IsSomeAnd, refl, ap, ap₂, sym, ◌∙◌, subst, arith, append-nil, append_assoc}
+use Rattle.std.proofs.Common.{◌≡◌, ℕ, ◌+◌, ◌<◌, Bool, true, false, if◌then◌else◌, List, [], ◌∷◌, ◌++◌, map, flat_map, Option, Some, None, IsSomeAnd, refl, ap, ap₂, sym, ◌∙◌, subst, arith, append_assoc}
 use Rattle.std.specs.Prelude.{MatchOption}
 use Rattle.std.specs.List.{AllByRecursion}
 use Rattle.std.proofs.lemmas.List.{map-append}
@@ -22,11 +22,11 @@ use Rattle.ce_cube.specs.declared.crew.SerialCrew.{SerialCrew}
 use Rattle.ce_cube.specs.Boxes.{IsHeldAs}
 use Rattle.ce_cube.specs.Crews.{IsLawfulMachine, IsCrewInStep, HasGoneOn, HasMadeRound, cube_grant, box_at}
 use Rattle.ce_cube.proofs.Counts.{steps-end-turns}
-use Rattle.ce_cube.proofs.Crewing.{still-sound}
+use Rattle.ce_cube.proofs.Crewing.{still-sound, gone-both, stands-still}
 use Rattle.ce_host.specs.declared.command.Command.TheVariants.{Run, Recv}
 use Rattle.ce_host.specs.declared.answer.Answer.{Answer}
 use Rattle.ce_host.specs.declared.answer.Answer.TheVariants.{Message}
-use Rattle.ce_script.specs.Rounds.{serial, joined, asks_for_work, AreTurnsOver}
+use Rattle.ce_script.specs.Rounds.{serial, joined, AreTurnsOver}
 use Rattle.ce_script.specs.Commands.{by_host, host_take, run_reply, RecvEnd, message_next, message_behind_rest, no_message, end_entries, end_rounds, message_reply, no_message_reply, recv_reply}
 use Rattle.ce_record.specs.CubeRounds.{IsRoundOf, IsRunOf, IsRecvOf}
 use Rattle.ce_record.specs.Held.{AreTurnsOverIn}
@@ -37,7 +37,7 @@ use Rattle.ce_record.proofs.Turns.{work-inward}
 use Rattle.ce_run.specs.declared.seat.Seat.TheVariants.{Holding}
 use Rattle.ce_run.specs.Rounds.{HasAllowed, HasLooked, HasTakenNone, HasTaken, HasRunRounds}
 use Rattle.ce_run.specs.Seats.{HasDone}
-use Rattle.ce_run.proofs.Going.{gone-both, IsOwnRound, IsResting, RestsNow, left_to, by-grant, all-by-grant, flat-last, stands-still, round-of, left-behind, rests-behind, found-resting, rests-on, left-on}
+use Rattle.ce_run.proofs.Going.{IsOwnRound, IsResting, RestsNow, left_to, by-grant, all-by-grant, flat-last, round-of, left-behind, rests-behind, found-resting, rests-on, left-on}
 use Rattle.ce_run.proofs.Seating.{done-by}
 
 -- ---- the end of a command with rounds

@@ -1,5 +1,5 @@
 -- A call of a crew's host leaves all but the host in step.
-use Rattle.std.proofs.Common.{◌≡◌, ◌⊎◌, ℕ, ◌+◌, ◌-◌, ◌^◌, ◌<◌, ◌≤◌, Bool, true, false, ◌==◌, ◌&&◌, not, is_some, if◌then◌else◌, List, [], ◌∷◌, ◌++◌, length, map, filter, Option, Some, None, refl, ap, sym, ◌∙◌, subst, arith, length-append}
+use Rattle.std.proofs.Common.{◌≡◌, ℕ, ◌+◌, ◌-◌, ◌^◌, ◌<◌, ◌≤◌, Bool, true, false, ◌==◌, ◌&&◌, not, is_some, if◌then◌else◌, List, [], ◌∷◌, ◌++◌, length, map, filter, Option, Some, None, refl, ap, sym, ◌∙◌, subst, arith, length-append}
 use Rattle.std.proofs.lemmas.List.{length-map}
 use Rattle.std.specs.List.{take_while}
 use Rattle.std.proofs.lemmas.List.Sums.{take_while-cons}
@@ -7,20 +7,19 @@ use Rattle.std.specs.Option.{option_map_or}
 use Rattle.ce_model.specs.Answers.{call_of}
 use Rattle.ce_model.specs.declared.topology.TheConstants.{HOST}
 use Rattle.ce_model.specs.declared.entry.Entry.{Entry}
-use Rattle.ce_model.specs.declared.entry.What.{What}
 use Rattle.ce_model.specs.Renaming.{CubeGrant, entry_inward}
 use Rattle.ce_model.specs.Views.{grant_by, is_drain, trace_behind, grant_or_later, from_grant, view}
-use Rattle.ce_model.specs.Machine.{MachineParts, IsMachine, IsLawful, after, Fits, answered, in_cube}
+use Rattle.ce_model.specs.Machine.{MachineParts, IsMachine, after, IsFitting, answered}
 use Rattle.rk_node.specs.Boxes.{Box}
 use Rattle.ce_machine.specs.Meanings.{MachineFacts}
 use Rattle.ce_machine.specs.declared.call.Call.{Call}
 use Rattle.ce_machine.specs.declared.call.Call.TheVariants.{Freecube}
 use Rattle.ce_machine.specs.declared.call.Reply.{Reply}
-use Rattle.ce_machine.specs.Requests.{request_of, BringsBoxes, FitsBehind}
+use Rattle.ce_machine.specs.Requests.{HasBroughtBoxes, IsFittingCall}
 use Rattle.rk_node.specs.Boxes.{IsClean}
 use Rattle.ce_cube.specs.declared.crew.SerialCrew.{SerialCrew}
-use Rattle.ce_cube.specs.Boxes.{IsHeldAs, node_now, IsOneMore, IsInStep}
-use Rattle.ce_cube.specs.Crews.{IsLawfulMachine, AreBoxesInStep, cube_grant, box_at}
+use Rattle.ce_cube.specs.Boxes.{IsOneMore, IsInStep}
+use Rattle.ce_cube.specs.Crews.{IsLawfulMachine, cube_grant, box_at}
 use Rattle.ce_cube.proofs.Adds.{calls-add}
 use Rattle.ce_script.specs.Commands.{by_host}
 use Rattle.ce_run.specs.Asking.{home_of, HasAsked, AreNodesInStep, IsHostCall, HasCalled}
@@ -89,15 +88,15 @@ view-shorter history number = in-shorter (length history) (from_grant history nu
 -- ---- a call of a cube
 
 -- a call of a cube brings no boxes
-brings-none : (history : List Entry) (user : ℕ) (call : Call Box) (parts : MachineParts) → IsHostCall parts history user call → BringsBoxes home_of IsClean history user call
+brings-none : (history : List Entry) (user : ℕ) (call : Call Box) (parts : MachineParts) → IsHostCall parts history user call → HasBroughtBoxes home_of IsClean history user call
 brings-none history user (Freecube boxes) parts host = let is = host.is in absurd (cc)
 brings-none history user other parts host = tt
 
 pub host-fits : (parts : MachineParts) (history : List Entry) (user : ℕ) (call : Call Box) → IsMachine parts → IsHostCall parts history user call
-    → FitsBehind home_of IsClean parts history (record { family = user; actor = HOST }) call
+    → IsFittingCall home_of IsClean parts history (record { family = user; actor = HOST }) call
 host-fits parts history user call machine host = record {
   machine = machine;
-  fits = subst (λ request. Fits parts history user HOST request) (sym host.is) host.fits;
+  fits = subst (λ request. IsFitting parts history user HOST request) (sym host.is) host.fits;
   boxes = brings-none history user call parts host;
 }
 

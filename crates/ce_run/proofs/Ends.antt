@@ -1,21 +1,20 @@
 -- How a run ends: at its words, at its script, or with a record.
-use Rattle.std.proofs.Common.{◌≡◌, ◌⊎◌, ℕ, Bool, true, if◌then◌else◌, List, [], Option, Some, None, refl, ap, sym, ◌∙◌, subst, arith, inl, inr, rules}
+use Rattle.std.proofs.Common.{◌≡◌, ◌⊎◌, ℕ, true, if◌then◌else◌, List, [], Option, Some, None, refl, ap, sym, subst, arith, inl, inr, rules}
 use Rattle.std.specs.Prelude.{IfSome}
 use Rattle.std.specs.Io.KnownBytes.{prepend_known}
 use Rattle.ce_io.specs.Whole.{HasGiven, Reading, Writing, reading, writing}
 use Rattle.ce_words.specs.declared.line.Line.{Line}
 use Rattle.ce_words.specs.Line.{line_of}
-use Rattle.ce_script.specs.Rounds.{RoundKind, serial, threaded}
+use Rattle.ce_script.specs.Rounds.{serial, threaded}
 use Rattle.ce_script.specs.Serial.{IsSerial}
 use Rattle.ce_script.specs.Legal.{IsLegal}
 use Rattle.ce_script.specs.Load.{load}
-use Rattle.ce_script.specs.declared.record.Record.{Record}
 use Rattle.ce_script.specs.declared.script.Script.{Script}
 use Rattle.ce_run.specs.declared.ended.Ended.{Ended}
 use Rattle.ce_run.specs.declared.ended.Fault.{Fault}
 use Rattle.ce_run.specs.declared.ended.Fault.TheVariants.{TooLong, Script as Refused, Usage, Read, Memory}
 use Rattle.ce_run.specs.Fault.{status_of}
-use Rattle.ce_run.specs.Causes.{IsServed, IsMemory, RanToEnd, Reports}
+use Rattle.ce_run.specs.Causes.{IsServed, IsMemory, HasRunToEnd, HasReported}
 use Rattle.ce_run.specs.Promise.{HasEnded, HasFinished, HasRun, HasScript, text_of}
 
 nothing_before : (known : Option (List ℕ)) → known ≡ prepend_known [] known
@@ -95,7 +94,7 @@ both (Some a) P Q R Z f p q r = f a p q r
 pub runs_as_promised : {S K : Type 0} (line : Line) (source : Reading S) (sink : Writing K) (script : Script) (end : Ended)
     → line.serial ≡ true → HasScript line.load source script → HasFinished script line.load sink end → IfSome end.kept (HasRun line source sink end.fault)
 runs_as_promised line source sink script end one has finished =
-    both end.kept (IsLegal serial script) (IsSerial script) (λ kept. Reports end.fault (text_of line.load script kept) (sink.written sink.old) (sink.written sink.new))
+    both end.kept (IsLegal serial script) (IsSerial script) (λ kept. HasReported end.fault (text_of line.load script kept) (sink.written sink.old) (sink.written sink.new))
     (HasRun line source sink end.fault)
     (λ kept legal in_order reported. record {
       script = script;
@@ -106,9 +105,9 @@ runs_as_promised line source sink script end one has finished =
     }) finished.legal finished.serial finished.reported
 
 -- a run that finished has no other fault than these
-other_fault : (end : Option Fault) (fault : Fault) → (RanToEnd (Some fault) → ⊥) → (IsMemory (Some fault) → ⊥)
-    → RanToEnd end ⊎ IsMemory end → end ≡ Some fault → ⊥
-other_fault end fault not_ran not_memory (inl ran) e = not_ran (subst RanToEnd e ran)
+other_fault : (end : Option Fault) (fault : Fault) → (HasRunToEnd (Some fault) → ⊥) → (IsMemory (Some fault) → ⊥)
+    → HasRunToEnd end ⊎ IsMemory end → end ≡ Some fault → ⊥
+other_fault end fault not_ran not_memory (inl ran) e = not_ran (subst HasRunToEnd e ran)
 other_fault end fault not_ran not_memory (inr memory) e = not_memory (subst IsMemory e memory)
 
 some_differs : (load : Option ℕ) (seed : ℕ) → load ≡ Some seed → load ≡ None → ⊥

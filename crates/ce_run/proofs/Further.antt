@@ -1,5 +1,5 @@
 -- A script's run, one command further.
-use Rattle.std.proofs.Common.{◌≡◌, ◌≢◌, ◌⊎◌, ℕ, zero, suc, ◌+◌, ◌<◌, Bool, true, false, ◌==◌, List, [], ◌∷◌, ◌++◌, length, map, take, drop, get_or, slice_index_or, slice_set, set, Option, Some, None, option_map, refl, ap, ap₂, sym, ◌∙◌, subst, inl, inr, IsSomeAnd, arith, length-append, append-nil}
+use Rattle.std.proofs.Common.{◌≡◌, ◌≢◌, ℕ, zero, suc, ◌+◌, ◌<◌, List, [], ◌∷◌, ◌++◌, length, map, take, drop, get_or, slice_index_or, slice_set, set, Option, Some, None, option_map, refl, ap, ap₂, sym, ◌∙◌, subst, inl, inr, IsSomeAnd, arith, length-append, append-nil}
 use Rattle.std.proofs.lemmas.List.{length-map, map-append, map-set, get_or-map, get_or-set_same, get_or-set_other, get_or_append_left}
 use Rattle.std.proofs.Math.Seq.{take-suc, map-set_same, get_or-append_seam}
 use Rattle.std.proofs.Math.ListN.{length-set}
@@ -11,15 +11,13 @@ use Rattle.ce_model.specs.declared.entry.Entry.{Entry}
 use Rattle.ce_model.specs.Views.{view}
 use Rattle.ce_model.specs.Machine.{MachineParts, IsMachine, IsLawful, HeldCube, after, held_by}
 use Rattle.ce_machine.specs.Meanings.{MachineFacts}
-use Rattle.ce_model.specs.Limits.{home_blocks, host_home}
+use Rattle.ce_model.specs.Limits.{home_blocks, host_home, greatest_blocks}
 use Rattle.ce_model.specs.Blocks.{blocks_of_home}
 use Rattle.xm_block.specs.Stores.{ids_of}
-use Rattle.ce_host.specs.Hosts.{host_room}
 use Rattle.ce_host.specs.declared.host.Host.{Host}
 use Rattle.ce_host.specs.declared.command.Command.{Command}
 use Rattle.ce_host.specs.declared.answer.Answer.{Answer}
-use Rattle.ce_cube.specs.declared.crew.SerialCrew.{SerialCrew}
-use Rattle.ce_cube.specs.Crews.{IsCrewInStep, IsHostAtHome}
+use Rattle.ce_cube.specs.Crews.{IsHostAtHome}
 use Rattle.ce_cube.proofs.Homes.{length-home}
 use Rattle.ce_script.specs.declared.record.UserRecord.{UserRecord}
 use Rattle.ce_script.specs.declared.record.Record.{Record}
@@ -192,7 +190,7 @@ some-free parts user None is = is
 some-free parts user (Some seat) is = free-at parts user seat is
 
 -- a host that was just made is at home
-pub at-home : (user : ℕ) (host : Host) → ids_of host.store.blocks ≡ blocks_of_home (host_home + user) → host.store.spare + home_blocks ≡ host_room
+pub at-home : (user : ℕ) (host : Host) → ids_of host.store.blocks ≡ blocks_of_home (host_home + user) → host.store.spare + home_blocks ≡ greatest_blocks
     → host.spare ≡ Some [] → IsHostAtHome user host
 at-home user host blocks room spare =
     let count : length host.store.blocks ≡ home_blocks =

@@ -1,8 +1,7 @@
 -- Rounds of a crew, and the commands that run them.
-use Rattle.std.proofs.Common.{◌≡◌, ℕ, zero, suc, ◌+◌, ◌-◌, ◌^◌, ◌<◌, ◌≤◌, Bool, true, false, ◌==◌, ◌&&◌, ◌||◌, not, if◌then◌else◌, IsTrue, List, [], ◌∷◌, ◌++◌, map, flat_map, is_some, Option, Some, None, refl, ap, ap₂, sym, ◌∙◌, subst, arith, append-nil, append_assoc, inr}
+use Rattle.std.proofs.Common.{◌≡◌, ℕ, zero, suc, ◌+◌, ◌-◌, ◌^◌, ◌<◌, ◌≤◌, Bool, true, false, ◌==◌, ◌&&◌, ◌||◌, not, if◌then◌else◌, List, [], ◌∷◌, ◌++◌, flat_map, Some, None, refl, ap, ap₂, sym, ◌∙◌, subst, arith, append-nil, inr}
 use Rattle.std.specs.List.{AllByRecursion, list_any, list_all, range_with_len}
 use Rattle.std.proofs.lemmas.Bool.{ne_eqb}
-use Rattle.std.proofs.lemmas.List.{map-append}
 use Rattle.std.proofs.lemmas.Grind.{flat_map-append}
 use Rattle.rv_model.specs.Image.{ImageParts}
 use Rattle.ce_model.specs.declared.topology.TheConstants.{HOST}
@@ -14,9 +13,9 @@ use Rattle.ce_model.specs.declared.entry.Found.TheVariants.{Quiet, Busy}
 use Rattle.ce_model.specs.Node.{looks}
 use Rattle.ce_model.specs.Parcels.{Item, is_eligible}
 use Rattle.ce_model.specs.Trace.{Mark, Standing, standing, waiting, mark, armed, dispatched}
-use Rattle.ce_model.specs.Answers.{answer, call_of, found_where, is_quiet, is_quiet_node, is_used_up}
+use Rattle.ce_model.specs.Answers.{answer, found_where, is_quiet, is_quiet_node, is_used_up}
 use Rattle.ce_model.specs.Cube.{Cube, IsAlone, opening, node_numbers}
-use Rattle.ce_model.specs.Renaming.{CubeGrant, entry_inward}
+use Rattle.ce_model.specs.Renaming.{CubeGrant}
 use Rattle.ce_model.specs.Views.{view}
 use Rattle.ce_model.specs.Machine.{MachineParts, HeldCube, after, held_by, standing_of, cube_of}
 use Rattle.ce_model.proofs.OneMore.{mark-more, waiting-stays, armed-more, dispatched-more}
@@ -29,10 +28,10 @@ use Rattle.ce_daemon.specs.declared.grant.Grant.{Grant}
 use Rattle.ce_machine.specs.Meanings.{MachineFacts}
 use Rattle.ce_cube.specs.declared.crew.SerialCrew.{SerialCrew}
 use Rattle.ce_cube.specs.Boxes.{IsHeldAs, IsMadeBy}
-use Rattle.ce_cube.specs.Crews.{IsLawfulMachine, IsCrewInStep, HasGoneOn, HasMadeRound, AreCallsOf, cube_grant}
+use Rattle.ce_cube.specs.Crews.{IsLawfulMachine, IsCrewInStep, HasGoneOn, HasMadeRound, cube_grant}
 use Rattle.ce_cube.specs.Rounds.{dispatches_left}
 use Rattle.ce_cube.proofs.Adds.{answer-made}
-use Rattle.ce_cube.proofs.Crewing.{still-sound}
+use Rattle.ce_cube.proofs.Crewing.{still-sound, stands-still, gone-both}
 use Rattle.ce_cube.proofs.Held.{seen, by_cube}
 use Rattle.ce_cube.proofs.Resting.{rounds-rest}
 use Rattle.ce_script.specs.Rounds.{serial, joined, IsRoundWithoutWork}
@@ -55,36 +54,6 @@ user-stays before behind crew crew' made on user = record {
 pub images-stay : (before behind : MachineFacts) (crew crew' : SerialCrew) (made : List Entry) (images : List ImageParts) → HasGoneOn before behind crew crew' made
     → images ≡ before.parts.images → images ≡ behind.parts.images
 images-stay before behind crew crew' made images on is = is ∙ ap (λ (p : MachineParts). p.images) (sym on.parts)
-
--- what a crew did, and what it did behind that, by the grant that it still has
-pub gone-both : (m now now' : MachineFacts) (crew crew' crew'' : SerialCrew) (made more : List Entry) → HasGoneOn m now crew crew' made
-    → HasGoneOn now now' crew' crew'' more → HasGoneOn m now' crew crew'' (made ++ more)
-gone-both m now now' crew crew' crew'' made more on next =
-    let inner = entry_inward crew.grant.sub in
-    record {
-      parts = next.parts ∙ on.parts;
-      history = next.history ∙ ap (λ h. h ++ more) on.history ∙ append_assoc m.history made more;
-      lawful = next.lawful;
-      calls = all-append (λ (entry : Entry). (entry.user ≡ crew.grant.user) × IsTrue (is_some (call_of entry.what))) made more on.calls
-          (subst (λ (g : Grant). AreCallsOf g.user more) on.grant next.calls);
-      grant = next.grant ∙ on.grant;
-      trace = subst (λ (g : Grant). view now'.history g.number ≡ view now.history g.number ++ map (entry_inward g.sub) more) on.grant next.trace
-          ∙ ap (λ t. t ++ map inner more) on.trace ∙ append_assoc (view m.history crew.grant.number) (map inner made) (map inner more)
-          ∙ ap (λ t. view m.history crew.grant.number ++ t) (sym (map-append inner made more));
-      in_step = next.in_step;
-    }
-
--- a crew that has done nothing yet
-pub stands-still : (m : MachineFacts) (crew : SerialCrew) → IsLawfulMachine m → IsCrewInStep m.parts m.history crew → HasGoneOn m m crew crew []
-stands-still m crew sound step = record {
-  parts = refl;
-  history = sym (append-nil m.history);
-  lawful = sound.lawful;
-  calls = tt;
-  grant = refl;
-  trace = sym (append-nil (view m.history crew.grant.number));
-  in_step = step;
-}
 
 -- ---- rounds
 

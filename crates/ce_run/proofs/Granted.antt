@@ -8,7 +8,7 @@ use Rattle.ce_model.specs.declared.entry.What.TheVariants.{Getcube as GetcubeMad
 use Rattle.ce_model.specs.Limits.{greatest_dim}
 use Rattle.ce_model.specs.Subcubes.{first_free}
 use Rattle.ce_model.specs.Views.{view}
-use Rattle.ce_model.specs.Machine.{MachineState, after, held_by, is_free, getcube, answered, Fits}
+use Rattle.ce_model.specs.Machine.{MachineState, after, held_by, is_free, getcube, answered, IsFitting}
 use Rattle.ce_solo.proofs.Projection.Law.{after-more}
 use Rattle.ce_daemon.specs.declared.grant.Grant.{Grant}
 use Rattle.ce_daemon.specs.Boxes.{AreBoxesOf}
@@ -21,7 +21,7 @@ use Rattle.ce_machine.specs.Meanings.{MachineFacts}
 use Rattle.ce_machine.specs.declared.call.Call.TheVariants as calls
 use Rattle.ce_machine.specs.declared.call.Reply.{Reply}
 use Rattle.ce_machine.specs.declared.call.Reply.TheVariants as replies
-use Rattle.ce_machine.specs.Requests.{FitsBehind}
+use Rattle.ce_machine.specs.Requests.{IsFittingCall}
 use Rattle.ce_machine.specs.Replies.{IsReplyTo, IsGrantReply, IsGranted, next_grant}
 use Rattle.ce_cube.specs.declared.crew.SerialCrew.{SerialCrew}
 use Rattle.ce_cube.specs.Boxes.{IsHeldAs, IsBegun}
@@ -40,10 +40,10 @@ module _ (before : MachineFacts) (user dim : ℕ) (has : HasUser before user) (f
   abbrev state : MachineState
   state = after before.history
 
-  fits : Fits before.parts before.history user HOST (getcube dim)
+  fits : IsFitting before.parts before.history user HOST (getcube dim)
   fits = (has.within, (refl, within, free))
 
-  pub getcube-fits : FitsBehind home_of IsClean before.parts before.history (record { family = user; actor = HOST }) (calls.Getcube dim)
+  pub getcube-fits : IsFittingCall home_of IsClean before.parts before.history (record { family = user; actor = HOST }) (calls.Getcube dim)
   getcube-fits = record { machine = has.book.within; fits = fits; boxes = tt }
 
   module _ (behind : MachineFacts) (reply : Reply Box) (asks : HasAsked before behind user (calls.Getcube dim) reply) where

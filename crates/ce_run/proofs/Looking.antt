@@ -1,5 +1,5 @@
 -- A host allows dispatches, looks, and takes messages.
-use Rattle.std.proofs.Common.{◌≡◌, ℕ, ◌+◌, ◌-◌, ◌*◌, ◌^◌, ◌≤◌, List, [], ◌∷◌, ◌++◌, length, map, count_by, IsSomeAnd, Option, Some, None, refl, ap, sym, ◌∙◌, subst, inl, inr, arith}
+use Rattle.std.proofs.Common.{◌≡◌, ℕ, ◌+◌, ◌-◌, ◌≤◌, List, [], ◌∷◌, ◌++◌, length, map, count_by, IsSomeAnd, Option, Some, None, refl, ap, sym, ◌∙◌, subst, inl, inr, arith}
 use Rattle.std.proofs.lemmas.Bool.{cases_Bool}
 use Rattle.std.proofs.lemmas.List.{length-map}
 use Rattle.std.specs.Prelude.{Contains}
@@ -9,14 +9,14 @@ use Rattle.ce_model.specs.declared.entry.Entry.{Entry}
 use Rattle.ce_model.specs.declared.entry.What.TheVariants.{Arm, Look, HostTake}
 use Rattle.ce_model.specs.declared.entry.Found.{Found}
 use Rattle.ce_model.specs.declared.entry.Found.TheVariants as found
-use Rattle.ce_model.specs.Limits.{greatest_count, greatest_dim, home_blocks}
+use Rattle.ce_model.specs.Limits.{greatest_count, greatest_blocks}
 use Rattle.ce_model.specs.Blocks.{Block, put, precedes, is_same_id}
 use Rattle.ce_model.specs.Parcels.{Item}
 use Rattle.ce_model.specs.Node.{arms, looks, takes_mail}
 use Rattle.ce_model.specs.Answers.{answer, is_quiet, is_used_up, found_where, first_number}
 use Rattle.ce_model.specs.Cube.{parcel_numbered}
 use Rattle.ce_model.specs.Renaming.{CubeGrant, block_outward}
-use Rattle.ce_model.specs.Machine.{HoldsCube, after, nodes_of, standing_of}
+use Rattle.ce_model.specs.Machine.{HasHeldCube, after, nodes_of, standing_of}
 use Rattle.ce_solo.proofs.Counting.{count-is}
 use Rattle.rk_node.proofs.Names.{not_contained}
 use Rattle.xm_block.specs.Stores.{ids_of, with_block}
@@ -24,7 +24,6 @@ use Rattle.rk_node.specs.Boxes.{Box, IsClean}
 use Rattle.rk_mail.specs.Items.{parcel_of}
 use Rattle.rk_mail.specs.declared.parcel.Parcel.{Parcel as Brought}
 use Rattle.ce_host.specs.declared.host.Host.{Host}
-use Rattle.ce_host.specs.Hosts.{host_room}
 use Rattle.ce_machine.specs.Meanings.{MachineFacts}
 use Rattle.ce_machine.specs.declared.call.Call.{Call as Asking}
 use Rattle.ce_machine.specs.declared.call.Call.TheVariants as calls
@@ -74,10 +73,6 @@ length-put id (x ∷ xs) = elim (cases_Bool (precedes id x)) [
   | inl t ↦ rw t (omega arith)
   | inr f ↦ rw f (let rest = length-put id xs in omega (arith, rest))
 ]
-
-room-is : host_room ≡ (2 ^ greatest_dim + 1) * home_blocks
-unfolding host_room
-room-is = refl
 
 -- ---- what replies say
 
@@ -204,7 +199,7 @@ module _ (before behind : MachineFacts) (crew crew' : SerialCrew) (machine : IsL
       abbrev has : HasMail parcel
       has = mail-by (first_number items) take-is (take-reply-is (first_number items) take-reply) parcel mail
 
-      waited : HoldsCube before.history crew.grant.user (λ cube. parcel_numbered has.number cube.mail ≡ Some (parcel_of parcel))
+      waited : HasHeldCube before.history crew.grant.user (λ cube. parcel_numbered has.number cube.mail ≡ Some (parcel_of parcel))
       waited = subst (λ held. IsSomeAnd held (λ cube. parcel_numbered has.number cube.mail ≡ Some (parcel_of parcel))) (sym step.held.held) has.waits
 
       abbrev entry : Entry
@@ -224,7 +219,7 @@ module _ (before behind : MachineFacts) (crew crew' : SerialCrew) (machine : IsL
       names : ids_of crew'.host.store.blocks ≡ map outward (store_now before.parts before.history crew.grant.number (cube_grant crew.grant))
       names = ap (λ (host : Host). ids_of host.store.blocks) host-same ∙ step.host.blocks
 
-      full : crew'.host.store.spare + length crew'.host.store.blocks ≡ host_room
+      full : crew'.host.store.spare + length crew'.host.store.blocks ≡ greatest_blocks
       full = ap (λ (host : Host). host.store.spare + length host.store.blocks) host-same ∙ step.host.room
 
       pub accept-room : 1 ≤ crew'.host.store.spare
@@ -233,7 +228,6 @@ module _ (before behind : MachineFacts) (crew crew' : SerialCrew) (machine : IsL
             arith,
             full,
             accepted.room,
-            room-is,
             ap (λ (ids : List BlockId). length ids) names,
             length-map crew'.host.store.blocks (λ (block : Block). block.id),
             length-map (store_now before.parts before.history crew.grant.number (cube_grant crew.grant)) outward,

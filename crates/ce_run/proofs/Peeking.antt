@@ -11,7 +11,7 @@ use Rattle.ce_machine.specs.Meanings.{MachineFacts}
 use Rattle.ce_machine.specs.declared.call.Call.TheVariants as calls
 use Rattle.ce_machine.specs.declared.call.Reply.{Reply}
 use Rattle.ce_machine.specs.declared.call.Reply.TheVariants as replies
-use Rattle.ce_machine.specs.Requests.{FitsBehind}
+use Rattle.ce_machine.specs.Requests.{IsFittingCall}
 use Rattle.ce_machine.specs.Replies.{IsReplyTo}
 use Rattle.ce_host.specs.declared.command.Command.TheVariants.{Peek}
 use Rattle.ce_host.specs.declared.answer.Answer.TheVariants.{Peeked as PeekFound}
@@ -27,7 +27,7 @@ pub same-what : (a b : What) → Some a ≡ Some b → a ≡ b
 same-what a b e = cc
 
 pub peek-fits : (before : MachineFacts) (user : ℕ) → HasUser before user
-    → FitsBehind home_of IsClean before.parts before.history (record { family = user; actor = HOST }) calls.Peek
+    → IsFittingCall home_of IsClean before.parts before.history (record { family = user; actor = HOST }) calls.Peek
 peek-fits before user has = record { machine = has.book.within; fits = (has.within, refl); boxes = tt }
 
 -- what a reply says was found

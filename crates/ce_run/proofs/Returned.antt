@@ -12,7 +12,7 @@ use Rattle.ce_model.specs.Saying.{says}
 use Rattle.ce_model.specs.Cube.{node_numbers}
 use Rattle.ce_model.specs.Subcubes.{IsSubcube, node_of}
 use Rattle.ce_model.specs.Renaming.{CubeGrant, block_outward}
-use Rattle.ce_model.specs.Machine.{MachineState, IsMachine, IsLawful, HeldCube, after, held_by, all_parcels, Fits, freecube}
+use Rattle.ce_model.specs.Machine.{MachineState, IsMachine, IsLawful, HeldCube, after, held_by, all_parcels, IsFitting, freecube}
 use Rattle.ce_solo.proofs.Projection.Law.{after-more}
 use Rattle.ce_solo.proofs.Projection.Held.{held-own, left-own}
 use Rattle.ce_daemon.specs.Boxes.{AreBoxesOf}
@@ -26,11 +26,11 @@ use Rattle.ce_machine.specs.Meanings.{MachineFacts}
 use Rattle.ce_machine.specs.declared.call.Call.TheVariants as calls
 use Rattle.ce_machine.specs.declared.call.Reply.{Reply}
 use Rattle.ce_machine.specs.declared.call.Reply.TheVariants as replies
-use Rattle.ce_machine.specs.Requests.{FitsBehind}
+use Rattle.ce_machine.specs.Requests.{IsFittingCall}
 use Rattle.ce_machine.specs.Replies.{IsReplyTo, OfHeldCube, IsDrained}
 use Rattle.ce_cube.specs.declared.crew.SerialCrew.{SerialCrew}
 use Rattle.ce_cube.specs.Boxes.{node_now, store_now}
-use Rattle.ce_cube.specs.Crews.{IsLawfulMachine, IsCrewInStep, HoldAllBlocks, AreAllHome, cube_grant, box_at}
+use Rattle.ce_cube.specs.Crews.{IsLawfulMachine, IsCrewInStep, HasAllBlocks, AreAllHome, cube_grant, box_at}
 use Rattle.ce_cube.specs.Rehoming.{AreAllBlocks, names_in}
 use Rattle.ce_cube.proofs.Held.{seen, by_cube}
 use Rattle.ce_cube.proofs.Seats.{node-said}
@@ -49,7 +49,7 @@ use Rattle.ce_run.proofs.Peeking.{same-what}
 -- ---- what waits is taken away
 
 module _ (before : MachineFacts) (user : ℕ) (has : HasUser before user) (holds : HasCube before.history user) where
-  pub drain-fits : FitsBehind home_of IsClean before.parts before.history (record { family = user; actor = HOST }) calls.Drain
+  pub drain-fits : IsFittingCall home_of IsClean before.parts before.history (record { family = user; actor = HOST }) calls.Drain
   drain-fits = record { machine = has.book.within; fits = (has.within, (refl, holds)); boxes = tt }
 
   module _ (behind : MachineFacts) (reply : Reply Box) (asks : HasAsked before behind user calls.Drain reply) where
@@ -123,7 +123,7 @@ module _ (before : MachineFacts) (crew : SerialCrew) (has : HasUser before crew.
     drained-names : map (λ parcel. parcel.block.id) waiting ≡ map (λ block. block.id) drained
     drained-names = sym (ap (map (λ (block : Block). block.id)) drained-is ∙ map-twice (λ (parcel : Parcel). parcel.block) (λ (block : Block). block.id) waiting)
 
-    pub all-there : HoldAllBlocks grant crew.nodes.items crew.host drained
+    pub all-there : HasAllBlocks grant crew.nodes.items crew.host drained
     all-there = record {
       sub = sub-of;
       all = step.boxes.all;
@@ -146,9 +146,9 @@ module _ (before : MachineFacts) (crew : SerialCrew) (has : HasUser before crew.
         ∙ held-own crew.grant.user (λ one. record one { drained = true; mail = [] }) (λ one. refl) (λ one node kept. record kept { waiting = [] })
         (after before.history) step.held.cube step.held.held
 
-    free-fits : Fits before.parts behind.history crew.grant.user HOST freecube
+    free-fits : IsFitting before.parts behind.history crew.grant.user HOST freecube
     free-fits =
-        subst (λ h. Fits before.parts h crew.grant.user HOST freecube) (sym is.history)
+        subst (λ h. IsFitting before.parts h crew.grant.user HOST freecube) (sym is.history)
         (drains-fit-held before.parts before.history crew.grant.number grant has.book.within has.book.lawful step.held).2
 
     pub sound-behind : IsLawfulMachine behind
@@ -162,10 +162,10 @@ module _ (before : MachineFacts) (crew : SerialCrew) (has : HasUser before crew.
       own-boxes =
           subst (λ (g : CubeGrant). AreBoxesOf home_of IsClean (numbered (step.held.cube.number, g)) boxes.items) (sym step.held.grant_is) home.0
 
-      pub freecube-fits : FitsBehind home_of IsClean behind.parts behind.history (record { family = crew.grant.user; actor = HOST }) (calls.Freecube boxes)
+      pub freecube-fits : IsFittingCall home_of IsClean behind.parts behind.history (record { family = crew.grant.user; actor = HOST }) (calls.Freecube boxes)
       freecube-fits = record {
         machine = subst IsMachine (sym is.parts) has.book.within;
-        fits = subst (λ parts. Fits parts behind.history crew.grant.user HOST freecube) (sym is.parts) free-fits;
+        fits = subst (λ parts. IsFitting parts behind.history crew.grant.user HOST freecube) (sym is.parts) free-fits;
         boxes = subst (λ held. IsSomeAnd held (λ cube. AreBoxesOf home_of IsClean (numbered (cube.number, cube.grant)) boxes.items)) (sym drained-held) own-boxes;
       }
 

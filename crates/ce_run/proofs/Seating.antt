@@ -1,11 +1,11 @@
 -- The seat that a user has behind a command.
-use Rattle.std.proofs.Common.{◌≡◌, ◌⊎◌, ℕ, ◌+◌, ◌^◌, ◌<◌, ◌≤◌, nat_lt, Bool, true, false, ◌==◌, if◌then◌else◌, List, [], ◌∷◌, ◌++◌, length, map, is_some, IsSomeAnd, Option, Some, None, option_map, IsTrue, refl, ap, sym, ◌∙◌, subst, append-nil, inr}
+use Rattle.std.proofs.Common.{◌≡◌, ℕ, ◌<◌, ◌≤◌, nat_lt, Bool, true, false, ◌==◌, if◌then◌else◌, List, [], ◌∷◌, ◌++◌, length, map, is_some, IsSomeAnd, Some, None, option_map, IsTrue, refl, ap, sym, ◌∙◌, subst, append-nil, inr}
 use Rattle.ce_model.specs.declared.topology.TheConstants.{HOST}
 use Rattle.ce_model.specs.declared.topology.Place.{Place}
 use Rattle.ce_model.specs.declared.topology.BlockId.{BlockId}
 use Rattle.ce_model.specs.declared.entry.Entry.{Entry}
 use Rattle.ce_model.specs.declared.entry.What.{What}
-use Rattle.ce_model.specs.declared.entry.What.TheVariants.{Peek as PeekMade, Arm, Look, HostTake, Send, Spawn as SpawnMade, Kill as KillMade}
+use Rattle.ce_model.specs.declared.entry.What.TheVariants.{Peek as PeekMade, HostTake, Send, Spawn as SpawnMade, Kill as KillMade}
 use Rattle.ce_model.specs.Node.{Call, takes, sends, spawns, kills, notes, arms, looks, takes_mail}
 use Rattle.ce_model.specs.Parcels.{Item}
 use Rattle.ce_model.specs.Trace.{Standing, waiting}
@@ -14,7 +14,6 @@ use Rattle.ce_model.specs.Cube.{opening, state, stored_by, hoststore}
 use Rattle.ce_model.specs.Renaming.{CubeGrant, block_outward, what_renamed, entry_inward}
 use Rattle.ce_model.specs.Views.{view}
 use Rattle.ce_model.specs.Machine.{MachineParts, IsMachine, IsLawful, IsLawfulEntry, HeldCube, MachineState, after, held_by, nodes_of, standing_of, with_places_outward, peek, in_cube, answered, cube_of}
-use Rattle.ce_model.proofs.Walked.{each-more}
 use Rattle.ce_model.proofs.OneMore.{hoststore-more}
 use Rattle.ce_solo.proofs.Projection.Law.{after-more}
 use Rattle.rk_node.specs.Boxes.{Box}
@@ -29,9 +28,7 @@ use Rattle.rk_mail.specs.declared.talk.Heard.TheVariants.{Spawned, Used as Heard
 use Rattle.rk_mail.specs.Talk.{IsHeardIn, heard_of_kill}
 use Rattle.ce_model.specs.declared.entry.KillFound.{KillFound}
 use Rattle.ce_model.specs.declared.entry.KillFound.TheVariants as found
-use Rattle.ce_machine.specs.Requests.{request_of as asked_for}
 use Rattle.ce_host.specs.declared.command.Command.{Command}
-use Rattle.ce_host.specs.declared.command.Command.TheVariants.{Peek}
 use Rattle.ce_host.specs.declared.answer.Answer.{Answer}
 use Rattle.ce_cube.specs.declared.crew.SerialCrew.{SerialCrew}
 use Rattle.ce_cube.specs.Boxes.{IsHeldAs, IsInStep, store_now}
@@ -50,13 +47,13 @@ use Rattle.ce_cube.proofs.Hosts.{hosts-fit}
 use Rattle.ce_record.specs.Asked.{place_in}
 use Rattle.ce_record.proofs.AtOnce.{no_place}
 use Rattle.ce_script.specs.Commands.{by_host, kill_reply}
-use Rattle.ce_record.specs.Asked.{request_of, reply_by, heard_reply, IsAsked}
+use Rattle.ce_record.specs.Asked.{request_of, reply_by, heard_reply}
 use Rattle.ce_record.specs.Run.{IsNextCommand}
 use Rattle.ce_record.proofs.Asked.{asked}
 use Rattle.ce_run.specs.declared.seat.Seat.{Seat}
 use Rattle.ce_run.specs.declared.seat.Seat.TheVariants.{Free, Holding}
-use Rattle.ce_run.specs.Seats.{HasUser, HasDone, IsSeatAt}
-use Rattle.ce_run.specs.Asking.{home_of, HasAsked, IsHostCall, IsStartOrEnd, AreNodesInStep, HasCalled}
+use Rattle.ce_run.specs.Seats.{HasDone, IsSeatAt}
+use Rattle.ce_run.specs.Asking.{home_of, IsHostCall, IsStartOrEnd, AreNodesInStep, HasCalled}
 
 -- ---- what stays
 

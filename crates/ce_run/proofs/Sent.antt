@@ -14,7 +14,7 @@ use Rattle.ce_model.specs.Node.{Call, sends, is_place}
 use Rattle.ce_model.specs.Answers.{answer}
 use Rattle.ce_model.specs.Cube.{send_bytes}
 use Rattle.ce_model.specs.Renaming.{CubeGrant, block_outward, place_outward}
-use Rattle.ce_model.specs.Machine.{Fits, after, answered, standing_of, in_cube}
+use Rattle.ce_model.specs.Machine.{IsFitting, after, answered, standing_of, in_cube}
 use Rattle.xm_block.specs.Stores.{ids_of}
 use Rattle.rk_mail.specs.Targets.{targets_of, bytes_of, with_bytes}
 use Rattle.rk_mail.specs.declared.talk.Heard.{Heard}
@@ -143,9 +143,9 @@ module _ (before : MachineFacts) (crew : SerialCrew) (machine : IsLawfulMachine 
     slot : slice_get store 0 ≡ Some first.id
     slot = ap (λ ids. slice_get ids 0) first.store_is
 
-    fits : Fits before.parts before.history crew.grant.user HOST (in_cube call)
+    fits : IsFitting before.parts before.history crew.grant.user HOST (in_cube call)
     fits =
-        subst (λ call. Fits before.parts before.history crew.grant.user HOST (in_cube call)) call-outward
+        subst (λ call. IsFitting before.parts before.history crew.grant.user HOST (in_cube call)) call-outward
         (hosts-fit before.parts before.history crew.grant.number grant machine.within machine.lawful step.held (send_bytes to bytes) (sends 0 ((to, first.id) ∷ []) bytes)
         (rw (place, slot) refl) short)
 
@@ -153,7 +153,7 @@ module _ (before : MachineFacts) (crew : SerialCrew) (machine : IsLawfulMachine 
     may-send = record {
       inner = sends 0 (targets_of batch) (bytes_of batch);
       is = refl;
-      fits = subst (λ call. Fits before.parts before.history crew.grant.user HOST (in_cube call)) (sym call-is) fits;
+      fits = subst (λ call. IsFitting before.parts before.history crew.grant.user HOST (in_cube call)) (sym call-is) fits;
     }
 
     module _ (behind : MachineFacts) (host : Host) (crew' : SerialCrew) (reply : Reply Box)

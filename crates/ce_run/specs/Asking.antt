@@ -8,14 +8,13 @@ use Rattle.ce_model.specs.declared.entry.What.TheVariants.{Drain}
 use Rattle.ce_model.specs.Node as model
 use Rattle.ce_model.specs.Renaming.{entry_inward}
 use Rattle.ce_model.specs.Views.{view}
-use Rattle.ce_model.specs.Machine.{MachineParts, IsLawful, HoldsCube, after, all_parcels, answered, in_cube, Fits}
+use Rattle.ce_model.specs.Machine.{MachineParts, IsLawful, HasHeldCube, after, all_parcels, answered, in_cube, IsFitting}
 use Rattle.rk_node.specs.Boxes.{Box, IsClean}
 use Rattle.ce_machine.specs.Meanings.{MachineFacts}
 use Rattle.ce_machine.specs.declared.call.Call.{Call}
 use Rattle.ce_machine.specs.declared.call.Reply.{Reply}
 use Rattle.ce_machine.specs.Requests.{request_of}
 use Rattle.ce_machine.specs.Replies.{IsReplyTo}
-use Rattle.ce_daemon.specs.declared.grant.Grant.{Grant}
 use Rattle.ce_cube.specs.declared.crew.SerialCrew.{SerialCrew}
 use Rattle.ce_cube.specs.Boxes.{IsHeldAs}
 use Rattle.ce_cube.specs.Crews.{AreBoxesInStep, cube_grant}
@@ -47,7 +46,7 @@ pub record AreNodesInStep (parts : MachineParts) (history : List Entry) (crew : 
 pub record IsHostCall (parts : MachineParts) (history : List Entry) (user : ℕ) (call : Call Box) : Type 0 where
   pub inner : model.Call
   pub is : request_of call ≡ in_cube inner
-  pub fits : Fits parts history user HOST (in_cube inner)
+  pub fits : IsFitting parts history user HOST (in_cube inner)
 
 -- The host of a crew made this call of its cube: the trace is longer by its entry, and all but the host is in step.
 pub record HasCalled (before behind : MachineFacts) (crew crew' : SerialCrew) (call : Call Box) (reply : Reply Box) : Type 0 where
@@ -67,11 +66,11 @@ IsStartOrEnd other = ⊥
 
 -- the user holds a cube, which wasn't drained
 abbrev pub HasCube : List Entry → ℕ → Type 0
-HasCube history user = HoldsCube history user (λ cube. cube.drained ≡ false)
+HasCube history user = HasHeldCube history user (λ cube. cube.drained ≡ false)
 
 -- A user's cube was drained: these are the blocks of all that waited in it.
 pub record HasDrained (before behind : MachineFacts) (user : ℕ) (blocks : List Block) : Type 0 where
   pub parts : behind.parts ≡ before.parts
   pub history : behind.history ≡ before.history ++ by_host user Drain ∷ []
   pub lawful : IsLawful before.parts behind.history
-  pub blocks_are : HoldsCube before.history user (λ cube. blocks ≡ map (λ parcel. parcel.block) (all_parcels (after before.history) cube))
+  pub blocks_are : HasHeldCube before.history user (λ cube. blocks ≡ map (λ parcel. parcel.block) (all_parcels (after before.history) cube))

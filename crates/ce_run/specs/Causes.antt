@@ -17,23 +17,23 @@ status_of_end None = 0
 status_of_end (Some fault) = status_of fault
 
 -- the script was run to its end: there is no fault, or only the writing failed
-abbrev pub RanToEnd : Option Fault → Type 0
-RanToEnd None = Unit {0}
-RanToEnd (Some Write) = Unit {0}
-RanToEnd (Some other) = ⊥
+abbrev pub HasRunToEnd : Option Fault → Type 0
+HasRunToEnd None = Unit {0}
+HasRunToEnd (Some Write) = Unit {0}
+HasRunToEnd (Some other) = ⊥
 
 abbrev pub IsMemory : Option Fault → Type 0
 IsMemory (Some (Memory fault)) = Unit {0}
 IsMemory other = ⊥
 
 -- a fault that ends the reading of a script
-abbrev pub EndsReading : Fault → Type 0
-EndsReading Usage = ⊥
-EndsReading Write = ⊥
-EndsReading other = Unit {0}
+abbrev pub IsReadingFault : Fault → Type 0
+IsReadingFault Usage = ⊥
+IsReadingFault Write = ⊥
+IsReadingFault other = Unit {0}
 
 -- what was written at the end: the whole text, or, where the sink failed, a front part of it
-abbrev pub Reports : Option Fault → List ℕ → Option (List ℕ) → Option (List ℕ) → Type 0
-Reports None text before now = now ≡ append_known before text
-Reports (Some Write) text before now = (n : ℕ) × (now ≡ append_known before (take n text))
-Reports (Some other) text before now = ⊥
+abbrev pub HasReported : Option Fault → List ℕ → Option (List ℕ) → Option (List ℕ) → Type 0
+HasReported None text before now = now ≡ append_known before text
+HasReported (Some Write) text before now = (n : ℕ) × (now ≡ append_known before (take n text))
+HasReported (Some other) text before now = ⊥

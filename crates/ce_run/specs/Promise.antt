@@ -1,10 +1,10 @@
 -- What the program promises of each run, in three clauses: how it ended, what it did, and that it did it.
-use Rattle.std.specs.Prelude.{◌≡◌, ◌↔◌, ◌⊎◌, ◌<◌, ◌≤◌, ◌+◌, ℕ, Bool, true, if◌then◌else◌, List, [], Option, Some, None, Result, IsSome, IfSome, IfOk, IsErrOf, length, take}
+use Rattle.std.specs.Prelude.{◌≡◌, ◌↔◌, ◌⊎◌, ◌<◌, ◌≤◌, ◌+◌, ℕ, true, if◌then◌else◌, List, Option, Some, None, Result, IsSome, IfSome, IfOk, IsErrOf, length, take}
 use Rattle.std.specs.Io.KnownBytes.{append_known, IsAtEnd}
 use Rattle.std.specs.IoError.{error_kind}
 use Rattle.std.specs.declared.io.Error.{Error}
 use Rattle.std.specs.declared.io.ErrorKind.TheVariants.{OutOfMemory}
-use Rattle.ce_io.specs.Faults.{Rose}
+use Rattle.ce_io.specs.Faults.{HasRisen}
 use Rattle.ce_io.specs.Whole.{Reading, Writing, HasGiven}
 use Rattle.ce_io.specs.declared.whole.TheConstants.{PIECE}
 use Rattle.ce_words.specs.Line.{line_of as asked_by}
@@ -23,7 +23,7 @@ use Rattle.ce_run.specs.declared.ended.Ended.{Ended}
 use Rattle.ce_run.specs.declared.ended.Fault.{Fault}
 use Rattle.ce_run.specs.declared.ended.Fault.TheVariants.{TooLong, Script as Refused, Usage, Read, Write}
 use Rattle.ce_run.specs.declared.program.TheConstants.{SCRIPT_LIMIT}
-use Rattle.ce_run.specs.Causes.{status_of_end, IsServed, IsMemory, RanToEnd, Reports}
+use Rattle.ce_run.specs.Causes.{status_of_end, IsServed, IsMemory, HasRunToEnd, HasReported}
 use Rattle.ce_run.specs.Fault.{line_of}
 
 -- How a run ended: the status of each fault, the cause of each fault but Memory, which is free, what was read, and what was
@@ -32,7 +32,7 @@ pub record HasEnded {S K : Type 0} (words : List (List ℕ)) (source : Reading S
   -- the status is the fault's, and 0 without one
   pub status : end.status ≡ status_of_end end.fault
   -- the record is there exactly with the statuses 0 and 5
-  pub kept : IsSome end.kept ↔ RanToEnd end.fault
+  pub kept : IsSome end.kept ↔ HasRunToEnd end.fault
   -- Usage comes exactly where the words are refused or ask for threads; and then nothing is read
   pub usage : end.fault ≡ Some Usage → ¬ IsServed words
   pub served : IsServed words ⊎ ((end.fault ≡ Some Usage) ⊎ IsMemory end.fault)
@@ -42,22 +42,22 @@ pub record HasEnded {S K : Type 0} (words : List (List ℕ)) (source : Reading S
   pub gave : HasGiven source bytes
   pub load_unread : IsServed words → IsSome (asked_by words).load → source.new ≡ source.old
   -- and then nothing but the sink and memory can fail
-  pub load_runs : IsServed words → IsSome (asked_by words).load → RanToEnd end.fault ⊎ IsMemory end.fault
+  pub load_runs : IsServed words → IsSome (asked_by words).load → HasRunToEnd end.fault ⊎ IsMemory end.fault
   -- TooLong comes exactly where it gave more than a script may have, and then by a piece more at most
   pub too_long : (end.fault ≡ Some TooLong) ↔ (SCRIPT_LIMIT < length bytes)
   pub bounded : length bytes ≤ SCRIPT_LIMIT + PIECE
   -- where it was read to its end, Script comes exactly where its bytes are no script, with their first fault
   pub faulty : (fault : ScriptFault) → end.fault ≡ Some (Refused fault)
       → IsAtEnd (source.left source.new) × (first_fault bytes ≡ Some fault)
-  pub faultless : RanToEnd end.fault → (asked_by words).load ≡ None → IsAtEnd (source.left source.new) × (first_fault bytes ≡ None)
+  pub faultless : HasRunToEnd end.fault → (asked_by words).load ≡ None → IsAtEnd (source.left source.new) × (first_fault bytes ≡ None)
   -- Read comes exactly where a read failed: its count rose, or stands at the end of its type; with each other end it stands
-  pub read : end.fault ≡ Some Read → Rose (source.faults source.old) (source.faults source.new)
+  pub read : end.fault ≡ Some Read → HasRisen (source.faults source.old) (source.faults source.new)
   pub no_read_failed : (end.fault ≡ Some Read) ⊎ (source.faults source.new ≡ source.faults source.old)
   -- so does Write where a write failed
-  pub write : end.fault ≡ Some Write → Rose (sink.faults sink.old) (sink.faults sink.new)
+  pub write : end.fault ≡ Some Write → HasRisen (sink.faults sink.old) (sink.faults sink.new)
   pub no_write_failed : (end.fault ≡ Some Write) ⊎ (sink.faults sink.new ≡ sink.faults sink.old)
   -- with the statuses 1 to 4 the sink stays as it was
-  pub unwritten : RanToEnd end.fault ⊎ (sink.new ≡ sink.old)
+  pub unwritten : HasRunToEnd end.fault ⊎ (sink.new ≡ sink.old)
 
 -- the script of a run: the one that the source was read as, to its end; or the load of a seed, and then the source stays as it was
 abbrev pub HasScript : {S : Type 0} → Option ℕ → Reading S → Script → Type 0
@@ -83,7 +83,7 @@ pub record HasRun {S K : Type 0} (line : Line) (source : Reading S) (sink : Writ
   -- on one thread the commands were carried out one after another, in the script's order
   pub serial : line.serial ≡ true → IsSerial script kept
   -- what was appended is the run's text, or with the fault Write a front part of it
-  pub reported : Reports fault (text_of line.load script kept) (sink.written sink.old) (sink.written sink.new)
+  pub reported : HasReported fault (text_of line.load script kept) (sink.written sink.old) (sink.written sink.new)
 
 -- there is something to run: a load, or a source that tells its bytes, and these are a script that isn't too long
 abbrev pub HasWork : {S : Type 0} → Option ℕ → Reading S → Type 0
@@ -93,8 +93,8 @@ HasWork None source =
 
 -- What is accepted is run and reported to its end, unless the source, the sink or memory fails.
 pub record IsComplete {S K : Type 0} (words : List (List ℕ)) (source : Reading S) (sink : Writing K) (fault : Option Fault) : Type 0 where
-  pub answered : IsServed words → HasWork (asked_by words).load source → ¬ Rose (source.faults source.old) (source.faults source.new)
-      → ¬ Rose (sink.faults sink.old) (sink.faults sink.new) → (fault ≡ None) ⊎ IsMemory fault
+  pub answered : IsServed words → HasWork (asked_by words).load source → ¬ HasRisen (source.faults source.old) (source.faults source.new)
+      → ¬ HasRisen (sink.faults sink.old) (sink.faults sink.new) → (fault ≡ None) ⊎ IsMemory fault
 
 -- how the reading of a script went
 pub record HasReadScript {S : Type 0} (source : Reading S) (result : Result Script Fault) : Type 0 where
@@ -110,14 +110,14 @@ pub record HasReadScript {S : Type 0} (source : Reading S) (result : Result Scri
 -- wanting before anything was written
 pub record HasFinished {K : Type 0} (script : Script) (seed : Option ℕ) (sink : Writing K) (end : Ended) : Type 0 where
   pub status : end.status ≡ status_of_end end.fault
-  pub kept : IsSome end.kept ↔ RanToEnd end.fault
+  pub kept : IsSome end.kept ↔ HasRunToEnd end.fault
   pub legal : IfSome end.kept (IsLegal serial script)
   pub serial : IfSome end.kept (IsSerial script)
-  pub reported : IfSome end.kept (λ kept. Reports end.fault (text_of seed script kept) (sink.written sink.old) (sink.written sink.new))
-  pub fault : RanToEnd end.fault ⊎ IsMemory end.fault
-  pub write : end.fault ≡ Some Write → Rose (sink.faults sink.old) (sink.faults sink.new)
+  pub reported : IfSome end.kept (λ kept. HasReported end.fault (text_of seed script kept) (sink.written sink.old) (sink.written sink.new))
+  pub fault : HasRunToEnd end.fault ⊎ IsMemory end.fault
+  pub write : end.fault ≡ Some Write → HasRisen (sink.faults sink.old) (sink.faults sink.new)
   pub no_write_failed : (end.fault ≡ Some Write) ⊎ (sink.faults sink.new ≡ sink.faults sink.old)
-  pub unwritten : RanToEnd end.fault ⊎ (sink.new ≡ sink.old)
+  pub unwritten : HasRunToEnd end.fault ⊎ (sink.new ≡ sink.old)
 
 -- the three clauses of a run together
 pub record IsPromised {S K : Type 0} (words : List (List ℕ)) (source : Reading S) (sink : Writing K) (end : Ended) : Type 0 where
@@ -140,4 +140,4 @@ IsTold None errors = errors.new ≡ errors.old
 IsTold (Some fault) errors =
     (errors.written errors.new ≡ append_known (errors.written errors.old) (line_of fault))
     ⊎ ((n : ℕ) × (errors.written errors.new ≡ append_known (errors.written errors.old) (take n (line_of fault)))
-    × Rose (errors.faults errors.old) (errors.faults errors.new))
+    × HasRisen (errors.faults errors.old) (errors.faults errors.new))

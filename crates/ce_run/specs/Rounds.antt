@@ -9,7 +9,7 @@ use Rattle.ce_model.specs.declared.entry.Found.{Found}
 use Rattle.ce_model.specs.Parcels.{Parcel}
 use Rattle.ce_model.specs.Node.{looks}
 use Rattle.ce_model.specs.Cube.{parcel_numbered}
-use Rattle.ce_model.specs.Machine.{HoldsCube}
+use Rattle.ce_model.specs.Machine.{HasHeldCube}
 use Rattle.ce_machine.specs.Meanings.{MachineFacts}
 use Rattle.ce_cube.specs.declared.crew.SerialCrew.{SerialCrew}
 use Rattle.ce_cube.specs.Boxes.{IsMadeBy}
@@ -36,7 +36,7 @@ pub record HasTaken (before behind : MachineFacts) (crew crew' : SerialCrew) (fr
   pub number : ℕ
   pub parcel : Parcel
   pub goes_on : HasGoneOn before behind crew crew' (host_take crew.grant.user (Some number) ∷ [])
-  pub waited : HoldsCube before.history crew.grant.user (λ cube. parcel_numbered number cube.mail ≡ Some parcel)
+  pub waited : HasHeldCube before.history crew.grant.user (λ cube. parcel_numbered number cube.mail ≡ Some parcel)
   pub from_is : parcel.from ≡ from
   pub bytes_are : parcel.block.bytes ≡ bytes
 

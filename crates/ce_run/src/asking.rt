@@ -1,7 +1,7 @@
 //! What a user's host asks of the machine.
 ghost use Rattle.std.specs.Prelude.{◌≡◌, IfOk};
 ghost use Rattle.ce_model.specs.declared.topology.TheConstants.{HOST};
-ghost use Rattle.ce_machine.specs.Requests.{FitsBehind};
+ghost use Rattle.ce_machine.specs.Requests.{IsFittingCall};
 ghost use Rattle.rk_node.specs.Boxes.{IsClean};
 ghost use Rattle.ce_cube.specs.Crews.{IsLawfulMachine};
 ghost use Rattle.ce_run.specs.Asking.{home_of, HasAsked, HasCalled, AreNodesInStep, IsHostCall};
@@ -21,7 +21,7 @@ pub(crate) fn ask(
     call: Call<NodeBox>,
 ) -> Result<Reply<NodeBox>, NoMemory>
     requires machine { IsLawfulMachine machine.old }
-    requires fits { FitsBehind home_of IsClean machine.old.parts machine.old.history
+    requires fits { IsFittingCall home_of IsClean machine.old.parts machine.old.history
         (record { family = user; actor = HOST }) call }
     ensures { IfOk result (HasAsked machine.old machine.new user call) }
 {

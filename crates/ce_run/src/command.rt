@@ -4,7 +4,7 @@ ghost use Rattle.std.specs.String.{string_bytes};
 ghost use Rattle.std.specs.IoError.{error_kind};
 ghost use Rattle.std.specs.declared.io.ErrorKind.TheVariants.{OutOfMemory};
 ghost use Rattle.ce_io.specs.Whole.{reading, writing};
-ghost use Rattle.ce_run.specs.Causes.{IsMemory, RanToEnd};
+ghost use Rattle.ce_run.specs.Causes.{IsMemory, HasRunToEnd};
 ghost use Rattle.ce_run.specs.Promise.{HasRefusedWords, IsTold, IsPromised};
 ghost use Rattle.ce_run.specs.declared.ended.Ended.{Ended};
 ghost use Rattle.ce_run.specs.declared.ended.Fault.TheVariants.{Usage};
@@ -54,7 +54,7 @@ pub fn run_command<R: Threads + Sync, S: Source, K: Sink, E: Sink, G: Gate>(
 fn unreadable(error: &io::Error) -> Fault
     ensures memory { error_kind error.now ≡ OutOfMemory → IsMemory (Some result) }
     ensures usage { (result ≡ Usage) ⊎ (error_kind error.now ≡ OutOfMemory) }
-    ensures refusal { RanToEnd (Some result) → ⊥ }
+    ensures refusal { HasRunToEnd (Some result) → ⊥ }
 {
     if error.kind() == ErrorKind::OutOfMemory {
         Fault::Memory(NoMemory)

@@ -1,14 +1,14 @@
 //! The calls that do all that the program does.
 ghost use Rattle.std.specs.Prelude.{◌≡◌, ◌↔◌, ◌⊎◌, ◌≤◌, Some, None, IfOk, IfErr, IsErrOf, IfSome, IsSome, map};
 ghost use Rattle.std.specs.String.{string_bytes};
-ghost use Rattle.ce_io.specs.Faults.{Rose};
+ghost use Rattle.ce_io.specs.Faults.{HasRisen};
 ghost use Rattle.ce_io.specs.Whole.{reading, writing};
 ghost use Rattle.ce_words.specs.Line.{line_of};
 ghost use Rattle.ce_script.specs.Bounds.{IsWithinLimits};
 ghost use Rattle.ce_script.specs.Legal.{IsLegal};
 ghost use Rattle.ce_script.specs.Rounds.{serial};
 ghost use Rattle.ce_script.specs.Serial.{IsSerial};
-ghost use Rattle.ce_run.specs.Causes.{status_of_end, EndsReading, IsMemory, IsServed, RanToEnd, Reports};
+ghost use Rattle.ce_run.specs.Causes.{status_of_end, IsReadingFault, IsMemory, IsServed, HasRunToEnd, HasReported};
 ghost use Rattle.ce_run.specs.Fault.{status_of};
 ghost use Rattle.ce_run.specs.Promise.{HasEnded, HasReadScript, HasRun, HasFinished, IsComplete, text_of};
 ghost use Rattle.ce_script.specs.Load.{load};
@@ -98,7 +98,7 @@ fn load_asked(alloc: Global, words: &[String]) -> Result<Option<u32>, Fault>
 
 /// The end of a run that wrote nothing.
 pub(crate) fn refused(fault: Fault) -> Ended
-    requires { RanToEnd (Some fault) → ⊥ }
+    requires { HasRunToEnd (Some fault) → ⊥ }
     ensures { result ≡ record { status = status_of fault; kept = None; fault = Some fault } }
 {
     Ended {
@@ -124,9 +124,9 @@ fn run_load<K: Sink>(alloc: Global, seed: u32, sink: &mut K) -> Ended
 fn read_source<S: Source>(alloc: Global, source: &mut S) -> Result<Script, Fault>
     ensures read { HasReadScript (reading S.left S.given S.faults source.old source.new) result }
     ensures within { IfOk result IsWithinLimits }
-    ensures failed { IsErrOf result Read → Rose (S.faults source.old) (S.faults source.new) }
+    ensures failed { IsErrOf result Read → HasRisen (S.faults source.old) (S.faults source.new) }
     ensures passed { IsErrOf result Read ⊎ (S.faults source.new ≡ S.faults source.old) }
-    ensures fault { IfErr result EndsReading }
+    ensures fault { IfErr result IsReadingFault }
 {
     let text = match read_to_end(alloc, source, SCRIPT_LIMIT) {
         Ok(text) => text,
@@ -177,9 +177,9 @@ fn record_and_text(
 fn write_text<K: Sink>(kept: Record, text: Vec<u8>, sink: &mut K) -> Ended
     ensures status { result.status ≡ status_of_end result.fault }
     ensures kept { result.kept ≡ Some kept }
-    ensures ran { RanToEnd result.fault }
-    ensures reported { Reports result.fault text.items (K.written sink.old) (K.written sink.new) }
-    ensures failed { result.fault ≡ Some Write → Rose (K.faults sink.old) (K.faults sink.new) }
+    ensures ran { HasRunToEnd result.fault }
+    ensures reported { HasReported result.fault text.items (K.written sink.old) (K.written sink.new) }
+    ensures failed { result.fault ≡ Some Write → HasRisen (K.faults sink.old) (K.faults sink.new) }
     ensures passed { (result.fault ≡ Some Write) ⊎ (K.faults sink.new ≡ K.faults sink.old) }
 {
     let (status, fault) = match write_all(sink, text.as_slice()) {

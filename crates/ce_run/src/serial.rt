@@ -15,9 +15,9 @@ ghost use Rattle.ce_run.specs.Script.{AreOpenSeats, HasGoneFurther, IsRunBehind}
 
 use crate::commands::carry_out;
 use crate::seat::Seat;
-use ce_host::{Command, HOST_ROOM, Host};
+use ce_host::{Command, Host};
 use ce_machine::Machine;
-use ce_model::{Bytes, NoMemory};
+use ce_model::{Bytes, GREATEST_BLOCKS, NoMemory};
 use ce_script::{Name, Named, Record, Script, UserRecord};
 use rk_node::NodeBox;
 use rv_image::Image;
@@ -126,7 +126,7 @@ fn copy_images(alloc: Global, images: &[Named]) -> Result<Vec<Image>, NoMemory>
 }
 
 /// The clean boxes of a machine's nodes, by number.
-#[tactic(auto, using(ce_model::specs::Limits::greatest_dim_lem, ce_host::specs::Hosts::host_room_lem, ce_model::specs::Limits::home_blocks_lem))]
+#[tactic(auto, using(ce_model::specs::Limits::greatest_dim_lem, ce_model::specs::Limits::greatest_blocks_lem, ce_model::specs::Limits::home_blocks_lem))]
 fn open_boxes(alloc: Global, dim: u32) -> Result<Vec<NodeBox>, NoMemory>
     requires { dim ≤ greatest_dim }
     ensures { IfOk result (λ boxes.
@@ -134,7 +134,7 @@ fn open_boxes(alloc: Global, dim: u32) -> Result<Vec<NodeBox>, NoMemory>
 {
     let mut boxes = Vec::new(alloc);
     for node in 0..1_u32 << dim {
-        boxes.push(NodeBox::new(alloc, node, HOST_ROOM)?)?;
+        boxes.push(NodeBox::new(alloc, node, GREATEST_BLOCKS)?)?;
     }
     Ok(boxes)
 }

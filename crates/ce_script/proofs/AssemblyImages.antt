@@ -4,14 +4,14 @@ use Rattle.std.specs.Int.{w32, to_le_bytes}
 use Rattle.rv_model.specs.Image.{ImageParts, image_parts}
 use Rattle.rv_asm.specs.declared.fault.AsmFault.{AsmFault}
 use Rattle.rv_asm.specs.SecondPass.{Part, Instruction, Plain}
-use Rattle.rv_asm.specs.Spelling.{Spells}
-use Rattle.rv_asm.specs.Assembly.{Assembly, assembled, Assembles, IsLaidOut}
+use Rattle.rv_asm.specs.Spelling.{IsSpellingOf}
+use Rattle.rv_asm.specs.Assembly.{Assembly, assembled, IsAssemblyOf, IsLaidOut}
 use Rattle.ce_script.specs.Encoding.{word_of}
 use Rattle.ce_script.specs.AssemblyImage.{part_bytes, laid_image, assembly_image}
 use Rattle.ce_script.proofs.Encoded.{back}
 
 -- bytes that lay out parts are the parts' bytes
-spelled : (parts : List Part) (bytes : List ℕ) → Spells parts bytes → bytes ≡ part_bytes parts
+spelled : (parts : List Part) (bytes : List ℕ) → IsSpellingOf parts bytes → bytes ≡ part_bytes parts
 spelled [] bytes s = s
 spelled (Instruction inst ∷ parts) bytes s =
     s.4
@@ -26,7 +26,7 @@ laid_out assembly image is =
     ∙ ap (λ zero. image_parts assembly.entry (part_bytes assembly.parts) zero) is.zero
 
 -- an image that a text assembles to is the image of the text
-pub assembles_image : (text : List ℕ) (image : ImageParts) → Assembles text (Ok image) → assembly_image text ≡ Ok image
+pub assembles_image : (text : List ℕ) (image : ImageParts) → IsAssemblyOf text (Ok image) → assembly_image text ≡ Ok image
 unfolding assembly_image
 assembles_image text image a = ap laid_image a.1 ∙ ap Ok (sym (laid_out a.0 image a.2))
 

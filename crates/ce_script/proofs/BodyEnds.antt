@@ -1,5 +1,5 @@
 -- The body of an image, up to its end.
-use Rattle.std.proofs.Common.{◌≡◌, ℕ, suc, ◌+◌, ◌-◌, ◌≤◌, ◌<◌, List, [], ◌∷◌, ◌++◌, length, take, get_or, nat_lt, Bool, true, false, not, cond, ◌||◌, Option, Some, None, Bor, refl, sym, ap, subst, ◌∙◌, arith, map, append_assoc}
+use Rattle.std.proofs.Common.{◌≡◌, ℕ, ◌+◌, ◌-◌, ◌≤◌, ◌<◌, List, [], ◌∷◌, ◌++◌, length, take, get_or, nat_lt, Bool, true, false, cond, ◌||◌, Option, Some, None, Bor, refl, sym, ap, subst, ◌∙◌, arith, append_assoc}
 use Rattle.std.proofs.lemmas.Bool.{ltb-true}
 use Rattle.std.proofs.lemmas.Bool.Decides.{nat_tests}
 use Rattle.std.proofs.lemmas.List.{length-append, length-take, take_at, append-nil, append_cancel_right}
@@ -7,7 +7,7 @@ use Rattle.std.proofs.lemmas.List.Sums.{split_at_first, passes_at_first}
 use Rattle.ce_text.proofs.Splitting.{split_cut, cut_pieces}
 use Rattle.std.proofs.lemmas.List.Folds.{list_any-append}
 use Rattle.std.proofs.lemmas.List.Concat.{flat_map-append}
-use Rattle.std.specs.Prelude.{flat_map, option_map, IfSome}
+use Rattle.std.specs.Prelude.{option_map, IfSome}
 use Rattle.std.specs.List.{list_any, slice_split, onto_first, position_or_len, before_first, after_first, AllByRecursion}
 use Rattle.ce_text.specs.Bytes.{is_line_feed}
 use Rattle.ce_text.specs.Line.{cut}
@@ -15,8 +15,8 @@ use Rattle.ce_script.specs.declared.reader.rest.Rest.{Rest}
 use Rattle.ce_script.specs.declared.reader.rest.Body.{Body}
 use Rattle.ce_script.specs.Lines.{Line}
 use Rattle.ce_script.specs.Statements.{is_end, body_in}
-use Rattle.ce_script.specs.ReadLines.{texts_left, numbered, left_of, lines_left, lines_shown, size_of, reach_of, with_empty, IsBody, IsBodyIn, statements_from}
-use Rattle.ce_script.proofs.BodyLines.{line_at, joined, text_is, first_line, numbered_append, left}
+use Rattle.ce_script.specs.ReadLines.{texts_left, numbered, left_of, lines_left, size_of, reach_of, IsBodyIn, statements_from}
+use Rattle.ce_script.proofs.BodyLines.{line_at, joined, text_is, first_line, numbered_append}
 use Rattle.ce_script.proofs.Outside.{past_body, body_there, body_missing}
 
 -- ---- pieces

@@ -1,5 +1,5 @@
 -- The faults of bodies.
-use Rattle.std.proofs.Common.{◌≡◌, ℕ, ◌+◌, List, Bool, true, Option, Some, None, Ok, Err, refl, sym, ap, subst, ◌∙◌}
+use Rattle.std.proofs.Common.{◌≡◌, ℕ, ◌+◌, List, Bool, true, Option, Some, None, Ok, Err, refl, sym, ap, ◌∙◌}
 use Rattle.std.specs.Prelude.{find, option_map}
 use Rattle.std.specs.Option.{option_or}
 use Rattle.rv_model.specs.declared.memory.NoMemory.{NoMemory}
@@ -12,7 +12,7 @@ use Rattle.rv_asm.specs.declared.fault.AsmFault.{AsmFault}
 use Rattle.rv_asm.specs.declared.fault.AsmKind.{AsmKind}
 use Rattle.rv_asm.specs.declared.fault.AsmKind.TheVariants as asm
 use Rattle.rv_asm.specs.Faults.{Unless as UnlessAsm}
-use Rattle.rv_asm.specs.Assembly.{assembled, Assembles}
+use Rattle.rv_asm.specs.Assembly.{assembled, IsAssemblyOf}
 use Rattle.ce_script.specs.declared.grammar.ImageForm.{ImageForm}
 use Rattle.ce_script.specs.declared.grammar.ImageForm.TheVariants.{Hex, Asm, Rki}
 use Rattle.ce_script.specs.declared.reader.rest.Body.{Body}
@@ -105,7 +105,7 @@ module _ (body : Body) (lines : List Line) (is : IsBody body lines) where
   unfolding image_in
   rki_there items image same e = ap (λ (bytes : List ℕ). Some (fields_of bytes)) (sym (same ∙ shown_items body lines bytes_in is)) ∙ ap Some e
 
-  pub asm_there : (image : ImageParts) → Assembles body.text.now (Ok image) → (form_fault Asm body.at lines ≡ None) × (Some (image_in Asm lines) ≡ Some image)
+  pub asm_there : (image : ImageParts) → IsAssemblyOf body.text.now (Ok image) → (form_fault Asm body.at lines ≡ None) × (Some (image_in Asm lines) ≡ Some image)
   unfolding form_fault image_in
   asm_there image a =
       let e = ap assembly_image is.text ∙ assembles_image body.text.now image a in
@@ -134,7 +134,7 @@ module _ (body : Body) (lines : List Line) (is : IsBody body lines) where
   asm_by fault asm.TooFar same not h = asm_is fault asm.TooFar same h
   asm_by fault asm.Entry same not h = asm_is fault asm.Entry same h
 
-  pub asm_bad : (fault : AsmFault) → ((want : NoMemory) → fault.kind ≡ asm.Memory want → ⊥) → Assembles body.text.now (Err fault)
+  pub asm_bad : (fault : AsmFault) → ((want : NoMemory) → fault.kind ≡ asm.Memory want → ⊥) → IsAssemblyOf body.text.now (Err fault)
       → Unless (Assembly fault.kind) (form_fault Asm body.at lines ≡ Some (fault_at (body.at + fault.line) (Assembly fault.kind)))
   asm_bad fault not h = asm_by fault fault.kind refl not h
 

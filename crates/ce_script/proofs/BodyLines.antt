@@ -1,16 +1,15 @@
 -- The lines of what is left of a text, one further.
-use Rattle.std.proofs.Common.{◌≡◌, ℕ, suc, ◌+◌, ◌≤◌, ◌<◌, List, [], ◌∷◌, ◌++◌, length, Bool, true, false, not, cond, ◌||◌, Option, Some, None, Bor, refl, sym, ap, ◌∙◌, arith, map, append_assoc, append-nil}
-use Rattle.std.proofs.lemmas.List.Folds.{find-append, list_any-append}
+use Rattle.std.proofs.Common.{◌≡◌, ℕ, ◌+◌, ◌≤◌, ◌<◌, List, [], ◌∷◌, ◌++◌, length, Bool, true, false, cond, Option, Some, None, Bor, refl, sym, ap, ◌∙◌, arith, append-nil}
+use Rattle.std.proofs.lemmas.List.Folds.{find-append}
 use Rattle.std.proofs.lemmas.List.Concat.{flat_map-append}
 use Rattle.std.specs.Prelude.{find, flat_map, option_map, unwrap_or, is_none, IfSome}
 use Rattle.std.specs.Option.{option_or}
-use Rattle.std.specs.List.{list_any, list_all, slice_split, enumerate_from}
-use Rattle.ce_text.specs.Bytes.{is_line_feed, is_plain}
+use Rattle.std.specs.List.{list_any, slice_split}
+use Rattle.ce_text.specs.Bytes.{is_line_feed}
 use Rattle.ce_text.specs.Line.{cut, before_comment}
 use Rattle.ce_text.specs.Words.{words as words_between}
 use Rattle.ce_text.proofs.Splitting.{split_cut, split_behind, cut_pieces}
 use Rattle.ce_script.specs.Lines.{Line, words, has_bad_byte}
-use Rattle.ce_script.specs.Statements.{is_end, body_in}
 use Rattle.ce_script.specs.Bodies.{has_bad_word, bytes_of, text_of}
 use Rattle.ce_script.specs.ReadLines.{texts_left, numbered, size_of, with_empty}
 

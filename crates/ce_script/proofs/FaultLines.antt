@@ -40,68 +40,68 @@ up_more before last (first ∷ others) le h =
 -- ---- a line of a text
 
 -- where all that is laid stands on lines up to this one, so does what is laid then
-record Keeps {E : Type 0} (line : ℕ) (laid : Laid) (r : Result Laid E) : Type 0 where
+record HasKept {E : Type 0} (line : ℕ) (laid : Laid) (r : Result Laid E) : Type 0 where
   up : (next : Laid) → r ≡ Ok next → AreUpTo line laid.statements → AreUpTo line next.statements
 
-refused : {E : Type 0} (line : ℕ) (laid : Laid) (kind : E) → Keeps line laid (Err kind)
+refused : {E : Type 0} (line : ℕ) (laid : Laid) (kind : E) → HasKept line laid (Err kind)
 refused line laid kind = record { up = λ next e h. absurd cc }
 
 abbrev statements_in : {E : Type 0} → List Placed → Result Laid E → List Placed
 statements_in other (Ok laid) = laid.statements
 statements_in other (Err kind) = other
 
-keeps_ok : {E : Type 0} (line : ℕ) (laid one : Laid) → (AreUpTo line laid.statements → AreUpTo line one.statements) → Keeps {E = E} line laid (Ok one)
+keeps_ok : {E : Type 0} (line : ℕ) (laid one : Laid) → (AreUpTo line laid.statements → AreUpTo line one.statements) → HasKept {E = E} line laid (Ok one)
 keeps_ok {E} line laid one h = record { up = λ next e before. subst (AreUpTo line) (ap (statements_in {E = E} laid.statements) e) (h before) }
 
-keeps_next : {A E : Type 0} (line : ℕ) (laid : Laid) (r : Result A E) (next : A → Result Laid E) → ((x : A) → Keeps line laid (next x)) → Keeps line laid (r >>= next)
+keeps_next : {A E : Type 0} (line : ℕ) (laid : Laid) (r : Result A E) (next : A → Result Laid E) → ((x : A) → HasKept line laid (next x)) → HasKept line laid (r >>= next)
 keeps_next line laid (Ok x) next h = h x
 keeps_next line laid (Err kind) next h = refused line laid kind
 
-keeps_then : {E : Type 0} (line : ℕ) (laid : Laid) (r : Result Laid E) (next : Laid → Result Laid E) → Keeps line laid r → ((one : Laid) → Keeps line one (next one)) → Keeps line laid (r >>= next)
+keeps_then : {E : Type 0} (line : ℕ) (laid : Laid) (r : Result Laid E) (next : Laid → Result Laid E) → HasKept line laid r → ((one : Laid) → HasKept line one (next one)) → HasKept line laid (r >>= next)
 keeps_then line laid (Ok one) next first h = record { up = λ last e before. (h one).up last e (first.up one refl before) }
 keeps_then line laid (Err kind) next first h = refused line laid kind
 
-named : (line : ℕ) (laid : Laid) (names : Names) → Keeps {E = AsmKind} line laid (Ok (laid_of names laid.statements laid.size))
+named : (line : ℕ) (laid : Laid) (names : Names) → HasKept {E = AsmKind} line laid (Ok (laid_of names laid.statements laid.size))
 named line laid names = keeps_ok line laid _ (λ h. h)
 
-placed : (line : ℕ) (laid : Laid) (it : Statement) (size : ℕ) → Keeps {E = AsmKind} line laid (Ok (laid_of laid.names (laid.statements ++ record { line = line; statement = it } ∷ []) size))
+placed : (line : ℕ) (laid : Laid) (it : Statement) (size : ℕ) → HasKept {E = AsmKind} line laid (Ok (laid_of laid.names (laid.statements ++ record { line = line; statement = it } ∷ []) size))
 placed line laid it size = keeps_ok line laid _ (λ h. up_push line laid.statements (record { line = line; statement = it }) h (omega arith))
 
-place_keeps : (line : ℕ) (laid : Laid) (it : Statement) → Keeps line laid (place line laid it)
+place_keeps : (line : ℕ) (laid : Laid) (it : Statement) → HasKept line laid (place line laid it)
 unfolding place
 place_keeps line laid it = search (keeps_next, placed)
 
-place_all_keeps : (line : ℕ) (laid : Laid) (these : List Statement) → Keeps line laid (place_all line laid these)
+place_all_keeps : (line : ℕ) (laid : Laid) (these : List Statement) → HasKept line laid (place_all line laid these)
 unfolding place_all
 place_all_keeps line laid [] = keeps_ok line laid laid (λ h. h)
 place_all_keeps line laid (it ∷ these) = keeps_then line laid (place line laid it) _ (place_keeps line laid it) (λ one. place_all_keeps line one these)
 
-define_keeps : (line : ℕ) (laid : Laid) (name : List ℕ) (symbol : Symbol) → Keeps line laid (define laid name symbol)
+define_keeps : (line : ℕ) (laid : Laid) (name : List ℕ) (symbol : Symbol) → HasKept line laid (define laid name symbol)
 unfolding define
 define_keeps line laid name symbol = search (keeps_next, named)
 
-equ_keeps : (line : ℕ) (laid : Laid) (operands : List ℕ) → Keeps line laid (equ laid operands)
+equ_keeps : (line : ℕ) (laid : Laid) (operands : List ℕ) → HasKept line laid (equ laid operands)
 unfolding equ
 equ_keeps line laid operands = search (keeps_next, define_keeps)
 
-lay_keeps : (line : ℕ) (laid : Laid) (word operands : List ℕ) → Keeps line laid (lay line laid word operands)
+lay_keeps : (line : ℕ) (laid : Laid) (word operands : List ℕ) → HasKept line laid (lay line laid word operands)
 unfolding lay
 lay_keeps line laid word operands = search (keeps_next, place_all_keeps)
 
-either_keeps : (line : ℕ) (laid : Laid) (test : Bool) (first second : Result Laid AsmKind) → Keeps line laid first → Keeps line laid second → Keeps line laid (cond test first second)
+either_keeps : (line : ℕ) (laid : Laid) (test : Bool) (first second : Result Laid AsmKind) → HasKept line laid first → HasKept line laid second → HasKept line laid (cond test first second)
 either_keeps line laid true first second h g = h
 either_keeps line laid false first second h g = g
 
-statement_keeps : (line : ℕ) (laid : Laid) (bytes : List ℕ) → Keeps line laid (statement line laid bytes)
+statement_keeps : (line : ℕ) (laid : Laid) (bytes : List ℕ) → HasKept line laid (statement line laid bytes)
 unfolding statement
 statement_keeps line laid [] = keeps_ok line laid laid (λ h. h)
 statement_keeps line laid (byte ∷ bytes) = search (keeps_next, either_keeps, equ_keeps, lay_keeps)
 
-labelled_keeps : (line : ℕ) (laid : Laid) (front : List ℕ) (rest : Option (List ℕ)) → Keeps line laid (labelled line laid front rest)
+labelled_keeps : (line : ℕ) (laid : Laid) (front : List ℕ) (rest : Option (List ℕ)) → HasKept line laid (labelled line laid front rest)
 labelled_keeps line laid front None = statement_keeps line laid (trimmed front)
 labelled_keeps line laid front (Some rest) = search (keeps_next, keeps_then, define_keeps, statement_keeps)
 
-line_keeps : (number : ℕ) (laid : Laid) (line : List ℕ) → Keeps number laid (line_laid number laid line)
+line_keeps : (number : ℕ) (laid : Laid) (line : List ℕ) → HasKept number laid (line_laid number laid line)
 unfolding line_laid
 line_keeps number laid line = search (keeps_next, labelled_keeps)
 
@@ -116,7 +116,7 @@ record Lines (before : ℕ) (laid : Laid) (these : List (List ℕ)) (r : Result 
   up : (out : Laid) → r ≡ Ok out → AreUpTo before laid.statements → AreUpTo (before + length these) out.statements
   fault : (fault : AsmFault) → r ≡ Err fault → fault.line ≤ before + length these
 
-lines_by : (before : ℕ) (laid : Laid) (line : List ℕ) (these : List (List ℕ)) (r : Result Laid AsmKind) → Keeps (before + 1) laid r
+lines_by : (before : ℕ) (laid : Laid) (line : List ℕ) (these : List (List ℕ)) (r : Result Laid AsmKind) → HasKept (before + 1) laid r
     → ((one : Laid) → Lines (before + 1) one these (lines_laid (before + 1) one these)) → Lines before laid (line ∷ these) (at_line (before + 1) r >>= λ one. lines_laid (before + 1) one these)
 lines_by before laid line these (Ok one) keeps others = record {
   up = λ out e h. up_more (before + 1 + length these) (before + length (line ∷ these)) out.statements (omega arith)

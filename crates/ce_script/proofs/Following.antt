@@ -1,12 +1,10 @@
 -- The reader stands one statement further.
-use Rattle.std.proofs.Common.{◌≡◌, ℕ, suc, ◌+◌, ◌<◌, ◌≤◌, List, [], ◌∷◌, ◌++◌, length, Bool, true, false, not, cond, ◌&&◌, ◌||◌, Option, Some, None, refl, sym, ap, subst, ◌∙◌, append-nil, append_assoc, arith, nat_lt, map}
+use Rattle.std.proofs.Common.{◌≡◌, ℕ, suc, ◌+◌, ◌<◌, List, [], ◌∷◌, ◌++◌, length, Bool, true, false, not, cond, ◌&&◌, ◌||◌, Option, Some, None, refl, sym, ap, ◌∙◌, append-nil, append_assoc, arith, nat_lt, map}
 use Rattle.std.proofs.lemmas.Bool.{lt-ltb}
 use Rattle.std.proofs.lemmas.List.{length-append}
-use Rattle.std.specs.Prelude.{IfSome, is_none, is_some, filter_map, option_map, option_and_then, unwrap_or, bytes_eq}
+use Rattle.std.specs.Prelude.{IfSome, is_some, filter_map, option_map, option_and_then, unwrap_or, bytes_eq}
 use Rattle.std.specs.Option.{option_or}
 use Rattle.std.specs.List.{list_any, cons_option, position_or_len}
-use Rattle.ce_model.specs.Limits.{greatest_users, greatest_images}
-use Rattle.ce_model.specs.declared.topology.Place.{Place}
 use Rattle.ce_host.specs.declared.command.Command.{Command}
 use Rattle.ce_host.specs.declared.command.Command.TheVariants as made
 use Rattle.ce_script.specs.declared.grammar.Verb.{Verb}
@@ -14,15 +12,15 @@ use Rattle.ce_script.specs.declared.grammar.Verb.TheVariants.{Machine, Image, Us
 use Rattle.ce_script.specs.declared.reader.state.Reader.{Reader}
 use Rattle.ce_script.specs.declared.script.ScriptKind.{ScriptKind}
 use Rattle.ce_script.specs.declared.script.ScriptKind.TheVariants.{BadName, UnknownImage, NoMachine, SecondMachine, NoUser}
-use Rattle.ce_script.specs.Lines.{Spot, spots, spots_behind, words}
+use Rattle.ce_script.specs.Lines.{Spot, spots_behind, words}
 use Rattle.ce_script.specs.Names.{is_name}
 use Rattle.ce_script.specs.Verbs.{verb_of, is_machine, is_image, is_user, is_command}
 use Rattle.ce_script.specs.Statements.{Statement, operand, is_of}
 use Rattle.ce_script.specs.Bodies.{fault_at}
-use Rattle.ce_script.specs.Sayings.{of_kind, names_in, distinct, number_of, place_at, image_names, users, last_user, command_by, command_in, command_at, commands}
+use Rattle.ce_script.specs.Sayings.{of_kind, names_in, distinct, number_of, place_at, image_names, users, last_user, command_by, command_in, command_at}
 use Rattle.ce_script.specs.Faults.{refused, is_among, first_some, statement_fault, image_fault}
 use Rattle.ce_script.specs.Reading.{with_name, word_fault, place_fault, operands_judged}
-use Rattle.ce_script.specs.Standing.{names_of, AreFew, said, with_command, rest_fault, verb_fault, line_judged, statement_judged, fault_among, IsBehind, Stands}
+use Rattle.ce_script.specs.Standing.{names_of, AreFew, with_statement, with_command, rest_fault, verb_fault, line_judged, statement_judged, IsBehind, HasReadUpTo}
 use Rattle.ce_script.proofs.Spots.{or_none, map_none, refused_none}
 use Rattle.ce_script.proofs.Judged.{not_false, names_append}
 use Rattle.ce_script.proofs.Members.{among_distinct}
@@ -167,12 +165,12 @@ has_user machine user verb command e =
     let last = (or_none two (refused (is_command verb && not user) NoUser) (or_none one _ e).1).1 in
     not_false user (sym (ap (λ b. b && not user) command) ∙ refused_none (is_command verb && not user) NoUser last)
 
-module _ (all rest : List Statement) (here : Statement) (reader : Reader) (verb : Verb) (is : verb_of (words here.line) ≡ Some verb) (st : Stands all reader (here ∷ rest)) (few : AreFew reader)
+module _ (all rest : List Statement) (here : Statement) (reader : Reader) (verb : Verb) (is : verb_of (words here.line) ≡ Some verb) (st : HasReadUpTo all reader (here ∷ rest)) (few : AreFew reader)
     (none : statement_judged reader here ≡ None) where
   abbrev spot : Spot Statement
   spot = record { before = st.front; here = here; behind = rest }
 
-  steps : (next : Reader) → IsBehind next (st.front ++ here ∷ []) → reader.script.commands ++ cons_option (command_at all spot) [] ≡ next.script.commands → Stands all next rest
+  steps : (next : Reader) → IsBehind next (st.front ++ here ∷ []) → reader.script.commands ++ cons_option (command_at all spot) [] ≡ next.script.commands → HasReadUpTo all next rest
   steps next behind added = record {
     front = st.front ++ here ∷ [];
     whole = st.whole ∙ sym (append_assoc st.front (here ∷ []) rest);
@@ -194,21 +192,21 @@ module _ (all rest : List Statement) (here : Statement) (reader : Reader) (verb 
       ∙ append-nil reader.script.commands
 
   speaks : is_machine verb ≡ false → is_image verb ≡ false → is_user verb ≡ false → is_command verb ≡ true → operands_judged (names_of reader) verb here ≡ None
-      → Stands all (with_command reader (command_by verb (names_of reader) here)) rest
+      → HasReadUpTo all (with_command reader (command_by verb (names_of reader) here)) rest
   speaks machine image user command right =
       let there = has_user _ _ verb command (free reader verb here is none).place in
       steps (with_command reader (command_by verb (names_of reader) here)) (behind_command reader st.front here verb _ is machine image user st.behind)
       (ap (λ every. reader.script.commands ++ cons_option (command_at every spot) []) st.whole
       ∙ ap (λ said. reader.script.commands ++ cons_option said []) (command_added reader st.front rest here verb st.behind is there command right))
 
-pub one_further : (all rest : List Statement) (here : Statement) (reader : Reader) (verb : Verb) → verb_of (words here.line) ≡ Some verb → Stands all reader (here ∷ rest) → AreFew reader
-    → statement_judged reader here ≡ None → Stands all (said reader verb here) rest
+pub one_further : (all rest : List Statement) (here : Statement) (reader : Reader) (verb : Verb) → verb_of (words here.line) ≡ Some verb → HasReadUpTo all reader (here ∷ rest) → AreFew reader
+    → statement_judged reader here ≡ None → HasReadUpTo all (with_statement reader verb here) rest
 one_further all rest here reader Machine is st few none =
-    steps all rest here reader Machine is st few none (said reader Machine here) (behind_machine reader st.front here is (first_machine _ _ (free reader Machine here is none).place) st.behind) (quiet all rest here reader Machine is st few none (λ names. refl))
+    steps all rest here reader Machine is st few none (with_statement reader Machine here) (behind_machine reader st.front here is (first_machine _ _ (free reader Machine here is none).place) st.behind) (quiet all rest here reader Machine is st few none (λ names. refl))
 one_further all rest here reader Image is st few none =
-    steps all rest here reader Image is st few none (said reader Image here) (behind_image reader st.front here is st.behind) (quiet all rest here reader Image is st few none (λ names. refl))
+    steps all rest here reader Image is st few none (with_statement reader Image here) (behind_image reader st.front here is st.behind) (quiet all rest here reader Image is st few none (λ names. refl))
 one_further all rest here reader User is st few none =
-    steps all rest here reader User is st few none (said reader User here) (behind_user reader st.front here is st.behind) (quiet all rest here reader User is st few none (λ names. refl))
+    steps all rest here reader User is st few none (with_statement reader User here) (behind_user reader st.front here is st.behind) (quiet all rest here reader User is st few none (λ names. refl))
 one_further all rest here reader Getcube is st few none = speaks all rest here reader Getcube is st few none refl refl refl refl (free reader Getcube here is none).rest
 one_further all rest here reader Peek is st few none = speaks all rest here reader Peek is st few none refl refl refl refl (free reader Peek here is none).rest
 one_further all rest here reader Freecube is st few none = speaks all rest here reader Freecube is st few none refl refl refl refl (free reader Freecube here is none).rest

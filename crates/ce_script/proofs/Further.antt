@@ -1,5 +1,5 @@
 -- How the reader's calls come together to a statement and to a line.
-use Rattle.std.proofs.Common.{◌≡◌, ℕ, suc, ◌+◌, ◌≤◌, nat_lt, codes, vec_len, Bor, List, [], ◌∷◌, ◌++◌, length, get_or, Bool, true, false, not, cond, ◌&&◌, ◌||◌, ◌==◌, Option, Some, None, Result, Ok, Err, refl, sym, ap, subst, ◌∙◌, arith, map, append-nil}
+use Rattle.std.proofs.Common.{◌≡◌, ℕ, ◌+◌, ◌≤◌, nat_lt, codes, vec_len, Bor, List, [], ◌∷◌, ◌++◌, length, get_or, Bool, true, false, not, cond, ◌&&◌, ◌||◌, ◌==◌, Option, Some, None, Result, Ok, Err, refl, sym, ap, subst, ◌∙◌, arith, map, append-nil}
 use Rattle.std.proofs.lemmas.Bool.Decides.{Decides-eqb, nat_tests}
 use Rattle.std.proofs.lemmas.List.{length-append, length-map}
 use Rattle.std.proofs.lemmas.Slice.Eq.{bytes_eq-Decides}
@@ -24,17 +24,17 @@ use Rattle.ce_script.specs.declared.script.ScriptKind.TheVariants.{BadByte, Unkn
 use Rattle.ce_script.specs.Lines.{Line, lines, words, has_bad_byte, spots_behind}
 use Rattle.ce_script.specs.Names.{is_name}
 use Rattle.ce_script.specs.Verbs.{verbs, verb_of, is_image, is_command, form_of, operands_of, NewImage}
-use Rattle.ce_script.specs.Statements.{Statement, operand, is_of, are_only, is_end, begins_image, body_in, statements}
+use Rattle.ce_script.specs.Statements.{Statement, operand, are_only, is_end, begins_image, body_in, statements}
 use Rattle.ce_script.specs.Bodies.{fault_at, body_fault}
 use Rattle.ce_script.specs.Faults.{first_fault, first_some, refused, operand_fault, is_unknown, has_unknown_form, has_wrong_count, image_fault, statement_fault}
 use Rattle.ce_script.specs.Sayings.{image_said, dimension, images, users, commands}
 use Rattle.ce_script.specs.Reading.{Unless, word_fault, place_fault, with_name}
 use Rattle.ce_script.specs.ReadLines.{line_of, here_of, lines_left, inside_behind, statements_from, texts_left, numbered, left_of}
 use Rattle.ce_script.specs.Scripts.{IsScript, IsNoMemory}
-use Rattle.ce_script.specs.Standing.{nothing_said, fault_among, IsBehind, names_of, AreFew, new_image_fault, Stands, Keeps, said, rest_fault, verb_fault, begin_fault, line_judged, statement_judged, with_body, on_line, SaysImage, IsPast, SaysStatement}
+use Rattle.ce_script.specs.Standing.{nothing_said, fault_among, IsBehind, names_of, AreFew, new_image_fault, HasReadUpTo, HasKept, with_statement, rest_fault, verb_fault, begin_fault, statement_judged, with_body, on_line, HasSaidImage, IsPast, HasSaidStatement}
 use Rattle.ce_script.proofs.BodyFaults.{unless_map}
 use Rattle.ce_script.proofs.BodyLines.{line_at, first_line}
-use Rattle.ce_script.proofs.Following.{IsFree, free, has_user, one_further}
+use Rattle.ce_script.proofs.Following.{free, has_user, one_further}
 use Rattle.ce_script.proofs.Judged.{not_false}
 use Rattle.ce_script.proofs.Outside.{from_outside}
 use Rattle.ce_script.proofs.Spots.{or_none, refused_none}
@@ -133,12 +133,12 @@ module _ (reader : Reader) (line : WordedLine) (rest : Rest) where
       plain_wrong kind wrong =
           unless_map kind _ _ (λ (e : rest_fault reader verb (here_of line) ≡ Some kind). plain_judged ∙ ap (option_map (fault_at line.number)) e) wrong
 
-      pub plain_past : (new : Reader) → rest_fault reader verb (here_of line) ≡ None → new ≡ said reader verb (here_of line) → IsPast reader new line rest rest
+      pub plain_past : (new : Reader) → rest_fault reader verb (here_of line) ≡ None → new ≡ with_statement reader verb (here_of line) → IsPast reader new line rest rest
       plain_past new none says = record {
         verb = verb;
         is = is;
         none = plain_judged ∙ ap (option_map (fault_at line.number)) none;
-        said = says ∙ ap (said reader verb) (sym (here_is false other));
+        state = says ∙ ap (with_statement reader verb) (sym (here_is false other));
         past = ap (λ inside. statements_from inside (lines_left rest)) (begins_same ∙ other);
       }
 
@@ -149,15 +149,15 @@ module _ (reader : Reader) (line : WordedLine) (rest : Rest) where
         judged_behind Image right is placed
         ∙ ap (λ it. option_or (option_map (fault_at line.number) (rest_fault reader Image it)) (image_fault it)) (here_is Image right is placed true refl)
 
-    pub image_says : (result : Result Rest ScriptFault) (new : Reader) → SaysImage result reader new line rest
-        → IfOk result (λ next. statements_from true (lines_left rest) ≡ statements_from false (lines_left next)) → SaysStatement result reader new line rest
+    pub image_says : (result : Result Rest ScriptFault) (new : Reader) → HasSaidImage result reader new line rest
+        → IfOk result (λ next. statements_from true (lines_left rest) ≡ statements_from false (lines_left next)) → HasSaidStatement result reader new line rest
     image_says (Ok next) new says past = record {
       verb = Image;
       is = is;
       none =
           image_judged
           ∙ ap (λ one. option_or (option_map (fault_at line.number) one) (image_fault (with_body line rest))) says.0 ∙ says.1;
-      said = says.2 ∙ ap (said reader Image) (sym (here_is Image right is placed true refl));
+      state = says.2 ∙ ap (with_statement reader Image) (sym (here_is Image right is placed true refl));
       past = ap (λ inside. statements_from inside (lines_left rest)) (begins_same Image right is placed) ∙ past;
     }
     image_says (Err fault) new says past = unless_map fault.kind _ _ (λ e. image_judged ∙ e) says
@@ -167,7 +167,7 @@ module _ (reader : Reader) (line : WordedLine) (rest : Rest) where
 at_most : (most n : ℕ) → nat_lt most n ≡ false → n ≤ most
 at_most most n e = grind (arith, nat_tests)
 
-few_said : (reader : Reader) (verb : Verb) (here : Statement) → AreFew reader → rest_fault reader verb here ≡ None → AreFew (said reader verb here)
+few_said : (reader : Reader) (verb : Verb) (here : Statement) → AreFew reader → rest_fault reader verb here ≡ None → AreFew (with_statement reader verb here)
 few_said reader User here few none =
     let names = with_name reader.script.users (operand 1 here) in
     let over = (or_none (refused (not (is_name (operand 1 here))) BadName) (refused (nat_lt greatest_users (length names)) TooMany) none).1 in
@@ -201,9 +201,9 @@ few_said reader Recv here few none = record { users = few.users; images = few.im
 few_said reader Dump here few none = record { users = few.users; images = few.images }
 few_said reader Trace here few none = record { users = few.users; images = few.images }
 
-pub few_behind : (old new : Reader) (line : WordedLine) (rest : Rest) (result : Result Rest ScriptFault) → AreFew old → SaysStatement result old new line rest → OnOk result (AreFew new)
+pub few_behind : (old new : Reader) (line : WordedLine) (rest : Rest) (result : Result Rest ScriptFault) → AreFew old → HasSaidStatement result old new line rest → OnOk result (AreFew new)
 few_behind old new line rest (Ok next) few past =
-    subst AreFew (sym past.said)
+    subst AreFew (sym past.state)
     (few_said old past.verb (on_line line rest) few (free old past.verb (on_line line rest) past.is past.none).rest)
 few_behind old new line rest (Err fault) few wrong = tt
 
@@ -246,19 +246,19 @@ inside_line line verb is = by (is_end line) refl
     by false e = ap (λ ends. cond ends false (false || begins_image line)) e
 
 pub line_keeps : (old new : Reader) (line : WordedLine) (rest : Rest) (result : Result Rest ScriptFault) → AreFew old → (length (words (line_of line)) == 0) ≡ false
-    → SaysStatement result old new line rest → (all : List Statement) → Stands all old (statements_from false (line_of line ∷ lines_left rest))
-    → Keeps all result new (λ next. statements_from false (lines_left next))
+    → HasSaidStatement result old new line rest → (all : List Statement) → HasReadUpTo all old (statements_from false (line_of line ∷ lines_left rest))
+    → HasKept all result new (λ next. statements_from false (lines_left next))
 line_keeps old new line rest (Ok next) few some past all stands =
     let here = on_line line rest in
     let lines = lines_left rest in
     let first = statements_first (line_of line) lines some ∙ ap (λ inside. here ∷ statements_from inside lines) (inside_line (line_of line) past.verb past.is) in
-    let further = one_further all (statements_from (begins_image (line_of line)) lines) here old past.verb past.is (subst (Stands all old) first stands) few past.none in
-    subst (λ reader. Stands all reader (statements_from false (lines_left next))) (sym past.said)
-    (subst (Stands all (said old past.verb here)) past.past further)
+    let further = one_further all (statements_from (begins_image (line_of line)) lines) here old past.verb past.is (subst (HasReadUpTo all old) first stands) few past.none in
+    subst (λ reader. HasReadUpTo all reader (statements_from false (lines_left next))) (sym past.state)
+    (subst (HasReadUpTo all (with_statement old past.verb here)) past.past further)
 line_keeps old new line rest (Err fault) few some wrong all stands =
     let here = on_line line rest in
     let others = statements_from (inside_behind false (line_of line)) (lines_left rest) in
-    let at : Stands all old (here ∷ others) = subst (Stands all old) (statements_first (line_of line) (lines_left rest) some) stands in
+    let at : HasReadUpTo all old (here ∷ others) = subst (HasReadUpTo all old) (statements_first (line_of line) (lines_left rest) some) stands in
     unless_map fault.kind _ _
     (λ (e : statement_judged old here ≡ Some fault).
     at.faults
@@ -280,21 +280,21 @@ unfolding dimension images users
 behind_nothing = record { dim = refl; machine = refl; has_user = refl; user = tt; images = refl; users = refl }
 
 -- the reader begins
-pub begins_reading : (text : List ℕ) → Stands (statements text) nothing_said (statements_from false (numbered 1 (slice_split is_line_feed text)))
+pub begins_reading : (text : List ℕ) → HasReadUpTo (statements text) nothing_said (statements_from false (numbered 1 (slice_split is_line_feed text)))
 unfolding commands lines
 begins_reading text =
-    subst (Stands (statements text) nothing_said) (from_outside text)
+    subst (HasReadUpTo (statements text) nothing_said) (from_outside text)
     (record { front = []; whole = refl; behind = behind_nothing; faults = refl; commands = refl })
 
 pub few_at_first : AreFew nothing_said
 few_at_first = record { users = omega arith; images = omega arith }
 
 -- the reader is at the end
-pub ends_reading : (text : List ℕ) (reader : Reader) (rest : Rest) → left_of rest ≡ None → Stands (statements text) reader (statements_from false (lines_left rest)) → IsScript text reader.script
+pub ends_reading : (text : List ℕ) (reader : Reader) (rest : Rest) → left_of rest ≡ None → HasReadUpTo (statements text) reader (statements_from false (lines_left rest)) → IsScript text reader.script
 unfolding first_fault statements_from
-ends_reading text reader rest none stands = by (subst (Stands (statements text) reader) (ap (λ (left : Option (List ℕ)). statements_from false (numbered (rest.before + 1) (texts_left left))) none) stands)
+ends_reading text reader rest none stands = by (subst (HasReadUpTo (statements text) reader) (ap (λ (left : Option (List ℕ)). statements_from false (numbered (rest.before + 1) (texts_left left))) none) stands)
   where
-    by : Stands (statements text) reader [] → IsScript text reader.script
+    by : HasReadUpTo (statements text) reader [] → IsScript text reader.script
     by at =
         let all : at.front ≡ statements text = sym (at.whole ∙ append-nil at.front) in
         record {

@@ -1,5 +1,5 @@
 -- How the reader's tests are those of the definitions.
-use Rattle.std.proofs.Common.{◌≡◌, ℕ, suc, ◌+◌, ◌<◌, ◌≤◌, List, [], ◌∷◌, ◌++◌, length, get_or, Bool, true, false, not, cond, ◌&&◌, ◌||◌, ◌==◌, Option, Some, None, refl, sym, ap, ◌∙◌, arith, nat_lt, map}
+use Rattle.std.proofs.Common.{◌≡◌, ℕ, suc, ◌+◌, ◌<◌, ◌≤◌, List, [], ◌∷◌, ◌++◌, length, get_or, Bool, true, false, not, cond, ◌&&◌, ◌||◌, ◌==◌, Option, Some, None, refl, sym, ap, ◌∙◌, arith, nat_lt}
 use Rattle.std.proofs.lemmas.Bool.Decides.{nat_tests}
 use Rattle.std.proofs.lemmas.List.{length-append}
 use Rattle.std.proofs.lemmas.Slice.Eq.{bytes_eq-Decides}
@@ -10,19 +10,19 @@ use Rattle.std.specs.Char.{is_ascii_alphabetic}
 use Rattle.std.specs.Str.{IsAscii, IsUtf8}
 use Rattle.std.specs.Option.{option_or, option_map_or}
 use Rattle.std.specs.List.{list_any, list_all, position_or_len}
-use Rattle.std.proofs.lemmas.List.Folds.{list_any-append}
 use Rattle.ce_model.specs.Limits.{greatest_users, greatest_images, greatest_users_lem, greatest_images_lem}
 use Rattle.ce_script.specs.declared.grammar.Verb.{Verb}
 use Rattle.ce_script.specs.declared.reader.state.Reader.{Reader}
 use Rattle.ce_script.specs.declared.script.ScriptKind.{ScriptKind}
-use Rattle.ce_script.specs.declared.script.ScriptKind.TheVariants.{BadByte, UnknownWord, WordCount, BadName, NameTaken, TooMany, UnknownImage}
+use Rattle.ce_script.specs.declared.script.ScriptKind.TheVariants.{BadByte, UnknownWord, WordCount, NameTaken, TooMany, UnknownImage}
 use Rattle.ce_script.specs.Lines.{words, has_bad_byte}
 use Rattle.ce_script.specs.Names.{is_name, is_name_byte}
-use Rattle.ce_script.specs.Verbs.{verbs, verb_of, look_up, is_image, operands_of, OldImage, NewImage}
-use Rattle.ce_script.specs.Statements.{Statement, operand, is_of}
+use Rattle.ce_text.specs.Table.{look_up}
+use Rattle.ce_script.specs.Verbs.{verbs, verb_of, is_image, operands_of, OldImage}
+use Rattle.ce_script.specs.Statements.{Statement, operand}
 use Rattle.ce_script.specs.Sayings.{number_of}
-use Rattle.ce_script.specs.Faults.{refused, has_unknown_form, is_unknown, has_wrong_count, is_among, operand_fault}
-use Rattle.ce_script.specs.Reading.{word_fault, with_name, user_fault}
+use Rattle.ce_script.specs.Faults.{refused, has_unknown_form, is_among, operand_fault}
+use Rattle.ce_script.specs.Reading.{word_fault, user_fault}
 use Rattle.ce_script.specs.Standing.{new_image_fault, with_user}
 
 -- ---- names among names

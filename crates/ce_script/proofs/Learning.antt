@@ -1,26 +1,23 @@
 -- What the reader knows behind one statement more.
-use Rattle.std.proofs.Common.{◌≡◌, ℕ, suc, ◌+◌, ◌<◌, ◌≤◌, List, [], ◌∷◌, ◌++◌, length, Bool, true, false, not, cond, ◌&&◌, ◌||◌, Option, Some, None, refl, sym, ap, subst, ◌∙◌, append-nil, append_assoc, arith, nat_lt, map}
-use Rattle.std.proofs.lemmas.Bool.Decides.{nat_tests}
-use Rattle.std.proofs.lemmas.List.{length-map, length-append, map-append}
+use Rattle.std.proofs.Common.{◌≡◌, ℕ, List, [], ◌∷◌, ◌++◌, Bool, true, false, cond, ◌||◌, Option, Some, None, refl, sym, ap, subst, ◌∙◌, append-nil, map}
+use Rattle.std.proofs.lemmas.List.{map-append}
 use Rattle.std.proofs.lemmas.List.Elements.{filter-append}
 use Rattle.std.proofs.lemmas.List.Folds.{find-append, list_any-append}
-use Rattle.std.specs.Prelude.{IfSome, is_none, is_some, find, filter_map, option_map, option_and_then, unwrap_or, bytes_eq}
-use Rattle.std.specs.Option.{option_or, option_map_or}
-use Rattle.std.specs.List.{list_any, last_or, cons_option, position_or_len}
-use Rattle.ce_model.specs.Limits.{greatest_users, greatest_images}
+use Rattle.std.specs.Prelude.{IfSome, is_some, find, option_map, unwrap_or}
+use Rattle.std.specs.Option.{option_or}
+use Rattle.std.specs.List.{list_any, last_or}
 use Rattle.ce_host.specs.declared.command.Command.{Command}
 use Rattle.ce_script.specs.declared.grammar.Verb.{Verb}
-use Rattle.ce_script.specs.declared.grammar.Verb.TheVariants.{Machine, Image, User, Getcube, Peek, Freecube, Spawn, Kill, Send, Run, Recv, Dump, Trace}
+use Rattle.ce_script.specs.declared.grammar.Verb.TheVariants.{Machine, Image, User}
 use Rattle.ce_script.specs.declared.reader.state.Reader.{Reader}
 use Rattle.ce_script.specs.declared.script.Named.{Named}
-use Rattle.ce_script.specs.Lines.{Spot, spots, spots_behind, words}
-use Rattle.ce_script.specs.Verbs.{verb_of, is_machine, is_image, is_user, is_command}
+use Rattle.ce_script.specs.Lines.{words}
+use Rattle.ce_script.specs.Verbs.{verb_of, is_machine, is_image, is_user}
 use Rattle.ce_script.specs.Statements.{Statement, operand, is_of}
-use Rattle.ce_script.specs.Sayings.{of_kind, names_in, number_of, number_at, image_said, dimension, images, image_names, users, last_user, command_by, command_in, command_at, commands}
-use Rattle.ce_script.specs.Faults.{is_among, first_some, statement_fault}
+use Rattle.ce_script.specs.Sayings.{of_kind, names_in, number_of, number_at, image_said, dimension, images, users, last_user}
 use Rattle.ce_script.specs.Reading.{with_name}
-use Rattle.ce_script.specs.Standing.{names_of, AreFew, said, with_command, statement_judged, fault_among, IsBehind, Stands}
-use Rattle.ce_script.proofs.Stepping.{kind_is, known_names, more_users, names_more, statement_same}
+use Rattle.ce_script.specs.Standing.{with_statement, with_command, IsBehind}
+use Rattle.ce_script.proofs.Stepping.{kind_is, more_users, names_more}
 
 -- ---- each part behind one statement more
 
@@ -112,7 +109,7 @@ behind_command reader front here verb command e machine image user is = record {
 }
 
 pub behind_machine : (reader : Reader) (front : List Statement) (here : Statement) → verb_of (words here.line) ≡ Some Machine → is_some reader.script.dim ≡ false
-    → IsBehind reader front → IsBehind (said reader Machine here) (front ++ here ∷ [])
+    → IsBehind reader front → IsBehind (with_statement reader Machine here) (front ++ here ∷ [])
 behind_machine reader front here e none is = record {
   dim = sym (dim_more front here true (kind_is is_machine here Machine e) ∙ none_or (dimension front) (Some (number_at 1 here)) (sym (ap is_some is.dim) ∙ none));
   machine = sym (any_more is_machine front here true (kind_is is_machine here Machine e) ∙ or_true (list_any (is_of is_machine) front));
@@ -125,7 +122,7 @@ behind_machine reader front here e none is = record {
 }
 
 pub behind_image : (reader : Reader) (front : List Statement) (here : Statement) → verb_of (words here.line) ≡ Some Image
-    → IsBehind reader front → IsBehind (said reader Image here) (front ++ here ∷ [])
+    → IsBehind reader front → IsBehind (with_statement reader Image here) (front ++ here ∷ [])
 behind_image reader front here e is = record {
   dim = is.dim ∙ sym (dim_more front here false (kind_is is_machine here Image e) ∙ keeps_option (dimension front));
   machine = is.machine ∙ sym (any_more is_machine front here false (kind_is is_machine here Image e) ∙ keeps_bool (list_any (is_of is_machine) front));
@@ -138,7 +135,7 @@ behind_image reader front here e is = record {
 }
 
 pub behind_user : (reader : Reader) (front : List Statement) (here : Statement) → verb_of (words here.line) ≡ Some User
-    → IsBehind reader front → IsBehind (said reader User here) (front ++ here ∷ [])
+    → IsBehind reader front → IsBehind (with_statement reader User here) (front ++ here ∷ [])
 behind_user reader front here e is =
     let more = ap (λ known. with_name known (operand 1 here)) is.users ∙ sym (more_users front here User e) in
     let last = last_user_more front here true (kind_is is_user here User e) in

@@ -29,7 +29,7 @@ pub mod Numbers
 pub mod OperandFaults
 pub mod Others
 pub mod Outside
-pub mod Positions
+pub mod Indexing
 pub mod RingImage
 pub mod RowGone
 pub mod RowHelloThreaded
@@ -40,7 +40,6 @@ pub mod Rows
 pub mod SmallRecords
 pub mod Spots
 pub mod Stepping
-pub mod Tables
 pub mod TextSamples
 pub mod UnbornDone
 pub mod UsedAgainDone

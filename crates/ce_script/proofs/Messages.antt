@@ -1,5 +1,5 @@
 -- The bytes of messages.
-use Rattle.std.proofs.Common.{◌≡◌, ℕ, ◌*◌, ◌<◌, ◌≤◌, List, [], ◌∷◌, length, Bool, true, false, Some, None, refl, arith, nat_le, codes, bytes_eq}
+use Rattle.std.proofs.Common.{◌≡◌, ℕ, ◌*◌, ◌<◌, ◌≤◌, List, [], length, true, false, Some, None, refl, arith, nat_le, codes, bytes_eq}
 use Rattle.std.proofs.lemmas.Bool.Decides.{nat_tests}
 use Rattle.ce_model.specs.Limits.{block_room, block_room_lem}
 use Rattle.ce_script.specs.Spellings.{are_byte_digits, digit_bytes, bytes_in, data_in}

@@ -1,14 +1,17 @@
 -- What is wrong with the operands behind each verb.
 use Rattle.std.proofs.Common.{◌≡◌, ℕ, ◌+◌, List, [], ◌∷◌, Option, Some, None, refl, sym, ap, ◌∙◌}
-use Rattle.std.specs.Prelude.{is_none}
+use Rattle.std.specs.Prelude.{is_none, unwrap_or}
 use Rattle.std.specs.Option.{option_or}
 use Rattle.ce_model.specs.Limits.{greatest_dim, greatest_count}
+use Rattle.ce_model.specs.declared.topology.Place.{Place}
+use Rattle.ce_host.specs.declared.command.Command.TheVariants as made
 use Rattle.ce_script.specs.declared.grammar.Verb.TheVariants.{Machine, Getcube, Peek, Freecube, Trace, Spawn, Kill, Send, Run, Recv, Dump}
 use Rattle.ce_script.specs.declared.script.ScriptKind.{ScriptKind}
 use Rattle.ce_script.specs.declared.script.ScriptKind.TheVariants.{BadNumber, BadHex}
 use Rattle.ce_script.specs.Spellings.{greatest_number, number_to, data_in}
 use Rattle.ce_script.specs.Verbs.{OldImage}
 use Rattle.ce_script.specs.Statements.{Statement, operand}
+use Rattle.ce_script.specs.Sayings.{number_of, place_at, command_by}
 use Rattle.ce_script.specs.Faults.{first_some, refused, operand_fault}
 use Rattle.ce_script.specs.Reading.{operands_judged}
 
@@ -56,6 +59,16 @@ module _ (names : List (List ℕ)) (here : Statement) where
   pub spawn_fault : operands_judged names Spawn here ≡ option_or (operand_fault names OldImage (operand 1 here)) (place_fault_at 2 here)
   unfolding operands_judged
   spawn_fault = refl
+
+  -- the command of a spawn line
+  pub spawn_there : (image : ℕ) (to : Place) → (operand_fault names OldImage (operand 1 here) ≡ None) × (Some (number_of (operand 1 here) names) ≡ Some image)
+      → (place_fault_at 2 here ≡ None) × (Some (place_at 2 here) ≡ Some to)
+      → (operands_judged names Spawn here ≡ None) × (command_by Spawn names here ≡ Some (made.Spawn image to))
+  spawn_there image to named placed = (
+    spawn_fault ∙ ap (λ one. option_or one (place_fault_at 2 here)) named.0 ∙ placed.0,
+    ap (λ (found : Option ℕ). Some (made.Spawn (unwrap_or found 0) (place_at 2 here))) named.1
+        ∙ ap (λ (found : Option Place). Some (made.Spawn image (unwrap_or found (place_at 2 here)))) placed.1,
+  )
 
   pub send_fault : operands_judged names Send here ≡ option_or (place_fault_at 1 here) (refused (is_none (data_in (operand 3 here))) BadHex)
   unfolding operands_judged

@@ -1,5 +1,5 @@
 -- Statements that are commands.
-use Rattle.std.proofs.Common.{◌≡◌, Bool, true, false, refl}
+use Rattle.std.proofs.Common.{◌≡◌, true, false, refl}
 use Rattle.ce_script.specs.declared.grammar.Verb.{Verb}
 use Rattle.ce_script.specs.declared.grammar.Verb.TheVariants.{Machine, Image, User, Getcube, Peek, Freecube, Spawn, Kill, Send, Run, Recv, Dump, Trace}
 use Rattle.ce_script.specs.declared.reader.state.Reader.{Reader}
@@ -7,7 +7,7 @@ use Rattle.ce_script.specs.Verbs.{is_image, is_command}
 use Rattle.ce_script.specs.Statements.{Statement}
 use Rattle.ce_script.specs.Sayings.{command_by}
 use Rattle.ce_script.specs.Reading.{operands_judged}
-use Rattle.ce_script.specs.Standing.{names_of, said, rest_fault, with_command}
+use Rattle.ce_script.specs.Standing.{names_of, with_statement, rest_fault, with_command}
 
 pub other_command : (verb : Verb) → (verb ≡ Machine → ⊥) → (verb ≡ User → ⊥) → is_image verb ≡ false → is_command verb ≡ true
 other_command Machine m u i = absurd (m refl)
@@ -39,7 +39,7 @@ other_fault reader Recv here e = refl
 other_fault reader Dump here e = refl
 other_fault reader Trace here e = refl
 
-pub other_said : (reader : Reader) (verb : Verb) (here : Statement) → is_command verb ≡ true → said reader verb here ≡ with_command reader (command_by verb (names_of reader) here)
+pub other_said : (reader : Reader) (verb : Verb) (here : Statement) → is_command verb ≡ true → with_statement reader verb here ≡ with_command reader (command_by verb (names_of reader) here)
 other_said reader Machine here e = absurd cc
 other_said reader Image here e = absurd cc
 other_said reader User here e = absurd cc

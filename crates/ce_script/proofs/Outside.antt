@@ -1,11 +1,11 @@
 -- The statements of a text, line by line.
-use Rattle.std.proofs.Common.{◌≡◌, ℕ, suc, ◌+◌, ◌-◌, ◌==◌, ◌≤◌, List, [], ◌∷◌, ◌++◌, length, drop, Bool, true, false, not, cond, ◌||◌, Option, Some, None, refl, sym, ap, subst, ◌∙◌, arith}
-use Rattle.std.proofs.lemmas.List.{append_assoc, reverse-append, length-reverse, length-append, drop_all, drop-append-le, take_at}
+use Rattle.std.proofs.Common.{◌≡◌, ℕ, suc, ◌+◌, ◌-◌, ◌==◌, ◌≤◌, List, [], ◌∷◌, ◌++◌, length, drop, Bool, true, false, not, cond, ◌||◌, Some, None, refl, sym, ap, ◌∙◌, arith}
+use Rattle.std.proofs.lemmas.List.{reverse-append, length-reverse, length-append, drop_all, drop-append-le, take_at}
 use Rattle.std.proofs.lemmas.List.Folds.{list_any-append}
 use Rattle.std.specs.Prelude.{filter_map, reverse}
-use Rattle.std.specs.List.{list_any, cons_option, after_last, suffix_len, prefix_len, before_first, position_or_len}
-use Rattle.ce_script.specs.Lines.{Line, Spot, spots, spots_behind, lines, words}
-use Rattle.ce_script.specs.Statements.{Statement, is_end, begins_image, is_inside, body_in, statement_of, statement_at, statements}
+use Rattle.std.specs.List.{list_any, cons_option, suffix_len, prefix_len, before_first, position_or_len}
+use Rattle.ce_script.specs.Lines.{Line, spots_behind, lines, words}
+use Rattle.ce_script.specs.Statements.{is_end, begins_image, is_inside, body_in, statement_of, statement_at, statements}
 use Rattle.ce_script.specs.ReadLines.{inside_behind, statements_from}
 
 -- ---- inside an image, one line further

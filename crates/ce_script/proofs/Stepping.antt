@@ -1,8 +1,7 @@
 -- How the parts of a fault come together, and how a statement is judged by what the earlier ones say.
-use Rattle.std.proofs.Common.{◌≡◌, ℕ, ◌<◌, ◌≤◌, List, [], ◌∷◌, ◌++◌, length, Bool, true, false, not, cond, ◌&&◌, ◌||◌, ◌==◌, Option, Some, None, refl, sym, ap, subst, ◌∙◌, append-nil, arith, nat_lt, map}
+use Rattle.std.proofs.Common.{◌≡◌, ℕ, ◌≤◌, List, [], ◌∷◌, ◌++◌, length, Bool, true, false, not, cond, ◌&&◌, ◌||◌, Option, Some, None, refl, sym, ap, ◌∙◌, append-nil, arith, nat_lt, map}
 use Rattle.std.proofs.lemmas.Bool.Decides.{nat_tests}
-use Rattle.std.proofs.lemmas.List.{length-map, map-append}
-use Rattle.std.proofs.lemmas.List.Elements.{filter-append}
+use Rattle.std.proofs.lemmas.List.{length-map}
 use Rattle.std.specs.Prelude.{is_none, is_some, option_map, option_and_then}
 use Rattle.std.specs.Option.{option_or, option_map_or}
 use Rattle.std.specs.List.{list_any, enumerate_from}
@@ -11,18 +10,17 @@ use Rattle.ce_script.specs.declared.grammar.Verb.{Verb}
 use Rattle.ce_script.specs.declared.grammar.Verb.TheVariants.{Machine, Image, User, Getcube, Peek, Freecube, Spawn, Kill, Send, Run, Recv, Dump, Trace}
 use Rattle.ce_script.specs.declared.reader.state.Reader.{Reader}
 use Rattle.ce_script.specs.declared.script.Named.{Named}
-use Rattle.ce_script.specs.declared.script.ScriptFault.{ScriptFault}
 use Rattle.ce_script.specs.declared.script.ScriptKind.{ScriptKind}
 use Rattle.ce_script.specs.declared.script.ScriptKind.TheVariants.{BadByte, WordCount, NoMachine, SecondMachine, NoUser, BadName, TooMany, NoEnd, UnknownWord}
 use Rattle.ce_script.specs.Lines.{Spot, words, has_bad_byte}
 use Rattle.ce_script.specs.Names.{is_name}
-use Rattle.ce_script.specs.Verbs.{verb_of, has_verb, is_machine, is_image, is_user, is_command, Operand, operands_of, NewImage}
+use Rattle.ce_script.specs.Verbs.{verb_of, is_machine, is_image, is_user, is_command, Operand, operands_of, NewImage}
 use Rattle.ce_script.specs.Statements.{Statement, operand, is_of}
 use Rattle.ce_script.specs.Bodies.{fault_at}
 use Rattle.ce_script.specs.Sayings.{of_kind, names_in, distinct, image_said, images, image_names, users}
-use Rattle.ce_script.specs.Faults.{first_some, refused, is_unknown, has_wrong_count, has_unknown_form, is_among, operand_fault, operands_fault, is_one_too_many, lacks_end, lacks_machine, lacks_user, is_second_machine, line_faults, line_fault, image_fault, statement_fault}
-use Rattle.ce_script.specs.Reading.{word_fault, place_fault, operands_judged, with_name, user_fault}
-use Rattle.ce_script.specs.Standing.{names_of, AreFew, new_image_fault, rest_fault, verb_fault, line_judged, statement_judged, IsBehind}
+use Rattle.ce_script.specs.Faults.{first_some, refused, is_unknown, has_wrong_count, has_unknown_form, operand_fault, operands_fault, is_one_too_many, lacks_end, lacks_machine, lacks_user, is_second_machine, line_fault, image_fault, statement_fault}
+use Rattle.ce_script.specs.Reading.{word_fault, place_fault, operands_judged, with_name}
+use Rattle.ce_script.specs.Standing.{names_of, AreFew, rest_fault, verb_fault, line_judged, statement_judged, IsBehind}
 use Rattle.ce_script.proofs.Judged.{names_append}
 use Rattle.ce_script.proofs.Users.{distinct_behind_one}
 

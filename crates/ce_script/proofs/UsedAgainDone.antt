@@ -21,11 +21,11 @@ use Rattle.ce_script.specs.Rounds.{serial, IsSerialRound, AreTurnsOver}
 use Rattle.ce_script.specs.Moments.{moments, holding}
 use Rattle.ce_script.specs.Commands.{IsRun}
 use Rattle.ce_script.specs.Doings.{Doing, AreDoings}
-use Rattle.ce_script.specs.Legal.{KeepsScript, machine_of}
+use Rattle.ce_script.specs.Legal.{IsRecordOfScript, machine_of}
 use Rattle.ce_script.proofs.Rows.{two_rounds, doing_in, one_cube, turn_is_round, turns_over, by, place, subcube}
 use Rattle.ce_script.proofs.RowUsedAgain.{first_bytes, second_bytes, third_bytes, the_script, the_record, alice_done, bob_done}
 
-pub is_kept : (image : ImageParts) → KeepsScript (the_script image) the_record
+pub is_kept : (image : ImageParts) → IsRecordOfScript (the_script image) the_record
 is_kept image = record { users = refl; commands = (refl, (refl, tt)) }
 
 -- ---- what each user did

@@ -33,7 +33,8 @@ has_bad_word read line = list_any (λ word. is_none (read word)) (words line)
 
 -- what the words of all lines are read as, one behind the other
 unfoldable pub bytes_of : (List ℕ → Option (List ℕ)) → List Line → List ℕ
-bytes_of read body = flat_map (λ line. flat_map (λ word. unwrap_or (read word) []) (words line)) body
+bytes_of read body =
+    flat_map (λ line. flat_map (λ word. unwrap_or (read word) []) (words line)) body
 
 -- ---- assembly
 
@@ -67,11 +68,14 @@ image_in Rki body = fields_of (bytes_of bytes_in body)
 -- why the body of the image on line `at` describes none
 unfoldable pub form_fault : ImageForm → ℕ → List Line → Option ScriptFault
 form_fault Hex at body =
-    option_or (fault_where (has_bad_word instruction_in) BadImage body) (option_map (λ cause. fault_at at BadImage) (parts_fault (image_in Hex body)))
+    option_or (fault_where (has_bad_word instruction_in) BadImage body)
+    (option_map (λ cause. fault_at at BadImage) (parts_fault (image_in Hex body)))
 form_fault Asm at body = fault_behind at (assembly_image (text_of body))
 form_fault Rki at body =
-    option_or (fault_where (has_bad_word bytes_in) BadImage body) (option_map (λ cause. fault_at at BadImage) (fault_of (bytes_of bytes_in body)))
+    option_or (fault_where (has_bad_word bytes_in) BadImage body)
+    (option_map (λ cause. fault_at at BadImage) (fault_of (bytes_of bytes_in body)))
 
 -- the first fault of the body of the image on line `at`: a bad byte comes before all else
 unfoldable pub body_fault : ImageForm → ℕ → List Line → Option ScriptFault
-body_fault form at body = option_or (fault_where has_bad_byte BadByte body) (form_fault form at body)
+body_fault form at body =
+    option_or (fault_where has_bad_byte BadByte body) (form_fault form at body)

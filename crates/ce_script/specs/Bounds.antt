@@ -37,5 +37,6 @@ pub record IsWithinLimits (script : Script) : Type 0 where
   pub user_names : AreNames script.users
   pub images : length script.images ≤ greatest_images
   pub image_names : AreNames (map (λ named. named.name) script.images)
-  pub commands : AllByRecursion (IsOwnCommandWithin (length script.users) (length script.images)) script.commands
+  pub commands : AllByRecursion (IsOwnCommandWithin (length script.users) (length script.images))
+      script.commands
   pub machine : script.dim ≡ None → IsSilent script

@@ -63,10 +63,12 @@ status_words (Stopped cause) = codes "stopped" ∷ stop_words cause
 -- a cube that is held, behind what stands before it
 abbrev pub grant_text : Record → Grant → List ℕ
 grant_text kept grant =
-    codes ", " ++ words (user_name kept grant.user ∷ codes "dim" ∷ decimal grant.dim ∷ subcube_words grant.sub)
+    codes ", "
+    ++ words (user_name kept grant.user ∷ codes "dim" ∷ decimal grant.dim ∷ subcube_words grant.sub)
 
 abbrev pub peeked_text : Record → Peeked → List ℕ
-peeked_text kept found = words (codes "free" ∷ decimal found.free ∷ []) ++ flat_map (grant_text kept) found.grants
+peeked_text kept found =
+    words (codes "free" ∷ decimal found.free ∷ []) ++ flat_map (grant_text kept) found.grants
 
 abbrev pub reply_text : Record → Answer → List ℕ
 reply_text kept NoCube = codes "no cube"
@@ -83,6 +85,7 @@ reply_text kept Already = codes "already"
 reply_text kept NoStore = codes "no store"
 reply_text kept Quiet = codes "quiet"
 reply_text kept Spent = codes "spent"
-reply_text kept (Message from bytes) = words (codes "message" ∷ place_text from ∷ bytes_text bytes ∷ [])
+reply_text kept (Message from bytes) =
+    words (codes "message" ∷ place_text from ∷ bytes_text bytes ∷ [])
 reply_text kept (State status) = words (status_words status)
 reply_text kept (Entries count) = words (codes "entries" ∷ decimal count ∷ [])

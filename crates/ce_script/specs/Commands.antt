@@ -14,7 +14,7 @@ use Rattle.ce_model.specs.declared.entry.KillFound.{KillFound}
 use Rattle.ce_model.specs.declared.entry.KillFound.TheVariants.{Killed, Unused as FoundUnused, Already as FoundAlready}
 use Rattle.ce_model.specs.Parcels.{Parcel, Item}
 use Rattle.ce_model.specs.Node.{is_place, process_at}
-use Rattle.ce_model.specs.Renaming.{CubeGrant, entry_inward}
+use Rattle.ce_model.specs.Renaming.{entry_inward}
 use Rattle.ce_model.specs.Trace.{sent_to}
 use Rattle.ce_model.specs.Cube.{Cube, CubeState, opening, hoststore, parcel_numbered, rest}
 use Rattle.ce_model.specs.Machine.{MachineParts, after, cube_of}
@@ -43,13 +43,16 @@ getcube_reply (Some sub) = Granted sub
 
 -- `getcube`: the cube that its entry grants, or none; where one is held already it makes no entry
 abbrev pub IsGetcube : ℕ → Option Holding → ℕ → Answer → List Entry → Type 0
-IsGetcube user None dim answer entries = (sub : Option Subcube) × (entries ≡ by_host user (GetcubeMade dim sub) ∷ []) × (answer ≡ getcube_reply sub)
+IsGetcube user None dim answer entries =
+    (sub : Option Subcube) × (entries ≡ by_host user (GetcubeMade dim sub) ∷ [])
+    × (answer ≡ getcube_reply sub)
 IsGetcube user (Some held) dim answer entries = IsAtOnce Held answer entries
 
 -- `peek`
 abbrev pub IsPeek : MachineParts → ℕ → Answer → List Moment → Type 0
 IsPeek machine user answer moments =
-    (before : List Entry) × (moments ≡ record { before = before; entry = by_host user PeekMade } ∷ [])
+    (before : List Entry)
+    × (moments ≡ record { before = before; entry = by_host user PeekMade } ∷ [])
     × (answer ≡ PeekFound (peeked machine (after before)))
 
 -- ---- at a place
@@ -62,7 +65,8 @@ IsAtPlace false answer segment P = IsAtOnce NoPlace answer segment
 -- `spawn`, by whether the id was fresh
 abbrev pub IsSpawn : ℕ → ℕ → Place → Answer → List Entry → Type 0
 IsSpawn user image to answer segment =
-    (fresh : Bool) × (segment ≡ by_host user (SpawnMade 0 image to fresh) ∷ []) × (answer ≡ (if fresh then Done else Used))
+    (fresh : Bool) × (segment ≡ by_host user (SpawnMade 0 image to fresh) ∷ [])
+    × (answer ≡ (if fresh then Done else Used))
 
 -- `kill`, by what it found
 abbrev pub kill_reply : KillFound → Answer
@@ -71,13 +75,16 @@ kill_reply FoundUnused = Unused
 kill_reply FoundAlready = Already
 
 abbrev pub IsKill : ℕ → Place → Answer → List Entry → Type 0
-IsKill user to answer segment = (found : KillFound) × (segment ≡ by_host user (KillMade 0 to found) ∷ []) × (answer ≡ kill_reply found)
+IsKill user to answer segment =
+    (found : KillFound) × (segment ≡ by_host user (KillMade 0 to found) ∷ [])
+    × (answer ≡ kill_reply found)
 
 -- `send`, by the blocks in the host's store before it
 abbrev pub IsSend : ℕ → List BlockId → Place → List ℕ → Answer → List Entry → Type 0
 IsSend user [] to bytes answer segment = IsAtOnce NoStore answer segment
 IsSend user (id ∷ others) to bytes answer segment =
-    (first : ℕ) × (segment ≡ by_host user (SendMade 0 first ((to, id) ∷ []) bytes) ∷ []) × (answer ≡ Done)
+    (first : ℕ) × (segment ≡ by_host user (SendMade 0 first ((to, id) ∷ []) bytes) ∷ [])
+    × (answer ≡ Done)
 
 -- ---- with rounds
 
@@ -88,13 +95,16 @@ run_reply FoundSpent = Some Spent
 run_reply Busy = None
 
 -- `run`: dispatches are allowed, then come rounds up to the first without work, then a look
-pub record IsRun (kind : RoundKind) (cube : Cube) (count : ℕ) (answer : Answer) (segment : List Entry) : Type 0 where
+pub record IsRun (kind : RoundKind) (cube : Cube) (count : ℕ) (answer : Answer)
+    (segment : List Entry) : Type 0 where
   pub rounds : List (List Entry)
   pub last : List Entry
   pub found : Found
   pub with_work : AllByRecursion (IsRoundWithWork kind cube.dim) rounds
   pub without_work : IsRoundWithoutWork kind cube.dim last
-  pub entries : segment ≡ by_host cube.user (Arm count) ∷ (joined rounds ++ (last ++ by_host cube.user (Look found) ∷ []))
+  pub entries : segment
+      ≡ by_host cube.user (Arm count)
+      ∷ (joined rounds ++ (last ++ by_host cube.user (Look found) ∷ []))
   pub reply : run_reply found ≡ Some answer
 
 -- how `recv` ends
@@ -113,8 +123,10 @@ host_take user number = by_host user (HostTake number)
 -- the entries of an end
 abbrev pub end_entries : ℕ → RecvEnd → List Entry
 end_entries user (message_next number) = host_take user (Some number) ∷ []
-end_entries user (message_behind_rest round number) = host_take user None ∷ (round ++ host_take user (Some number) ∷ [])
-end_entries user (no_message round found) = host_take user None ∷ (round ++ host_take user None ∷ by_host user (Look found) ∷ [])
+end_entries user (message_behind_rest round number) =
+    host_take user None ∷ (round ++ host_take user (Some number) ∷ [])
+end_entries user (no_message round found) =
+    host_take user None ∷ (round ++ host_take user None ∷ by_host user (Look found) ∷ [])
 
 -- the rounds without work at an end: one, or none where a message comes before one
 abbrev pub end_rounds : RecvEnd → List (List Entry)
@@ -138,50 +150,65 @@ recv_reply items (message_behind_rest round number) = message_reply (parcel_numb
 recv_reply items (no_message round found) = no_message_reply found
 
 -- `recv`: dispatches are allowed, then the host looks for a message, with a round between each two looks
-pub record IsRecv (kind : RoundKind) (cube : Cube) (items : List Item) (count : ℕ) (answer : Answer) (segment : List Entry) : Type 0 where
+pub record IsRecv (kind : RoundKind) (cube : Cube) (items : List Item) (count : ℕ) (answer : Answer)
+    (segment : List Entry) : Type 0 where
   pub rounds : List (List Entry)
   pub end : RecvEnd
   pub with_work : AllByRecursion (IsRoundWithWork kind cube.dim) rounds
   pub without_work : AllByRecursion (IsRoundWithoutWork kind cube.dim) (end_rounds end)
-  pub entries : segment ≡ by_host cube.user (Arm count) ∷ (flat_map (λ round. host_take cube.user None ∷ round) rounds ++ end_entries cube.user end)
+  pub entries : segment
+      ≡ by_host cube.user (Arm count)
+      ∷ (flat_map (λ round. host_take cube.user None ∷ round) rounds ++ end_entries cube.user end)
   pub reply : recv_reply items end ≡ Some answer
 
 -- ---- all commands
 
 -- a command in a cube, by the trace before it, but for those that ask for a cube, peek or give it back; the entries have the
 -- cube's numbers for its nodes
-abbrev pub IsCubeCommand : RoundKind → Cube → CubeState → List Entry → Command → Answer → List Entry → Type 0
+abbrev pub IsCubeCommand : RoundKind → Cube → CubeState → List Entry → Command → Answer → List Entry
+    → Type 0
 IsCubeCommand kind cube o t (Spawn image to) answer segment =
     IsAtPlace (is_place cube.dim to) answer segment (IsSpawn cube.user image to answer segment)
-IsCubeCommand kind cube o t (Kill to) answer segment = IsAtPlace (is_place cube.dim to) answer segment (IsKill cube.user to answer segment)
+IsCubeCommand kind cube o t (Kill to) answer segment =
+    IsAtPlace (is_place cube.dim to) answer segment (IsKill cube.user to answer segment)
 IsCubeCommand kind cube o t (Send to bytes) answer segment =
-    IsAtPlace (is_place cube.dim to) answer segment (IsSend cube.user (hoststore o t) to bytes answer segment)
-IsCubeCommand kind cube o t (Run count) answer segment = IsRun kind cube count answer segment × AreTurnsOver cube o (t ++ segment)
+    IsAtPlace (is_place cube.dim to) answer segment
+    (IsSend cube.user (hoststore o t) to bytes answer segment)
+IsCubeCommand kind cube o t (Run count) answer segment =
+    IsRun kind cube count answer segment × AreTurnsOver cube o (t ++ segment)
 IsCubeCommand kind cube o t (Recv count) answer segment =
-    IsRecv kind cube (sent_to o.standing HOST (t ++ segment)) count answer segment × AreTurnsOver cube o (t ++ segment)
+    IsRecv kind cube (sent_to o.standing HOST (t ++ segment)) count answer segment
+    × AreTurnsOver cube o (t ++ segment)
 IsCubeCommand kind cube o t (Dump at) answer segment =
-    IsAtPlace (is_place cube.dim at) answer segment (IsAtOnce (State (process_at (rest cube o at.node t) at.pid).status) answer segment)
+    IsAtPlace (is_place cube.dim at) answer segment
+    (IsAtOnce (State (process_at (rest cube o at.node t) at.pid).status) answer segment)
 IsCubeCommand kind cube o t Trace answer segment = IsAtOnce (Entries (length t)) answer segment
 IsCubeCommand kind cube o t other answer segment = ⊥
 
 -- `freecube`: what waits is taken away, and then the cube is given back
 abbrev pub IsFreecube : ℕ → Answer → List Entry → Type 0
-IsFreecube user answer entries = (answer ≡ Freed) × (entries ≡ by_host user Drain ∷ by_host user FreecubeMade ∷ [])
+IsFreecube user answer entries =
+    (answer ≡ Freed) × (entries ≡ by_host user Drain ∷ by_host user FreecubeMade ∷ [])
 
 -- a command of who holds this cube
 abbrev pub IsHolderCommand : RoundKind → Cube → Holding → Command → Answer → List Entry → Type 0
 IsHolderCommand kind cube held Freecube answer entries = IsFreecube cube.user answer entries
 IsHolderCommand kind cube held other answer entries =
-    IsCubeCommand kind cube (opening cube) held.trace other answer (map (entry_inward held.grant.sub) entries)
+    IsCubeCommand kind cube (opening cube) held.trace other answer
+    (map (entry_inward held.grant.sub) entries)
 
 -- a command that wants a cube
-abbrev pub IsWithCube : RoundKind → MachineParts → Option Holding → Command → Answer → List Entry → Type 0
+abbrev pub IsWithCube : RoundKind → MachineParts → Option Holding → Command → Answer → List Entry
+    → Type 0
 IsWithCube kind machine None command answer entries = IsAtOnce NoCube answer entries
 IsWithCube kind machine (Some held) command answer entries =
     IsHolderCommand kind (cube_of machine.images held.grant) held command answer entries
 
 -- a user's command, by the cube that it holds: what it is answered, and the moments of its entries
-abbrev pub IsCommand : RoundKind → MachineParts → ℕ → Option Holding → Command → Answer → List Moment → Type 0
-IsCommand kind machine user held (Getcube dim) answer moments = IsGetcube user held dim answer (entries_of moments)
+abbrev pub IsCommand : RoundKind → MachineParts → ℕ → Option Holding → Command → Answer
+    → List Moment → Type 0
+IsCommand kind machine user held (Getcube dim) answer moments =
+    IsGetcube user held dim answer (entries_of moments)
 IsCommand kind machine user held Peek answer moments = IsPeek machine user answer moments
-IsCommand kind machine user held other answer moments = IsWithCube kind machine held other answer (entries_of moments)
+IsCommand kind machine user held other answer moments =
+    IsWithCube kind machine held other answer (entries_of moments)

@@ -24,10 +24,12 @@ held_after doings = holding (flat_map (λ doing. entries_of doing.moments) doing
 
 -- a command has the entries and the reply that it must have behind those before it
 abbrev pub IsDone : RoundKind → MachineParts → ℕ → List Doing → Doing → Type 0
-IsDone kind machine user before doing = IsCommand kind machine user (held_after before) doing.command doing.answer doing.moments
+IsDone kind machine user before doing =
+    IsCommand kind machine user (held_after before) doing.command doing.answer doing.moments
 
 -- this is what a user did: its commands with their replies, whose entries are all of the user's, one command behind the other
-pub record AreDoings (kind : RoundKind) (machine : MachineParts) (history : List Entry) (user : ℕ) (done : List (Command × Answer)) (doings : List Doing) : Type 0 where
+pub record AreDoings (kind : RoundKind) (machine : MachineParts) (history : List Entry) (user : ℕ)
+    (done : List (Command × Answer)) (doings : List Doing) : Type 0 where
   pub replies : map (λ doing. (doing.command, doing.answer)) doings ≡ done
   pub entries : flat_map (λ doing. doing.moments) doings ≡ moments_of user history
   pub each : EachAfter (IsDone kind machine user) [] doings
@@ -36,10 +38,13 @@ pub record AreDoings (kind : RoundKind) (machine : MachineParts) (history : List
 
 -- a getcube is answered `held` exactly where its user holds a cube, and `none` exactly where it holds none and at the entry no
 -- subcube of this dimension is free
-pub record IsRefusedExactly (machine : MachineParts) (holds : Option Holding) (dim : ℕ) (doing : Doing) : Type 0 where
+pub record IsRefusedExactly (machine : MachineParts) (holds : Option Holding) (dim : ℕ)
+    (doing : Doing) : Type 0 where
   pub held : (doing.answer ≡ Held) ↔ IsTrue (is_some holds)
   pub none : (doing.answer ≡ Nothing)
-      ↔ ((holds ≡ None) × IsSomeAnd (slice_get doing.moments 0) (λ moment. first_free (is_free (after moment.before)) machine.dim dim ≡ None))
+      ↔ ((holds ≡ None)
+      × IsSomeAnd (slice_get doing.moments 0)
+      (λ moment. first_free (is_free (after moment.before)) machine.dim dim ≡ None))
 
 -- the command is no getcube, or is refused exactly where it must be
 abbrev pub IsRefusedIfGetcube : MachineParts → List Doing → Doing → Type 0

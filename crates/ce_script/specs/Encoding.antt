@@ -20,11 +20,13 @@ use Rattle.rv_model.specs.Words.{cut}
 
 -- R
 abbrev pub r_word : (opcode funct3 funct7 rd rs1 rs2 : ℕ) → ℕ
-r_word opcode funct3 funct7 rd rs1 rs2 = funct7 * 2 ^ 25 + rs2 * 2 ^ 20 + rs1 * 2 ^ 15 + funct3 * 2 ^ 12 + rd * 2 ^ 7 + opcode
+r_word opcode funct3 funct7 rd rs1 rs2 =
+    funct7 * 2 ^ 25 + rs2 * 2 ^ 20 + rs1 * 2 ^ 15 + funct3 * 2 ^ 12 + rd * 2 ^ 7 + opcode
 
 -- I: bits 11..0 are bits 31..20
 abbrev pub i_word : (opcode funct3 rd rs1 : ℕ) → ℤ → ℕ
-i_word opcode funct3 rd rs1 imm = cast_unsigned w32 imm % 2 ^ 12 * 2 ^ 20 + rs1 * 2 ^ 15 + funct3 * 2 ^ 12 + rd * 2 ^ 7 + opcode
+i_word opcode funct3 rd rs1 imm =
+    cast_unsigned w32 imm % 2 ^ 12 * 2 ^ 20 + rs1 * 2 ^ 15 + funct3 * 2 ^ 12 + rd * 2 ^ 7 + opcode
 
 -- S: bits 11..5 are bits 31..25, and bits 4..0 are bits 11..7
 abbrev pub s_word : (opcode funct3 rs1 rs2 : ℕ) → ℤ → ℕ
@@ -36,7 +38,8 @@ s_word opcode funct3 rs1 rs2 imm =
 abbrev pub b_word : (opcode funct3 rs1 rs2 : ℕ) → ℤ → ℕ
 b_word opcode funct3 rs1 rs2 offset =
     let n = cast_unsigned w32 offset in
-    cut 12 1 n * 2 ^ 31 + cut 5 6 n * 2 ^ 25 + rs2 * 2 ^ 20 + rs1 * 2 ^ 15 + funct3 * 2 ^ 12 + cut 1 4 n * 2 ^ 8 + cut 11 1 n * 2 ^ 7 + opcode
+    cut 12 1 n * 2 ^ 31 + cut 5 6 n * 2 ^ 25 + rs2 * 2 ^ 20 + rs1 * 2 ^ 15 + funct3 * 2 ^ 12
+    + cut 1 4 n * 2 ^ 8 + cut 11 1 n * 2 ^ 7 + opcode
 
 -- U: bits 31..12 stay where they are
 abbrev pub u_word : (opcode rd imm : ℕ) → ℕ
@@ -46,7 +49,8 @@ u_word opcode rd imm = imm + rd * 2 ^ 7 + opcode
 abbrev pub j_word : (opcode rd : ℕ) → ℤ → ℕ
 j_word opcode rd offset =
     let n = cast_unsigned w32 offset in
-    cut 20 1 n * 2 ^ 31 + cut 1 10 n * 2 ^ 21 + cut 11 1 n * 2 ^ 20 + cut 12 8 n * 2 ^ 12 + rd * 2 ^ 7 + opcode
+    cut 20 1 n * 2 ^ 31 + cut 1 10 n * 2 ^ 21 + cut 11 1 n * 2 ^ 20 + cut 12 8 n * 2 ^ 12
+    + rd * 2 ^ 7 + opcode
 
 -- ---- instructions
 

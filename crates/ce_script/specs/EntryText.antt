@@ -56,10 +56,13 @@ abbrev pub what_words : Script → What → List (List ℕ)
 what_words script (Arm count) = codes "arm" ∷ decimal count ∷ []
 what_words script (Look found) = codes "look" ∷ found_text found ∷ []
 what_words script (HostTake number) = codes "get" ∷ number_text number ∷ []
-what_words script (Send pid first to bytes) = codes "send" ∷ decimal pid ∷ decimal first ∷ targets_text to ∷ bytes_text bytes ∷ []
+what_words script (Send pid first to bytes) =
+    codes "send" ∷ decimal pid ∷ decimal first ∷ targets_text to ∷ bytes_text bytes ∷ []
 what_words script (Spawn pid image to fresh) =
-    codes "spawn" ∷ decimal pid ∷ image_name script image ∷ place_text to ∷ (if fresh then codes "ok" else codes "used") ∷ []
-what_words script (Kill pid to found) = codes "kill" ∷ decimal pid ∷ place_text to ∷ kill_found_text found ∷ []
+    codes "spawn" ∷ decimal pid ∷ image_name script image ∷ place_text to
+    ∷ (if fresh then codes "ok" else codes "used") ∷ []
+what_words script (Kill pid to found) =
+    codes "kill" ∷ decimal pid ∷ place_text to ∷ kill_found_text found ∷ []
 what_words script (Note pid word) = codes "note" ∷ decimal pid ∷ decimal word ∷ []
 what_words script (Take asking dead poller given) =
     codes "take" ∷ decimal asking ∷ decimal dead ∷ number_text poller ∷ given_words script given

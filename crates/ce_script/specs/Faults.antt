@@ -35,7 +35,9 @@ has_unknown_form shorter = false
 
 -- the first word is no verb, or the third word of an image is no form
 abbrev pub is_unknown : Statement → Bool
-is_unknown statement = is_none (verb_of (words statement.line)) || (is_of is_image statement && has_unknown_form (words statement.line))
+is_unknown statement =
+    is_none (verb_of (words statement.line))
+    || (is_of is_image statement && has_unknown_form (words statement.line))
 
 -- the words that belong behind the first word
 abbrev pub expected : Statement → List Operand
@@ -49,7 +51,8 @@ has_wrong_count statement = not (length (words statement.line) == 1 + length (ex
 
 -- it is no `machine`, and none is before it
 abbrev pub lacks_machine : Spot Statement → Bool
-lacks_machine spot = not (is_of is_machine spot.here) && not (list_any (is_of is_machine) spot.before)
+lacks_machine spot =
+    not (is_of is_machine spot.here) && not (list_any (is_of is_machine) spot.before)
 
 -- it is a `machine` behind another
 abbrev pub is_second_machine : Spot Statement → Bool
@@ -66,15 +69,19 @@ is_among names name = list_any (bytes_eq name) names
 -- what is wrong with an operand, where the earlier images have these names
 abbrev pub operand_fault : List (List ℕ) → Operand → List ℕ → Option ScriptKind
 operand_fault images (Number most) word = refused (is_none (number_to most word)) BadNumber
-operand_fault images NewImage word = option_or (refused (not (is_name word)) BadName) (refused (is_among images word) NameTaken)
+operand_fault images NewImage word =
+    option_or (refused (not (is_name word)) BadName) (refused (is_among images word) NameTaken)
 operand_fault images Form word = None
-operand_fault images OldImage word = option_or (refused (not (is_name word)) BadName) (refused (not (is_among images word)) UnknownImage)
+operand_fault images OldImage word =
+    option_or (refused (not (is_name word)) BadName)
+    (refused (not (is_among images word)) UnknownImage)
 operand_fault images Name word = refused (not (is_name word)) BadName
 operand_fault images Data word = refused (is_none (data_in word)) BadHex
 
 -- what is wrong with the operand at a place
 abbrev pub placed_fault : Spot Statement → ℕ × Operand → Option ScriptKind
-placed_fault spot placed = operand_fault (image_names spot.before) placed.1 (operand placed.0 spot.here)
+placed_fault spot placed =
+    operand_fault (image_names spot.before) placed.1 (operand placed.0 spot.here)
 
 -- what is wrong with the operands, from left to right
 unfoldable pub operands_fault : Spot Statement → Option ScriptKind
@@ -113,11 +120,14 @@ line_fault spot = first_some (line_faults spot)
 -- the first fault of the body of an image
 abbrev pub image_fault : Statement → Option ScriptFault
 image_fault statement =
-    option_and_then (λ form. option_and_then (body_fault form statement.line.number) statement.body) (form_of (operand 2 statement))
+    option_and_then (λ form. option_and_then (body_fault form statement.line.number) statement.body)
+    (form_of (operand 2 statement))
 
 -- the first fault of a statement: of its own line, and then of its body
 abbrev pub statement_fault : Spot Statement → Option ScriptFault
-statement_fault spot = option_or (option_map (fault_at spot.here.line.number) (line_fault spot)) (image_fault spot.here)
+statement_fault spot =
+    option_or (option_map (fault_at spot.here.line.number) (line_fault spot))
+    (image_fault spot.here)
 
 -- the first fault of a text
 unfoldable pub first_fault : List ℕ → Option ScriptFault

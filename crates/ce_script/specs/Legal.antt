@@ -23,7 +23,8 @@ images_of script = map (λ named. named.image) script.images
 
 -- the machine of a script
 abbrev pub machine_of : Script → MachineParts
-machine_of script = record { dim = unwrap_or script.dim 0; users = length script.users; images = images_of script }
+machine_of script =
+    record { dim = unwrap_or script.dim 0; users = length script.users; images = images_of script }
 
 -- the commands of a user, by number, in the script's order
 abbrev pub commands_of : Script → ℕ → List Command
@@ -34,15 +35,18 @@ abbrev pub EachUser : (ℕ → UserRecord → Type 0) → Record → Type 0
 EachUser P kept = AllByRecursion (λ numbered. P numbered.0 numbered.1) (enumerate_from 0 kept.users)
 
 -- the record has the script's users, by number, each with all its commands, in the script's order
-pub record KeepsScript (script : Script) (kept : Record) : Type 0 where
+pub record IsRecordOfScript (script : Script) (kept : Record) : Type 0 where
   pub users : map (λ user. user.name) kept.users ≡ script.users
-  pub commands : EachUser (λ number user. map (λ done. done.0) user.done ≡ commands_of script number) kept
+  pub commands : EachUser
+      (λ number user. map (λ done. done.0) user.done ≡ commands_of script number) kept
 
 -- ---- the record
 
 -- this holds of each cube that a history grants, and of its trace
 abbrev pub EachCube : (Cube → List Entry → Type 0) → List ImageParts → List Entry → Type 0
-EachCube P images history = AllByRecursion (λ numbered. P (cube_of images numbered.1) (view history numbered.0)) (enumerate_from 0 (grants_of history))
+EachCube P images history =
+    AllByRecursion (λ numbered. P (cube_of images numbered.1) (view history numbered.0))
+    (enumerate_from 0 (grants_of history))
 
 -- The model allows the record, all of whose rounds are of this kind: its users and commands are the script's; the machine allows its
 -- history, which is empty where there are no users; each user's replies and entries are those of its commands; each cube's trace is
@@ -50,10 +54,13 @@ EachCube P images history = AllByRecursion (λ numbered. P (cube_of images numbe
 -- where it must be.
 pub record IsLegal (kind : RoundKind) (script : Script) (kept : Record) : Type 0 where
   pub doings : ℕ → List Doing
-  pub keeps : KeepsScript script kept
+  pub keeps : IsRecordOfScript script kept
   pub lawful : IsLawful (machine_of script) kept.history
-  pub does : EachUser (λ number user. AreDoings kind (machine_of script) kept.history number user.done (doings number)) kept
+  pub does : EachUser
+      (λ number user.
+      AreDoings kind (machine_of script) kept.history number user.done (doings number)) kept
   pub alone : EachCube IsAlone (images_of script) kept.history
   pub owned : EachCube (λ cube t. IsOwned cube (opening cube) t) (images_of script) kept.history
-  pub in_order : EachCube (λ cube t. IsInOrder (opening cube).standing t) (images_of script) kept.history
+  pub in_order : EachCube (λ cube t. IsInOrder (opening cube).standing t) (images_of script)
+      kept.history
   pub refused : EachUser (λ number user. AreRefusedExactly (machine_of script) (doings number)) kept

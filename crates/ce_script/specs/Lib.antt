@@ -13,6 +13,7 @@ pub mod Lines
 pub mod Load
 pub mod Moments
 pub mod Names
+pub mod Places
 pub mod ReadLines
 pub mod ReadWords
 pub mod Reading

@@ -16,7 +16,9 @@ pub record Spot (A : Type 0) : Type 0 where
 -- the spots of a list that stands behind these members
 abbrev pub spots_behind : {A : Type 0} → List A → List A → List (Spot A)
 spots_behind before [] = []
-spots_behind before (here ∷ behind) = record { before = before; here = here; behind = behind } ∷ spots_behind (before ++ here ∷ []) behind
+spots_behind before (here ∷ behind) =
+    record { before = before; here = here; behind = behind }
+    ∷ spots_behind (before ++ here ∷ []) behind
 
 -- the spots of a list
 abbrev pub spots : {A : Type 0} → List A → List (Spot A)
@@ -31,7 +33,8 @@ pub record Line : Type 0 where
 
 -- the lines of a text, which end with a line feed or with the text, counted from 1
 unfoldable pub lines : List ℕ → List Line
-lines text = map (λ line. record { number = line.0; text = line.1 }) (enumerate_from 1 (line_texts text))
+lines text =
+    map (λ line. record { number = line.0; text = line.1 }) (enumerate_from 1 (line_texts text))
 
 -- the words of a line: what stands between blanks before its comment
 abbrev pub words : Line → List (List ℕ)

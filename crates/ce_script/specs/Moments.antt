@@ -12,7 +12,8 @@ pub record Moment : Type 0 where
 -- the moments of a history that goes on behind these entries
 abbrev pub moments_behind : List Entry → List Entry → List Moment
 moments_behind before [] = []
-moments_behind before (entry ∷ behind) = record { before = before; entry = entry } ∷ moments_behind (before ++ entry ∷ []) behind
+moments_behind before (entry ∷ behind) =
+    record { before = before; entry = entry } ∷ moments_behind (before ++ entry ∷ []) behind
 
 unfoldable pub moments : List Entry → List Moment
 moments history = moments_behind [] history
@@ -38,7 +39,8 @@ extended entry held = record held { trace = held.trace ++ entry_inward held.gran
 -- what a user holds, once it has made an entry
 abbrev pub holding_by : Option Holding → Entry → Option Holding
 holding_by held entry = elim entry.what [
-  | Getcube dim (Some sub) ↦ Some (record { grant = record { user = entry.user; dim = dim; sub = sub }; trace = [] })
+  | Getcube dim (Some sub) ↦ Some
+      (record { grant = record { user = entry.user; dim = dim; sub = sub }; trace = [] })
   | Getcube dim None ↦ held
   | Peek ↦ held
   | Drain ↦ held

@@ -14,4 +14,6 @@ is_name_byte byte = is_ascii_alphanumeric byte || byte == 95
 -- a letter first, and letters, digits and `_` behind it
 unfoldable pub is_name : List ℕ → Bool
 is_name [] = false
-is_name (byte ∷ bytes) = is_ascii_alphabetic byte && list_all is_name_byte bytes && nat_le (length (byte ∷ bytes)) name_room
+is_name (byte ∷ bytes) =
+    is_ascii_alphabetic byte && list_all is_name_byte bytes
+    && nat_le (length (byte ∷ bytes)) name_room

@@ -1,7 +1,6 @@
 -- The lines that the reader has, as the definitions see them.
 use Rattle.std.specs.Prelude.{◌≡◌, ℕ, ◌+◌, ◌<◌, ◌≤◌, ◌==◌, Bool, true, false, ◌||◌, if◌then◌else◌, List, [], ◌∷◌, ◌++◌, Option, Some, None, map, length, option_map, suc}
 use Rattle.std.specs.List.{enumerate_from, slice_split}
-use Rattle.std.specs.Borrow.{Bor}
 use Rattle.ce_text.specs.Bytes.{is_line_feed}
 use Rattle.ce_script.specs.declared.reader.line.WordedLine.{WordedLine}
 use Rattle.ce_script.specs.declared.reader.rest.Rest.{Rest}
@@ -25,7 +24,8 @@ texts_left (Some text) = slice_split is_line_feed text
 
 -- lines with these texts, the first of which has this number
 abbrev pub numbered : ℕ → List (List ℕ) → List Line
-numbered first texts = map (λ line. record { number = line.0; text = line.1 }) (enumerate_from first texts)
+numbered first texts =
+    map (λ line. record { number = line.0; text = line.1 }) (enumerate_from first texts)
 
 -- the bytes that are left
 abbrev pub left_of : Rest → Option (List ℕ)

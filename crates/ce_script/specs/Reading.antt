@@ -1,24 +1,18 @@
 -- How a statement is judged part by part as it is read: what is judged when, and what is made of it.
-use Rattle.std.specs.Prelude.{◌≡◌, ℕ, ◌+◌, ◌≤◌, ◌<◌, Bool, false, not, ◌&&◌, ◌||◌, ◌==◌, nat_lt, if◌then◌else◌, List, [], ◌∷◌, ◌++◌, map, filter_map, length, Option, Some, None, is_some, option_map, IfSome, Result, Ok, Err, suc}
-use Rattle.std.specs.List.{list_any, enumerate_from, slice_split}
+use Rattle.std.specs.Prelude.{◌≡◌, ℕ, Bool, not, ◌&&◌, nat_lt, if◌then◌else◌, List, [], ◌∷◌, ◌++◌, map, length, Option, Some, None, Result, Ok, Err}
+use Rattle.std.specs.List.{enumerate_from}
 use Rattle.std.specs.Option.{option_or}
-use Rattle.std.specs.Borrow.{Bor}
-use Rattle.ce_model.specs.Limits.{greatest_users, greatest_images}
-use Rattle.ce_host.specs.declared.command.Command.{Command}
-use Rattle.ce_text.specs.Bytes.{is_line_feed}
+use Rattle.ce_model.specs.Limits.{greatest_users}
 use Rattle.rv_asm.specs.declared.fault.AsmKind.TheVariants as asm
 use Rattle.ce_script.specs.declared.grammar.Verb.{Verb}
-use Rattle.ce_script.specs.declared.script.Named.{Named}
-use Rattle.ce_script.specs.declared.script.Script.{Script}
 use Rattle.ce_script.specs.declared.script.ScriptFault.{ScriptFault}
 use Rattle.ce_script.specs.declared.script.ScriptKind.{ScriptKind}
 use Rattle.ce_script.specs.declared.script.ScriptKind.TheVariants.{BadByte, UnknownWord, WordCount, NoMachine, SecondMachine, NoUser, BadName, TooMany, Assembly, Memory}
-use Rattle.ce_script.specs.Lines.{Line, Spot, spots, spots_behind, words, has_bad_byte}
+use Rattle.ce_script.specs.Lines.{has_bad_byte}
 use Rattle.ce_script.specs.Names.{is_name}
-use Rattle.ce_script.specs.Verbs.{is_machine, is_image, is_user, is_command, operands_of}
-use Rattle.ce_script.specs.Statements.{Statement, operand, is_of, is_end, begins_image, body_in}
-use Rattle.ce_script.specs.Sayings.{number_of, dimension, images, image_names, users, last_user, command_at, commands}
-use Rattle.ce_script.specs.Faults.{first_some, refused, is_unknown, has_wrong_count, is_among, operand_fault, statement_fault}
+use Rattle.ce_script.specs.Verbs.{is_machine, is_command, operands_of}
+use Rattle.ce_script.specs.Statements.{Statement, operand}
+use Rattle.ce_script.specs.Faults.{first_some, refused, is_unknown, has_wrong_count, is_among, operand_fault}
 
 -- ---- judgments
 
@@ -29,32 +23,36 @@ Unless (Assembly (asm.Memory want)) known = ⊥
 Unless kind known = known
 
 -- a call answered this value where there is no fault, and else the fault, unless memory ran out
-abbrev pub Judges : {A : Type 0} → Result A ScriptKind → Option ScriptKind → Option A → Type 0
-Judges (Ok x) fault value = (fault ≡ None) × (value ≡ Some x)
-Judges (Err kind) fault value = Unless kind (fault ≡ Some kind)
+abbrev pub HasJudged : {A : Type 0} → Result A ScriptKind → Option ScriptKind → Option A → Type 0
+HasJudged (Ok x) fault value = (fault ≡ None) × (value ≡ Some x)
+HasJudged (Err kind) fault value = Unless kind (fault ≡ Some kind)
 
 -- the same of a call whose fault has a line
-abbrev pub Finds : {A : Type 0} → Result A ScriptFault → Option ScriptFault → Option A → Type 0
-Finds (Ok x) fault value = (fault ≡ None) × (value ≡ Some x)
-Finds (Err it) fault value = Unless it.kind (fault ≡ Some it)
+abbrev pub HasFound : {A : Type 0} → Result A ScriptFault → Option ScriptFault → Option A → Type 0
+HasFound (Ok x) fault value = (fault ≡ None) × (value ≡ Some x)
+HasFound (Err it) fault value = Unless it.kind (fault ≡ Some it)
 
 -- ---- what is wrong with a line, in the parts in which it is judged
 
 -- with its bytes and words alone
 unfoldable pub word_fault : Statement → Option ScriptKind
 word_fault here =
-    option_or (refused (has_bad_byte here.line) BadByte) (option_or (refused (is_unknown here) UnknownWord) (refused (has_wrong_count here) WordCount))
+    option_or (refused (has_bad_byte here.line) BadByte)
+    (option_or (refused (is_unknown here) UnknownWord) (refused (has_wrong_count here) WordCount))
 
 -- with its place, where there was a machine line before it or none, and a user line or none
 unfoldable pub place_fault : Bool → Bool → Verb → Option ScriptKind
 place_fault machine user verb =
     option_or (refused (not (is_machine verb) && not machine) NoMachine)
-    (option_or (refused (is_machine verb && machine) SecondMachine) (refused (is_command verb && not user) NoUser))
+    (option_or (refused (is_machine verb && machine) SecondMachine)
+    (refused (is_command verb && not user) NoUser))
 
 -- with its operands, where the earlier images have these names
 unfoldable pub operands_judged : List (List ℕ) → Verb → Statement → Option ScriptKind
 operands_judged names verb here =
-    first_some (map (λ placed. operand_fault names placed.1 (operand placed.0 here)) (enumerate_from 1 (operands_of verb)))
+    first_some
+    (map (λ placed. operand_fault names placed.1 (operand placed.0 here))
+    (enumerate_from 1 (operands_of verb)))
 
 -- ---- users
 
@@ -64,4 +62,6 @@ with_name names name = if is_among names name then names else names ++ name ∷ 
 
 -- what is wrong with a user line behind these users
 abbrev pub user_fault : List (List ℕ) → List ℕ → Option ScriptKind
-user_fault names name = option_or (refused (not (is_name name)) BadName) (refused (nat_lt greatest_users (length (with_name names name))) TooMany)
+user_fault names name =
+    option_or (refused (not (is_name name)) BadName)
+    (refused (nat_lt greatest_users (length (with_name names name))) TooMany)

@@ -41,7 +41,8 @@ number_at place statement = unwrap_or (number_to greatest_number (operand place 
 
 -- the node and the process id that two operands write, the first of them this one
 abbrev pub place_at : ℕ → Statement → Place
-place_at place statement = record { node = number_at place statement; pid = number_at (place + 1) statement }
+place_at place statement =
+    record { node = number_at place statement; pid = number_at (place + 1) statement }
 
 -- ---- the machine, the images and the users
 
@@ -52,11 +53,15 @@ dimension all = option_map (number_at 1) (find (is_of is_machine) all)
 -- the image that a statement begins
 abbrev pub image_said : Statement → ImageParts
 image_said statement =
-    unwrap_or (option_and_then (λ form. option_map (image_in form) statement.body) (form_of (operand 2 statement))) nothing_loaded
+    unwrap_or
+    (option_and_then (λ form. option_map (image_in form) statement.body)
+    (form_of (operand 2 statement))) nothing_loaded
 
 -- the images, by number, in the order of their statements
 unfoldable pub images : List Statement → List Named
-images all = map (λ statement. record { name = operand 1 statement; image = image_said statement }) (of_kind is_image all)
+images all =
+    map (λ statement. record { name = operand 1 statement; image = image_said statement })
+    (of_kind is_image all)
 
 -- the names of the images, by number
 unfoldable pub image_names : List Statement → List (List ℕ)
@@ -76,9 +81,11 @@ command_by User images statement = None
 command_by Getcube images statement = Some (made.Getcube (number_at 1 statement))
 command_by Peek images statement = Some made.Peek
 command_by Freecube images statement = Some made.Freecube
-command_by Spawn images statement = Some (made.Spawn (number_of (operand 1 statement) images) (place_at 2 statement))
+command_by Spawn images statement =
+    Some (made.Spawn (number_of (operand 1 statement) images) (place_at 2 statement))
 command_by Kill images statement = Some (made.Kill (place_at 1 statement))
-command_by Send images statement = Some (made.Send (place_at 1 statement) (unwrap_or (data_in (operand 3 statement)) []))
+command_by Send images statement =
+    Some (made.Send (place_at 1 statement) (unwrap_or (data_in (operand 3 statement)) []))
 command_by Run images statement = Some (made.Run (number_at 1 statement))
 command_by Recv images statement = Some (made.Recv (number_at 1 statement))
 command_by Dump images statement = Some (made.Dump (place_at 1 statement))
@@ -86,7 +93,8 @@ command_by Trace images statement = Some made.Trace
 
 -- the command of a statement, where it is one and the images have these names
 unfoldable pub command_in : List (List ℕ) → Statement → Option Command
-command_in images statement = option_and_then (λ verb. command_by verb images statement) (verb_of (words statement.line))
+command_in images statement =
+    option_and_then (λ verb. command_by verb images statement) (verb_of (words statement.line))
 
 -- the name in the last `user` statement
 abbrev pub last_user : List Statement → List ℕ
@@ -94,7 +102,9 @@ last_user before = unwrap_or (last_or None (names_in (of_kind is_user before))) 
 
 -- the command of a statement among all, with the number of the user whose `user` statement comes last before it
 abbrev pub command_at : List Statement → Spot Statement → Option (ℕ × Command)
-command_at all spot = option_map (λ command. (number_of (last_user spot.before) (users all), command)) (command_in (image_names all) spot.here)
+command_at all spot =
+    option_map (λ command. (number_of (last_user spot.before) (users all), command))
+    (command_in (image_names all) spot.here)
 
 -- the commands, each with its user's number
 unfoldable pub commands : List Statement → List (ℕ × Command)

@@ -27,4 +27,6 @@ HasFault text = (fault : ScriptFault) × (first_fault text ≡ Some fault)
 
 -- A text is exactly one script.
 abbrev pub IsOneScript : List ℕ → Type 0
-IsOneScript text = (script : Script) × IsScript text script × ((other : Script) → IsScript text other → other ≡ script)
+IsOneScript text =
+    (script : Script) × IsScript text script
+    × ((other : Script) → IsScript text other → other ≡ script)

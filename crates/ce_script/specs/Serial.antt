@@ -17,4 +17,7 @@ pub record IsSerial (script : Script) (kept : Record) : Type 0 where
   pub doings : List (ℕ × Doing)
   pub commands : map (λ own. (own.0, own.1.command)) doings ≡ script.commands
   pub together : flat_map (λ own. own.1.moments) doings ≡ moments kept.history
-  pub each : EachUser (λ number user. AreDoings serial (machine_of script) kept.history number user.done (doings_of number doings)) kept
+  pub each : EachUser
+      (λ number user.
+      AreDoings serial (machine_of script) kept.history number user.done (doings_of number doings))
+      kept

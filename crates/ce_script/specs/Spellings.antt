@@ -17,7 +17,8 @@ greatest_number = 4294967295
 
 -- the number that a word writes in decimal digits, where it writes one that is at most this
 unfoldable pub number_to : ℕ → List ℕ → Option ℕ
-number_to most word = if nat_le (length word) number_digits then number_of_digits 10 most word else None
+number_to most word =
+    if nat_le (length word) number_digits then number_of_digits 10 most word else None
 
 -- ---- bytes
 
@@ -37,7 +38,9 @@ bytes_in word = if are_byte_digits word then Some (digit_bytes word) else None
 
 -- the bytes of an instruction word, which has eight digits, the lowest first
 unfoldable pub instruction_in : List ℕ → Option (List ℕ)
-instruction_in word = if are_digits 16 word && (length word == 8) then Some (to_le_bytes w32 (digits_value 16 word)) else None
+instruction_in word =
+    if are_digits 16 word && (length word == 8) then Some (to_le_bytes w32 (digits_value 16 word))
+    else None
 
 -- the bytes of a message, as many as a block can hold; `-` is none
 unfoldable pub data_in : List ℕ → Option (List ℕ)

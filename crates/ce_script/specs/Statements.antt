@@ -46,11 +46,14 @@ body_in behind = if list_any is_end behind then Some (before_first is_end behind
 
 -- the statement of a line
 abbrev pub statement_of : Spot Line → Statement
-statement_of spot = record { line = spot.here; body = if begins_image spot.here then body_in spot.behind else None }
+statement_of spot =
+    record { line = spot.here; body = if begins_image spot.here then body_in spot.behind else None }
 
 -- a statement stands on each line that has words and is not inside an image
 unfoldable pub statement_at : Spot Line → Option Statement
-statement_at spot = if (length (words spot.here) == 0) || is_inside spot.before then None else Some (statement_of spot)
+statement_at spot =
+    if (length (words spot.here) == 0) || is_inside spot.before then None
+    else Some (statement_of spot)
 
 -- the statements of a text, in order
 unfoldable pub statements : List ℕ → List Statement

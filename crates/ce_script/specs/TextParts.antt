@@ -21,7 +21,8 @@ line pieces = words pieces ++ 10 ∷ []
 
 -- the name of an image, by number
 abbrev pub image_name : Script → ℕ → List ℕ
-image_name script image = unwrap_or (option_map (λ named. named.name) (slice_get script.images image)) []
+image_name script image =
+    unwrap_or (option_map (λ named. named.name) (slice_get script.images image)) []
 
 -- the name of a user, by number
 abbrev pub user_name : Record → ℕ → List ℕ
@@ -38,11 +39,15 @@ bytes_text (byte ∷ bytes) = encode_lower (byte ∷ bytes)
 
 -- a place of a cube
 abbrev pub place_text : Place → List ℕ
-place_text place = if place.node == HOST then codes "host.0" else decimal place.node ++ codes "." ++ decimal place.pid
+place_text place =
+    if place.node == HOST then codes "host.0"
+    else decimal place.node ++ codes "." ++ decimal place.pid
 
 -- a block of a cube
 abbrev pub block_text : BlockId → List ℕ
-block_text id = (if id.home == host_home then codes "host" else decimal id.home) ++ codes "." ++ decimal id.index
+block_text id =
+    (if id.home == host_home then codes "host" else decimal id.home)
+    ++ codes "." ++ decimal id.index
 
 -- a subcube
 abbrev pub subcube_words : Subcube → List (List ℕ)

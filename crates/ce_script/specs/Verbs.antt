@@ -1,16 +1,13 @@
 -- What statements begin with, and what belongs behind it.
-use Rattle.std.specs.Prelude.{ℕ, Bool, true, false, List, [], ◌∷◌, Option, None, option_map, find, bytes_eq, codes}
+use Rattle.std.specs.Prelude.{ℕ, Bool, true, false, List, [], ◌∷◌, Option, None, codes}
 use Rattle.std.specs.Option.{option_map_or}
+use Rattle.ce_text.specs.Table.{look_up}
 use Rattle.ce_model.specs.Limits.{greatest_dim, greatest_count}
 use Rattle.ce_script.specs.declared.grammar.Verb.{Verb}
 use Rattle.ce_script.specs.declared.grammar.Verb.TheVariants.{Machine, Image, User, Getcube, Peek, Freecube, Spawn, Kill, Send, Run, Recv, Dump, Trace}
 use Rattle.ce_script.specs.declared.grammar.ImageForm.{ImageForm}
 use Rattle.ce_script.specs.declared.grammar.ImageForm.TheVariants.{Hex, Asm, Rki}
 use Rattle.ce_script.specs.Spellings.{greatest_number}
-
--- the value of a table's row for a word
-abbrev pub look_up : {A : Type 0} → List (List ℕ × A) → List ℕ → Option A
-look_up table word = option_map (λ row. row.1) (find (λ row. bytes_eq row.0 word) table)
 
 -- the words that begin statements
 unfoldable pub verbs : List (List ℕ × Verb)

@@ -1,6 +1,9 @@
 //! The words of the language of scripts.
-ghost use Rattle.std.specs.Prelude.{◌≡◌, length, map};
-ghost use Rattle.ce_script.specs.Verbs.{look_up, verbs, form_of};
+ghost use Rattle.std.specs.Prelude.{◌≡◌, length};
+ghost use Rattle.ce_text.specs.Table.{look_up};
+ghost use Rattle.ce_script.specs.Verbs.{verbs, form_of};
+
+use ce_text::look_up;
 
 /// What a statement begins with.
 #[derive(Clone, Copy)]
@@ -54,18 +57,6 @@ const FORMS: [(&str, ImageForm); 3] = [
     ("asm", ImageForm::Asm),
     ("rki", ImageForm::Rki),
 ];
-
-/// The value of a table's first row for a word.
-fn look_up<T: Copy>(table: &[(&str, T)], word: &[u8]) -> Option<T>
-    ensures { result ≡ look_up (map (λ row. (row.0.now, row.1)) table.now) word.now }
-{
-    for (text, value) in table {
-        if text.as_bytes() == word {
-            return Some(*value);
-        }
-    }
-    None
-}
 
 /// What a statement with this first word is.
 #[tactic(auto, unfolding(crate::specs::Verbs::verbs))]

@@ -8,14 +8,15 @@ ghost use Rattle.ce_script.specs.Faults.{first_fault};
 ghost use Rattle.ce_script.specs.Scripts.{IsScript, IsNoMemory};
 
 mod body;
+mod index;
 mod line;
-mod names;
 mod operand;
 mod rest;
 mod state;
 
 use crate::script::{Script, ScriptFault};
 use ce_text::cut_at;
+use index::Indexes;
 use rest::Rest;
 use state::Reader;
 use std::alloc::Global;
@@ -32,6 +33,7 @@ pub fn read_script(alloc: Global, bytes: &[u8]) -> Result<Script, ScriptFault>
         → fault.kind ≢ Assembly (asm.Memory want)) }
 {
     let mut reader = Reader::new(alloc);
+    let mut indexes = Indexes::new(alloc);
     let mut rest = Rest {
         before: 0,
         text: Some(bytes),
@@ -42,7 +44,7 @@ pub fn read_script(alloc: Global, bytes: &[u8]) -> Result<Script, ScriptFault>
             before: rest.before + 1,
             text: behind,
         };
-        rest = reader.line(alloc, line, next)?;
+        rest = reader.line(alloc, &mut indexes, line, next)?;
     }
     Ok(reader.script)
 }

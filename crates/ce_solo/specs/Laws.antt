@@ -20,7 +20,7 @@ use Rattle.ce_model.specs.Sound.{is_start_of, is_kill_of, IsSound}
 use Rattle.ce_model.specs.Subcubes.{subcubes}
 use Rattle.ce_model.specs.Renaming.{CubeGrant, node_outward, saying_outward, heard_with, block_outward}
 use Rattle.ce_model.specs.Views.{from_grant, view}
-use Rattle.ce_model.specs.Machine.{MachineParts, IsMachine, Request, is_alone, Fits, IsLawfulEntry, IsLawful, cube_of}
+use Rattle.ce_model.specs.Machine.{MachineParts, IsMachine, Request, is_alone, IsFitting, IsLawfulEntry, IsLawful, cube_of}
 
 -- ---- a cube alone
 
@@ -97,8 +97,8 @@ IsForeign user actor entry request = ((entry.user == user) ≡ false) ⊎ (((ent
 -- made alone
 abbrev pub StillFits : Type 0
 StillFits = (parts : MachineParts) (history : List Entry) (user actor : ℕ) (request : Request) (entry : Entry) → IsMachine parts → IsLawful parts history
-    → Fits parts history user actor request → (lawful : IsLawfulEntry parts history entry) → IsForeign user actor entry lawful.request
-    → Fits parts (history ++ entry ∷ []) user actor request
+    → IsFitting parts history user actor request → (lawful : IsLawfulEntry parts history entry) → IsForeign user actor entry lawful.request
+    → IsFitting parts (history ++ entry ∷ []) user actor request
 
 -- ---- names of blocks
 

@@ -1,4 +1,5 @@
 pub mod Cutting
 pub mod Digits
 pub mod Splitting
+pub mod Tables
 pub mod WordCuts

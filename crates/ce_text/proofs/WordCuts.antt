@@ -1,8 +1,8 @@
 -- The first word of a line.
-use Rattle.std.proofs.Common.{◌≡◌, ℕ, suc, ◌+◌, ◌<◌, ◌≤◌, Bool, true, false, cond, not, eqb, List, [], ◌∷◌, length, take, Option, Some, None, refl, sym, ap, ◌∙◌, subst, arith}
+use Rattle.std.proofs.Common.{◌≡◌, ℕ, suc, ◌+◌, ◌<◌, Bool, true, false, cond, not, eqb, List, [], ◌∷◌, length, take, Option, Some, None, refl, sym, ap, ◌∙◌, arith}
 use Rattle.std.specs.Prelude.{filter}
 use Rattle.std.proofs.lemmas.Bool.{ne_eqb}
-use Rattle.std.specs.List.{slice_split, position_or_len, before_first}
+use Rattle.std.specs.List.{position_or_len, before_first}
 use Rattle.ce_text.specs.Bytes.{is_blank}
 use Rattle.ce_text.specs.Line.{cut, without_front_blanks}
 use Rattle.ce_text.specs.Words.{words}

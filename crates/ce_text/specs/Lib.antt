@@ -2,4 +2,5 @@ pub mod Bytes
 pub mod Line
 pub mod Name
 pub mod Number
+pub mod Table
 pub mod Words

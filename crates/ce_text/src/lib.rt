@@ -6,12 +6,14 @@ mod bytes;
 mod line;
 mod name;
 mod number;
+mod table;
 mod words;
 
 pub use bytes::{are_plain, has_byte, is_blank, is_digit, is_letter, is_plain};
 pub use line::{before_comment, cut_at, cut_at_blank, trimmed};
 pub use name::is_name;
 pub use number::number_of_digits;
+pub use table::look_up;
 pub use words::next_word;
 
 #[cfg(test)]

@@ -1,4 +1,4 @@
-use crate::{before_comment, cut_at, is_name, next_word, number_of_digits, trimmed};
+use crate::{before_comment, cut_at, is_name, look_up, next_word, number_of_digits, trimmed};
 use std::test::Fail;
 
 #[test]
@@ -47,4 +47,12 @@ fn numbers(rt: HostRuntime) -> Result<(), Fail> {
         );
     }
     Ok(())
+}
+
+#[test]
+fn first_row_of_a_text(rt: HostRuntime) {
+    let table = [("a", 1), ("ab", 2), ("a", 3)];
+    assert_eq!(rt; look_up(&table, b"a"), Some(1));
+    assert_eq!(rt; look_up(&table, b"ab"), Some(2));
+    assert_eq!(rt; look_up(&table, b"b"), None);
 }

@@ -1,5 +1,5 @@
 -- The last entries of a history, and those from a user's next entry on.
-use Rattle.std.proofs.Common.{◌≡◌, ℕ, suc, ◌+◌, ◌-◌, ◌<◌, ◌≤◌, ◌==◌, if◌then◌else◌, true, false, List, [], ◌∷◌, ◌++◌, refl, ap, sym, ◌∙◌, arith, drop, get_or, length, length-drop, inl, inr}
+use Rattle.std.proofs.Common.{◌≡◌, ℕ, suc, ◌+◌, ◌-◌, ◌<◌, ◌≤◌, ◌==◌, true, false, List, [], ◌∷◌, refl, ap, sym, ◌∙◌, arith, drop, get_or, length, length-drop, inl, inr}
 use Rattle.std.proofs.lemmas.Bool.{cases_Bool, eqb-true, eqb-false, cases_lt}
 use Rattle.std.proofs.lemmas.List.{drop_more, drop-drop, length_push, get_or_push, get_or_append_left}
 use Rattle.ce_model.specs.declared.entry.Entry.{Entry}

@@ -1,6 +1,6 @@
 -- The bits of a mask that count.
-use Rattle.std.proofs.Common.{◌≡◌, ℕ, suc, ◌/◌, ◌%◌, ◌==◌, if◌then◌else◌, ◌+◌, ◌*◌, refl, ap, arith}
-use Rattle.ce_model.specs.Limits.{greatest_dim, greatest_dim_lem}
+use Rattle.std.proofs.Common.{◌≡◌, ℕ, suc, ◌/◌, ◌%◌, ◌==◌, if◌then◌else◌, ◌+◌, ◌*◌, refl, arith}
+use Rattle.ce_model.specs.Limits.{greatest_dim}
 use Rattle.std.proofs.lemmas.Bool.{ne_eqb}
 use Rattle.ce_model.specs.declared.topology.TheConstants.{HOST}
 use Rattle.ce_model.specs.declared.topology.Subcube.{Subcube}

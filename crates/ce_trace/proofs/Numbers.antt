@@ -1,6 +1,6 @@
 -- The sections of a report, by number and by the history behind each grant.
-use Rattle.std.proofs.Common.{◌≡◌, ℕ, zero, suc, ◌+◌, ◌-◌, ◌==◌, List, [], ◌∷◌, ◌++◌, Bool, false, Option, Some, None, refl, ap, sym, ◌∙◌, arith}
-use Rattle.std.specs.List.{enumerate_from, filter_map, flat_map}
+use Rattle.std.proofs.Common.{◌≡◌, ℕ, ◌+◌, ◌-◌, ◌==◌, List, [], ◌∷◌, ◌++◌, false, Option, Some, None, refl, ap, ◌∙◌, arith}
+use Rattle.std.specs.List.{enumerate_from, flat_map}
 use Rattle.std.specs.Option.{option_map_or}
 use Rattle.std.proofs.lemmas.Bool.{ne_eqb}
 use Rattle.ce_model.specs.declared.entry.Entry.{Entry}
@@ -10,7 +10,7 @@ use Rattle.ce_script.specs.declared.record.Record.{Record}
 use Rattle.ce_script.specs.declared.script.Script.{Script}
 use Rattle.ce_script.specs.EntryText.{entry_line}
 use Rattle.ce_script.specs.Texts.{cube_line, cube_text}
-use Rattle.ce_trace.specs.Sections.{section_then, sections_text}
+use Rattle.ce_trace.specs.Sections.{sections_text}
 
 -- a section whose trace a function gives
 abbrev text_by : Script → Record → (ℕ → List Entry) → ℕ × CubeGrant → List ℕ

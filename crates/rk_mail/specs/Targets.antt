@@ -10,8 +10,8 @@ bytes_of [] = []
 bytes_of (target ∷ targets) = target.1.bytes
 
 -- all blocks have the bytes of the first
-abbrev pub HaveEqualBytes : List (Place × Block) → Type 0
-HaveEqualBytes targets = All (λ (target : Place × Block). target.1.bytes ≡ bytes_of targets) targets
+abbrev pub HasEqualBytes : List (Place × Block) → Type 0
+HasEqualBytes targets = All (λ (target : Place × Block). target.1.bytes ≡ bytes_of targets) targets
 
 -- a block with other bytes
 abbrev pub with_bytes : List ℕ → Block → Block

@@ -1,6 +1,6 @@
 ghost use Rattle.std.specs.Prelude.{◌≡◌, ◌<◌, ◌≤◌, ◌++◌, [], ◌∷◌, length, option_to_list, ◌↔◌, IsNone, IfOk};
 ghost use Rattle.ce_model.specs.Limits.{block_room, greatest_targets};
-ghost use Rattle.rk_mail.specs.Targets.{bytes_of, HaveEqualBytes, with_bytes};
+ghost use Rattle.rk_mail.specs.Targets.{bytes_of, HasEqualBytes, with_bytes};
 
 use ce_model::{GREATEST_TARGETS, NoMemory, Place};
 use std::alloc::Global;
@@ -21,13 +21,13 @@ impl Model for Batch {
     ghost use Rattle.ce_model.specs.declared.topology.Place.{Place};
     ghost use Rattle.ce_model.specs.Blocks as model;
     ghost use Rattle.ce_model.specs.Limits.{greatest_targets};
-    ghost use Rattle.rk_mail.specs.Targets.{HaveEqualBytes};
+    ghost use Rattle.rk_mail.specs.Targets.{HasEqualBytes};
 
     ghost Value = { List (Place × model.Block) };
 
     ghost view = { λ batch. batch.targets.items };
 
-    ghost invariant = { λ batch. HaveEqualBytes batch.targets.items
+    ghost invariant = { λ batch. HasEqualBytes batch.targets.items
         × (length batch.targets.items ≤ greatest_targets)
         × (greatest_targets ≤ deque_capacity batch.targets) };
 }
@@ -55,7 +55,7 @@ impl Batch {
     pub fn bytes(&self) -> &[u8]
         requires { 0 < length self.now }
         ensures value { result.now ≡ bytes_of self.now }
-        ensures each { HaveEqualBytes self.now }
+        ensures each { HasEqualBytes self.now }
         ensures within { length result.now ≤ block_room }
     {
         let (_, block) = &self.targets[0];

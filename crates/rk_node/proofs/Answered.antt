@@ -29,7 +29,7 @@ use Rattle.rk_node.specs.Boxes.{Box}
 use Rattle.rk_node.specs.Standing.{node_of}
 use Rattle.rk_node.specs.Wording.{HasBatch}
 use Rattle.rk_node.specs.Stocked.{IsStocked}
-use Rattle.rk_node.specs.Answering.{HasSaid, IsWork, CanHear}
+use Rattle.rk_node.specs.Answering.{HasSaid, IsWork, IsAbleToHear}
 use Rattle.rk_node.specs.Hearings.{IsWorkOf, HasRoomFor, batch_after}
 use Rattle.rk_node.proofs.Counted.{count-blocks}
 use Rattle.rk_node.proofs.Heard.{apart-stored, once-stored}
@@ -49,7 +49,7 @@ not-counted id (x ∷ xs) apart =
     ]
 
 -- a block that is nowhere in the node is there once when it has come
-once-come : (node : Node) (id other : BlockId) → ((id : BlockId) → count id (blocks_of node) ≤ 1) → count id (blocks_of node) ≡ 0
+pub once-come : (node : Node) (id other : BlockId) → ((id : BlockId) → count id (blocks_of node) ≤ 1) → count id (blocks_of node) ≡ 0
     → count other (blocks_of node) + count other (id ∷ []) ≤ 1
 once-come node id other once none =
     elim (cases_lt (hit other id) 1) [
@@ -100,14 +100,14 @@ poller-polls turn node pid well e =
       | inr f ↦ absurd (omega (arith, first-polls pid node.polling e, well.polling pid, ap {B = ℕ} (λ b. if b then 1 else 0) f))
     ]
 
-polling-receives : (s : Status) → is_polling s ≡ true → is_receiving s ≡ true
+pub polling-receives : (s : Status) → is_polling s ≡ true → is_receiving s ≡ true
 polling-receives Unborn h = absurd (cc)
 polling-receives Running h = absurd (cc)
 polling-receives Asking h = refl
 polling-receives Polling h = refl
 polling-receives (Stopped cause) h = absurd (cc)
 
-born_status : (s : Status) → ¬ (s ≡ Unborn) → is_unborn s ≡ false
+pub born_status : (s : Status) → ¬ (s ≡ Unborn) → is_unborn s ≡ false
 born_status Unborn h = absurd (h refl)
 born_status Running h = refl
 born_status Asking h = refl
@@ -117,7 +117,7 @@ born_status (Stopped cause) h = refl
 -- ---- what was said
 
 -- only a Take is answered by something to do, and it is said without a turn
-take-idle : (box : Box) (call : Call) (heard : Heard) → HasSaid box call → IsAnswerTo call heard → is_of_take heard ≡ true → box.node.turn ≡ None
+pub take-idle : (box : Box) (call : Call) (heard : Heard) → HasSaid box call → IsAnswerTo call heard → is_of_take heard ≡ true → box.node.turn ≡ None
 take-idle box (takes asking dead poller) heard said answer h = said.1
 take-idle box (sends pid to bytes) heard said answer h = absurd (both_ways _ (ap is_of_take answer) h)
 take-idle box (spawns pid image to) heard said answer h =
@@ -183,7 +183,7 @@ module _ (images : List ImageParts) (box : Box) (well : IsWell box.node.turn box
   well-idle : box.node.turn ≡ None → IsWell None box.node
   well-idle none = subst (λ turn. IsWell turn box.node) none well
 
-  pub work-of : (heard : Heard) → CanHear images box heard → IsWorkOf images box.node heard
+  pub work-of : (heard : Heard) → IsAbleToHear images box heard → IsWorkOf images box.node heard
   work-of (Start pid image) can = can.work
   work-of (Mail parcel) can = (
     take-idle box can.call (Mail parcel) can.said can.answer refl,
@@ -202,7 +202,7 @@ module _ (images : List ImageParts) (box : Box) (well : IsWell box.node.turn box
   work-of Already can = tt
   work-of Noted can = tt
 
-  pub hears-soundly : (heard : Heard) → CanHear images box heard → IsSoundly (model.hears images box.node (heard_as heard))
+  pub hears-soundly : (heard : Heard) → IsAbleToHear images box heard → IsSoundly (model.hears images box.node (heard_as heard))
   hears-soundly (Start pid image) can =
       let none = take-idle box can.call (Start pid image) can.said can.answer refl in
       let begins = start-begins images box.node pid image (well-idle none) can.work.0 (ap is_unborn can.work.1) in

@@ -13,7 +13,7 @@ use Rattle.rk_node.specs.declared.turn.Did as code
 use Rattle.rk_node.specs.Moves.{mynode, mypid, nnodes, exit, note, is_counted_at}
 use Rattle.rk_node.specs.Standing.{node_of}
 use Rattle.rk_node.specs.Stocked.{IsInTurn}
-use Rattle.rk_node.specs.Wording.{Makes}
+use Rattle.rk_node.specs.Wording.{HasMade}
 
 -- the turn with one counted call more
 abbrev pub more : model.Turn → model.Turn
@@ -111,8 +111,8 @@ is_note number h a b d e =
     let last : (number == 14) ≡ true = rw (ne_eqb number 4 a, ne_eqb number 5 b, ne_eqb number 8 d, ne_eqb number 9 e) at h in eqb-true number 14 last
 
 pub made-counted : (word : model.Node → model.Turn → Process → Did) (number k : ℕ) (before after : Node) (turn : model.Turn) (outcome : code.Did)
-    → number ≡ k → Counts k word → turn.calls < turn_calls → Makes word before after (more turn) (more turn) outcome
-    → Makes (kernel_does (kernel_call number)) before after turn (more turn) outcome
+    → number ≡ k → Counts k word → turn.calls < turn_calls → HasMade word before after (more turn) (more turn) outcome
+    → HasMade (kernel_does (kernel_call number)) before after turn (more turn) outcome
 made-counted word number k before after turn outcome same counts less made =
     let n = node_of before in
     let p = model.process_at n turn.pid in
@@ -130,7 +130,7 @@ unfolding kernel
 kernel-is node turn p = refl
 
 pub made-number : (number : ℕ) (before after : Node) (turn turn' : model.Turn) (outcome : code.Did) → number ≡ argument (model.process_at (node_of before) turn.pid) 7
-    → Makes (kernel_does (kernel_call number)) before after turn turn' outcome → Makes kernel before after turn turn' outcome
+    → HasMade (kernel_does (kernel_call number)) before after turn turn' outcome → HasMade kernel before after turn turn' outcome
 made-number number before after turn turn' outcome same made =
     let n = node_of before in
     let p = model.process_at n turn.pid in
@@ -146,7 +146,7 @@ Does number word = (node : model.Node) (turn : model.Turn) (p : Process) → ker
 
 pub made-call : (word : model.Node → model.Turn → Process → Did) (number k : ℕ) (before after : Node) (turn turn' : model.Turn) (outcome : code.Did)
     → number ≡ argument (model.process_at (node_of before) turn.pid) 7 → number ≡ k → Does k word
-    → Makes word before after turn turn' outcome → Makes kernel before after turn turn' outcome
+    → HasMade word before after turn turn' outcome → HasMade kernel before after turn turn' outcome
 made-call word number k before after turn turn' outcome read same does made =
     let n = node_of before in
     let p = model.process_at n turn.pid in
@@ -210,7 +210,7 @@ call_none number a b c d e f g h i j k l m n = elim (cases_lt number 15) [
 pub made-none : (number : ℕ) (before after : Node) (turn turn' : model.Turn) (outcome : code.Did) → number ≡ argument (model.process_at (node_of before) turn.pid) 7
     → ¬ (number ≡ 1) → ¬ (number ≡ 2) → ¬ (number ≡ 3) → ¬ (number ≡ 4) → ¬ (number ≡ 5) → ¬ (number ≡ 6) → ¬ (number ≡ 7)
     → ¬ (number ≡ 8) → ¬ (number ≡ 9) → ¬ (number ≡ 10) → ¬ (number ≡ 11) → ¬ (number ≡ 12) → ¬ (number ≡ 13) → ¬ (number ≡ 14)
-    → Makes (λ node turn p. stops node turn p (NoCall number)) before after turn turn' outcome → Makes kernel before after turn turn' outcome
+    → HasMade (λ node turn p. stops node turn p (NoCall number)) before after turn turn' outcome → HasMade kernel before after turn turn' outcome
 made-none number before after turn turn' outcome read a b c d e f g h i j k l m n made =
     let at = node_of before in
     let p = model.process_at at turn.pid in

@@ -6,7 +6,6 @@ pub mod Copies
 pub mod Counted
 pub mod Fresh
 pub mod Heard
-pub mod HomeBlocks
 pub mod Idle
 pub mod Made
 pub mod Maps

@@ -21,7 +21,7 @@ use Rattle.rk_node.specs.declared.turn.Did as code
 use Rattle.rk_node.specs.Standing.{node_of, processes_of}
 use Rattle.rk_node.specs.Stocked.{IsOnce, AreWithin}
 use Rattle.rk_node.specs.Moves.{IsNamed}
-use Rattle.rk_node.specs.Wording.{Makes}
+use Rattle.rk_node.specs.Wording.{HasMade}
 use Rattle.rk_node.proofs.Windows.{used-held}
 use Rattle.rk_node.proofs.Names.{once-process}
 use Rattle.rk_node.proofs.Processes.{process_of-at, process-read, used-read}
@@ -30,7 +30,7 @@ use Rattle.rk_node.proofs.Stops.{changed-twice}
 -- a call that does the same as another
 pub made-as : (word word' : model.Node → model.Turn → Process → Did) (before after : Node) (turn turn' : model.Turn) (outcome : code.Did)
     → word' (node_of before) turn (model.process_at (node_of before) turn.pid) ≡ word (node_of before) turn (model.process_at (node_of before) turn.pid)
-    → Makes word before after turn turn' outcome → Makes word' before after turn turn' outcome
+    → HasMade word before after turn turn' outcome → HasMade word' before after turn turn' outcome
 made-as word word' before after turn turn' outcome same made = record { did = made.did ∙ sym same; stocked = made.stocked; batch = made.batch; room = made.room }
 
 -- an answer to a process that was changed
@@ -100,14 +100,14 @@ at-some (Some y) x P e p = let same : y ≡ x = cc in subst P same p
 
 -- what a call makes with the block that is held
 pub made-at : (word : ℕ × Block → model.Node → model.Turn → Process → Did) (o : Option Block) (window : ℕ) (block : Block) (before after : Node) (turn turn' : model.Turn) (outcome : code.Did)
-    → o ≡ Some block → IfSome o (λ b. Makes (word (window, b)) before after turn turn' outcome) → Makes (word (window, block)) before after turn turn' outcome
-made-at word o window block before after turn turn' outcome e made = at-some o block (λ b. Makes (word (window, b)) before after turn turn' outcome) e made
+    → o ≡ Some block → IfSome o (λ b. HasMade (word (window, b)) before after turn turn' outcome) → HasMade (word (window, block)) before after turn turn' outcome
+made-at word o window block before after turn turn' outcome e made = at-some o block (λ b. HasMade (word (window, b)) before after turn turn' outcome) e made
 
 -- a call that names a block, which is there
 pub made-named : (inner : model.Node → model.Turn → Process → ℕ × Block → Did) (before after : Node) (turn : model.Turn) (outcome : code.Did) (a window : ℕ) (block : Block)
     → a ≡ argument (model.process_at (node_of before) turn.pid) 0 → block_named (model.process_at (node_of before) turn.pid).space a ≡ Ok (window, block)
-    → Makes (λ node turn p. inner node turn p (window, block)) before after turn turn outcome
-    → Makes (λ node turn p. reading node turn p (block_named p.space (argument p 0)) (inner node turn p)) before after turn turn outcome
+    → HasMade (λ node turn p. inner node turn p (window, block)) before after turn turn outcome
+    → HasMade (λ node turn p. reading node turn p (block_named p.space (argument p 0)) (inner node turn p)) before after turn turn outcome
 made-named inner before after turn outcome a window block same named made =
     let p = model.process_at (node_of before) turn.pid in
     record {
@@ -120,8 +120,8 @@ made-named inner before after turn outcome a window block same named made =
 -- a call that names none
 pub made-refused : (inner : model.Node → model.Turn → Process → ℕ × Block → Did) (before after : Node) (turn : model.Turn) (outcome : code.Did) (a : ℕ) (cause : Stop)
     → a ≡ argument (model.process_at (node_of before) turn.pid) 0 → block_named (model.process_at (node_of before) turn.pid).space a ≡ Err cause
-    → Makes (λ node turn p. stops node turn p cause) before after turn turn outcome
-    → Makes (λ node turn p. reading node turn p (block_named p.space (argument p 0)) (inner node turn p)) before after turn turn outcome
+    → HasMade (λ node turn p. stops node turn p cause) before after turn turn outcome
+    → HasMade (λ node turn p. reading node turn p (block_named p.space (argument p 0)) (inner node turn p)) before after turn turn outcome
 made-refused inner before after turn outcome a cause same named made =
     let p = model.process_at (node_of before) turn.pid in
     record {

@@ -14,7 +14,7 @@ use Rattle.xm_block.specs.Stores.{Kept, ids_of, AreApart}
 use Rattle.xm_owner.specs.Holdings.{Mapping, without_process}
 use Rattle.rk_process.specs.Seen.{Own, place_of, unborn_own}
 use Rattle.rk_node.specs.Stocked.{used_by, AreWithin}
-use Rattle.rk_node.specs.Boxes.{scrubbed}
+use Rattle.rk_node.specs.Boxes.{scrubbed_node}
 use Rattle.rk_node.specs.Hearings.{AreApartFrom, ids_in}
 use Rattle.rk_node.proofs.Names.{pairs_apart, not_contained}
 
@@ -126,7 +126,7 @@ node-next n now after k same changed h =
     ∙ ap (λ ps. record n { processes = ps; store = [] }) (reset-next k n.processes h ∙ ap (λ j. reset_first j n.processes) next)
 
 pub node-scrubbed : (n now : Node) (k : ℕ) → now ≡ record n { processes = reset_first k n.processes; store = [] } → k ≡ process_count → length n.processes ≡ process_count
-    → record now { polling = []; turn = None } ≡ scrubbed n
+    → record now { polling = []; turn = None } ≡ scrubbed_node n
 node-scrubbed n now k same all long =
     ap (λ (m : Node). record m { polling = []; turn = None }) same
-    ∙ ap (λ ps. record (scrubbed n) { processes = ps }) (reset-all k n.processes (omega (arith, all, long)) ∙ ap (λ j. replicate j unborn) all)
+    ∙ ap (λ ps. record (scrubbed_node n) { processes = ps }) (reset-all k n.processes (omega (arith, all, long)) ∙ ap (λ j. replicate j unborn) all)

@@ -1,5 +1,5 @@
 -- The processes of a node, and what changes of one of them make of the node.
-use Rattle.std.proofs.Common.{◌≡◌, ℕ, zero, suc, ◌+◌, ◌<◌, ◌≤◌, List, [], ◌∷◌, length, slice_set, slice_index_or, Option, Some, true, IsTrue, length-set, refl, ap, sym, ◌∙◌, subst, arith, add-zero, inl, inr}
+use Rattle.std.proofs.Common.{◌≡◌, ℕ, zero, suc, ◌+◌, ◌<◌, ◌≤◌, List, [], ◌∷◌, length, map, slice_set, slice_index_or, Option, Some, true, IsTrue, length-set, refl, ap, sym, ◌∙◌, subst, arith, add-zero, inl, inr}
 use Rattle.std.proofs.lemmas.Bool.{cases_eq, ltb-true, eq-eqb}
 use Rattle.std.proofs.lemmas.List.{get_or_read, get_or-set_same, get_or-set_other}
 use Rattle.ce_model.specs.Limits.{window_count, process_count}
@@ -8,16 +8,17 @@ use Rattle.ce_model.specs.Process.{Process, unborn}
 use Rattle.ce_model.specs.Node as model
 use Rattle.ce_model.specs.declared.process.Status.{Status}
 use Rattle.ce_model.specs.Blocks.{Block}
-use Rattle.xm_owner.specs.Holdings.{Mapping, held_at, without_process, ChangesOnly}
+use Rattle.xm_owner.specs.Holdings.{Mapping, held_at, without_process, HasChangedOnly}
 use Rattle.xm_owner.proofs.Mappings.{held_at-drained_other}
 use Rattle.ce_model.specs.declared.process.Status.TheVariants.{Unborn, Running, Asking, Polling, Stopped}
 use Rattle.ce_model.specs.Sound.{is_running}
 use Rattle.ce_solo.proofs.Nodes.{IsWell}
-use Rattle.rk_process.specs.Seen.{Own, unborn_own, windows_of}
+use Rattle.rk_process.specs.Seen.{Own, place_of, unborn_own, windows_of}
 use Rattle.rk_process.proofs.Found.{length-windows_of}
 use Rattle.rk_node.proofs.Windows.{windows-same}
-use Rattle.rk_node.specs.Standing.{process_in, processes_from, processes_of}
-use Rattle.rk_node.specs.Stocked.{used_by, AreWithin}
+use Rattle.rk_node.specs.declared.node.Node.{Node}
+use Rattle.rk_node.specs.Standing.{node_of, process_in, processes_from, processes_of}
+use Rattle.rk_node.specs.Stocked.{used_by, AreWithin, IsStocked}
 
 pub length-processes_from : (mappings : List Mapping) (pid : ℕ) (owns : List Own) → length (processes_from mappings pid owns) ≡ length owns
 length-processes_from mappings pid [] = refl
@@ -125,6 +126,31 @@ pub within-change : (owns : List Own) (pid : ℕ) (own own' : Own) (places : Lis
 within-change owns pid own own' places h read same within =
     within-grown owns (slice_set owns pid own') places (used-set owns pid own own' h read (omega (arith, same))) within
 
+-- where one process changes and has used no further window, its node is stocked as it was
+pub stocked-change : (node node' : Node) (pid : ℕ) (own own' : Own) → pid < length node.processes.items → own ≡ slice_index_or node.processes.items pid own
+    → own'.used ≡ own.used → node'.processes.items ≡ slice_set node.processes.items pid own' → node' ≡ record node { processes = node'.processes } → IsStocked node → IsStocked node'
+stocked-change node node' pid own own' h read same set_is rest s =
+    subst IsStocked (sym rest)
+    record {
+      processes = ap {B = ℕ} length set_is ∙ length-set node.processes.items pid own' ∙ s.processes;
+      rising = s.rising;
+      windows = subst (λ owns. AreWithin owns (map place_of node.held.mappings)) (sym set_is)
+          (within-change node.processes.items pid own own' (map place_of node.held.mappings) h read same s.windows);
+      store = s.store;
+      held = s.held;
+      within = s.within;
+      polling = s.polling;
+      dim = s.dim;
+    }
+
+-- the model's node has the changed process
+pub node-change : (node : Node) (pid : ℕ) (own own' : Own) (change : Process → Process) → pid < length node.processes.items
+    → own ≡ slice_index_or node.processes.items pid own → process_in node.held.mappings pid own' ≡ change (process_in node.held.mappings pid own)
+    → record (node_of node) { processes = processes_of node.held.mappings (slice_set node.processes.items pid own') } ≡ model.with_process (node_of node) pid (change (model.process_at (node_of node) pid))
+node-change node pid own own' change h read same =
+    ap (λ ps. record (node_of node) { processes = ps })
+    (processes-change node.held.mappings node.held.mappings node.processes.items pid own own' change h read (λ q differ. refl) same)
+
 -- how many windows the process has used that was read
 pub used-read : (mappings : List Mapping) (owns : List Own) (pid : ℕ) (own : Own) → pid < length owns → own ≡ slice_index_or owns pid own
     → length (slice_index_or (processes_of mappings owns) pid unborn).space.windows ≡ own.used
@@ -138,7 +164,7 @@ used_by-read owns pid own h read = ap (λ (o : Own). o.used) (sym (get_or_read o
 pub same-but : (pid : ℕ) (before after : List Mapping) (owns : List Own) → ((q w : ℕ) → (q ≡ pid → ⊥) → held_at after q w ≡ held_at before q w) → IsSameBut pid before after owns
 same-but pid before after owns same q differ = windows-same before after q (used_by owns q) (λ w. same q w differ)
 
-pub same-changed : (pid window : ℕ) (there : Option Block) (before after : List Mapping) (owns : List Own) → ChangesOnly before after pid window there → IsSameBut pid before after owns
+pub same-changed : (pid window : ℕ) (there : Option Block) (before after : List Mapping) (owns : List Own) → HasChangedOnly before after pid window there → IsSameBut pid before after owns
 same-changed pid window there before after owns changes = same-but pid before after owns (λ q w differ. changes.others q w (λ e. absurd (differ e)))
 
 default-free : {X : Type 0} (xs : List X) (k : ℕ) (d e : X) → k < length xs → slice_index_or xs k d ≡ slice_index_or xs k e

@@ -15,7 +15,7 @@ use Rattle.rk_node.specs.Standing.{node_of}
 use Rattle.rk_node.specs.Wording.{out_by, HasBatch}
 use Rattle.rk_node.specs.Boxes.{Box}
 use Rattle.rk_node.specs.Answering.{HasSaid}
-use Rattle.rk_node.specs.Taken.{TakesOut}
+use Rattle.rk_node.specs.Taken.{HasTakenOut}
 use Rattle.rk_node.specs.Whole.{IsWhole}
 
 -- what a node is that was well and said this call
@@ -23,7 +23,7 @@ pub record IsAfter (node after : model.Node) (call : Call) : Type 0 where
   pub well : IsWell after.turn after
   pub sound : IfSome after.turn IsSoundTurn
   pub of_node : IsCallOf after call
-  pub takes_out : TakesOut node after call
+  pub takes_out : HasTakenOut node after call
 
 said-after : (node after : model.Node) (call : Call) → IsWell node.turn node → IfSome node.turn IsSoundTurn
     → call ≡ (says node).call → after ≡ (says node).node → IsAfter node after call

@@ -13,8 +13,8 @@ use Rattle.ce_model.specs.Node.{Node, process_at, blocks_of}
 use Rattle.ce_model.specs.Sound.{is_polling, IsRising}
 use Rattle.ce_solo.proofs.Counting.{hit, hit-le, same_from_hit, count, count-nil, count-cons}
 use Rattle.ce_solo.proofs.Nodes.{polls, IsWellProcess, IsWell}
-use Rattle.rk_node.specs.Boxes.{fresh_at, scrubbed}
-use Rattle.rk_node.proofs.HomeBlocks.{name}
+use Rattle.rk_node.specs.Boxes.{fresh_at, scrubbed_node}
+use Rattle.xm_block.proofs.HomeBlocks.{name}
 use Rattle.rk_node.proofs.Moved.{ids-unborn}
 
 -- ---- names that rise
@@ -97,5 +97,5 @@ idle-well node idle = record {
 pub idle-fresh : (home r dim images : ℕ) → IsIdle (fresh_at home r dim images)
 idle-fresh home r dim images = record { processes = refl; polling = refl; store = rising-home home }
 
-pub idle-scrubbed : (node : Node) → IsIdle (scrubbed node)
+pub idle-scrubbed : (node : Node) → IsIdle (scrubbed_node node)
 idle-scrubbed node = record { processes = refl; polling = refl; store = tt }

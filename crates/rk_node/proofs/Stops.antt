@@ -7,7 +7,7 @@ use Rattle.ce_model.specs.Space.{emptied}
 use Rattle.ce_model.specs.Process.{Process, unborn}
 use Rattle.ce_model.specs.Node.{Node, process_at, with_process, without_poller, with_stopped}
 use Rattle.ce_model.specs.Kernel.{with_space}
-use Rattle.rk_node.specs.Moves.{with_status, released}
+use Rattle.rk_node.specs.Moves.{with_status, released_node}
 use Rattle.rk_node.proofs.Processes.{set-twice}
 
 -- a process that changes and changes again
@@ -16,7 +16,7 @@ pub changed-twice : (ps : List Process) (pid : ℕ) (p : Process) (change : Proc
 changed-twice ps pid p change h =
     set-twice ps pid p (change (slice_index_or (slice_set ps pid p) pid unborn)) ∙ ap (λ q. slice_set ps pid (change q)) (get_or-set_same ps pid p unborn h)
 
-pub stopped-steps : (node a b d : Node) (pid : ℕ) (cause : Stop) → pid < length node.processes → a ≡ released pid node
+pub stopped-steps : (node a b d : Node) (pid : ℕ) (cause : Stop) → pid < length node.processes → a ≡ released_node pid node
     → b ≡ with_process a pid (with_status (Stopped cause) (process_at a pid)) → d ≡ record b { polling = without_poller pid b.polling }
     → record d { turn = None } ≡ with_stopped node pid (process_at node pid) cause
 stopped-steps node a b d pid cause h first next last =

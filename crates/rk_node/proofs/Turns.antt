@@ -19,7 +19,7 @@ use Rattle.rk_node.specs.declared.turn.Did.{Did}
 use Rattle.rk_node.specs.declared.turn.Did.TheVariants.{GoesOn, Leaves, TurnEnds}
 use Rattle.rk_node.specs.Standing.{node_of, turn_of}
 use Rattle.rk_node.specs.Stocked.{IsStocked, IsInTurn, IsHearing}
-use Rattle.rk_node.specs.Wording.{did_as, said_by, out_of, HasBatch, Makes, GoesOnIn}
+use Rattle.rk_node.specs.Wording.{did_as, said_by, out_of, HasBatch, HasMade, HasGoneOnIn}
 use Rattle.rk_node.proofs.Processes.{length-processes_from}
 use Rattle.rk_node.proofs.Running.{came_to, IsKept, KeptBy, kernel-apart, with_stopped-apart, runs-reached, reached-kept, well-after}
 
@@ -63,7 +63,7 @@ module _ (before after : Node) (turn turn' : Turn) (ready : IsInTurn before (tur
   at_is = ap turn_of left
 
   pub said-called : (last : Node) (turn'' : Turn) (outcome : Did) → reached turn.left (model.process_at (node_of before) turn.pid) ≡ at_call turn'.left p'
-      → Makes words.kernel after last (turn_of turn') (turn_of turn'') outcome → turn''.left ≡ turn'.left
+      → HasMade words.kernel after last (turn_of turn') (turn_of turn'') outcome → turn''.left ≡ turn'.left
       → said_by outcome (node_of last) (turn_of turn'') ≡ runs turn.left (node_of before) (turn_of turn)
   said-called last turn'' outcome came made same_left =
       ap (λ n. after_call (runs n) (did_as outcome (node_of last) (turn_of turn''))) same_left
@@ -75,7 +75,7 @@ module _ (before after : Node) (turn turn' : Turn) (ready : IsInTurn before (tur
       ∙ sym (runs-reached turn.left (node_of before) (turn_of turn) (within before turn ready) ∙ ap (came_to (node_of before) (turn_of turn)) came)
 
   pub said-stopped : (last : Node) (outcome : Did) (cause : Stop) → reached turn.left (model.process_at (node_of before) turn.pid) ≡ at_stop turn'.left p' cause
-      → Makes (λ node turn p. words.stops node turn p cause) after last (turn_of turn') (turn_of turn') outcome
+      → HasMade (λ node turn p. words.stops node turn p cause) after last (turn_of turn') (turn_of turn') outcome
       → said_by outcome (node_of last) (turn_of turn') ≡ runs turn.left (node_of before) (turn_of turn)
   said-stopped last outcome cause came made =
       ap (after_call (runs turn'.left)) made.did
@@ -85,15 +85,15 @@ module _ (before after : Node) (turn turn' : Turn) (ready : IsInTurn before (tur
       ∙ sym (runs-reached turn.left (node_of before) (turn_of turn) (within before turn ready) ∙ ap (came_to (node_of before) (turn_of turn)) came)
 
 goes_on-done : (after last : Node) (turn' : model.Turn) (left : ℕ) (outcome : Did) → IsDone (node_of after) (did_as outcome (node_of last) turn')
-    → IsStocked last → HasBatch (out_of outcome) last.batch → turn'.left < left → GoesOnIn outcome last turn' left
+    → IsStocked last → HasBatch (out_of outcome) last.batch → turn'.left < left → HasGoneOnIn outcome last turn' left
 goes_on-done after last turn' left GoesOn done stocked batch less =
     (record { stocked = stocked; well = done.became.well; sound = done.sound; batch = batch }, less)
 goes_on-done after last turn' left (Leaves say) done stocked batch less = tt
 goes_on-done after last turn' left TurnEnds done stocked batch less = tt
 
 pub goes_on-called : (after last : Node) (turn' turn'' : Turn) (left : ℕ) (outcome : Did) → IsInTurn after (turn_of turn')
-    → Makes words.kernel after last (turn_of turn') (turn_of turn'') outcome → turn''.left ≡ turn'.left → turn'.left < left
-    → GoesOnIn outcome last (turn_of turn'') left
+    → HasMade words.kernel after last (turn_of turn') (turn_of turn'') outcome → turn''.left ≡ turn'.left → turn'.left < left
+    → HasGoneOnIn outcome last (turn_of turn'') left
 goes_on-called after last turn' turn'' left outcome ready made same less =
     let node = node_of after in
     let turn = turn_of turn' in
@@ -102,7 +102,7 @@ goes_on-called after last turn' turn'' left outcome ready made same less =
     made.stocked made.batch (omega (arith, same, less))
 
 pub goes_on-stopped : (after last : Node) (turn : model.Turn) (left : ℕ) (outcome : Did) (cause : Stop)
-    → Makes (λ node turn p. words.stops node turn p cause) after last turn turn outcome → GoesOnIn outcome last turn left
+    → HasMade (λ node turn p. words.stops node turn p cause) after last turn turn outcome → HasGoneOnIn outcome last turn left
 goes_on-stopped after last turn left GoesOn cause made = let never = made.did in absurd (cc)
 goes_on-stopped after last turn left (Leaves say) cause made = tt
 goes_on-stopped after last turn left TurnEnds cause made = tt

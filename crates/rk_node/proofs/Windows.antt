@@ -7,7 +7,7 @@ use Rattle.std.proofs.lemmas.Option.{none-some}
 use Rattle.ce_model.specs.declared.topology.BlockId.{BlockId}
 use Rattle.ce_model.specs.Blocks.{Block}
 use Rattle.xm_block.specs.Stores.{ids_of}
-use Rattle.xm_owner.specs.Holdings.{Mapping, is_at, held_at, blocks_of, ChangesOnly}
+use Rattle.xm_owner.specs.Holdings.{Mapping, is_at, held_at, blocks_of, HasChangedOnly}
 use Rattle.rk_process.specs.Seen.{Own, windows_of, place_of}
 use Rattle.ce_solo.proofs.Windows.{ids_at}
 use Rattle.rk_node.specs.Stocked.{used_by, AreWithin, is_place_before, AreRising}
@@ -58,7 +58,7 @@ unfolding windows_of
 windows-same before after pid used same = map-same (held_at before pid) (held_at after pid) 0 used (λ w low high. same w)
 
 -- a block more, at the next window
-pub windows-mapped : (before after : List Mapping) (pid used : ℕ) (block : Block) → ChangesOnly before after pid used (Some block)
+pub windows-mapped : (before after : List Mapping) (pid used : ℕ) (block : Block) → HasChangedOnly before after pid used (Some block)
     → windows_of after pid (used + 1) ≡ windows_of before pid used ++ Some block ∷ []
 unfolding windows_of
 windows-mapped before after pid used block changes =
@@ -67,7 +67,7 @@ windows-mapped before after pid used block changes =
     ∙ ap (λ x. map (held_at before pid) (range_with_len 0 used) ++ x ∷ []) (ap (held_at after pid) (omega arith) ∙ changes.changed)
 
 -- a block less
-pub windows-unmapped : (before after : List Mapping) (pid used k : ℕ) → k < used → ChangesOnly before after pid k None
+pub windows-unmapped : (before after : List Mapping) (pid used k : ℕ) → k < used → HasChangedOnly before after pid k None
     → windows_of after pid used ≡ slice_set (windows_of before pid used) k None
 unfolding windows_of
 windows-unmapped before after pid used k h changes =

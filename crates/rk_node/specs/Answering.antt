@@ -35,7 +35,7 @@ IsWork images box (Poll pid) = slice_get box.node.polling 0 ≡ Some pid
 IsWork images box other = Unit {0}
 
 -- the box can hear this answer: it is one to the call that it has said, and its work is the node's
-pub record CanHear (images : List ImageParts) (box : Box) (heard : Heard) : Type 0 where
+pub record IsAbleToHear (images : List ImageParts) (box : Box) (heard : Heard) : Type 0 where
   pub call : Call
   pub said : HasSaid box call
   pub answer : IsAnswerTo call heard

@@ -1,6 +1,6 @@
 -- A box as its callers see it.
-use Rattle.std.specs.Prelude.{◌≡◌, ℕ, ◌+◌, ◌*◌, ◌^◌, ◌<◌, ◌≤◌, [], length, replicate, None}
-use Rattle.ce_model.specs.Limits.{process_count, greatest_dim, home_blocks}
+use Rattle.std.specs.Prelude.{◌≡◌, ℕ, ◌<◌, ◌≤◌, [], length, replicate, None}
+use Rattle.ce_model.specs.Limits.{process_count, greatest_blocks}
 use Rattle.ce_model.specs.Blocks.{blocks_of_home}
 use Rattle.ce_model.specs.Process.{unborn}
 use Rattle.ce_model.specs.Node.{Node, fresh, blocks_of}
@@ -21,11 +21,11 @@ fresh_at home r dim images = record (fresh r dim images) { home = home; store = 
 pub record IsClean (box : Box) : Type 0 where
   pub node : box.node ≡ fresh_at box.node.home box.node.number box.node.dim box.node.images
   pub out : box.out ≡ Nothing
-  pub room : (2 ^ greatest_dim + 1) * home_blocks ≤ box.room
+  pub room : greatest_blocks ≤ box.room
 
 -- the node of a box that is emptied: no block is there, no process was started, none polls, and there is no turn
-abbrev pub scrubbed : Node → Node
-scrubbed node = record node { processes = replicate process_count unborn; store = []; polling = []; turn = None }
+abbrev pub scrubbed_node : Node → Node
+scrubbed_node node = record node { processes = replicate process_count unborn; store = []; polling = []; turn = None }
 
 -- the box has room for a block more
 abbrev pub HasRoomFor : Box → Type 0

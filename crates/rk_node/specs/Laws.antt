@@ -1,12 +1,12 @@
 -- What the end of a cube leaves of its boxes.
-use Rattle.std.specs.Prelude.{◌≡◌, ℕ, ◌+◌, ◌*◌, ◌^◌, ◌≤◌, List, [], ◌∷◌}
+use Rattle.std.specs.Prelude.{◌≡◌, ℕ, ◌≤◌, List, [], ◌∷◌}
 use Rattle.ce_model.specs.declared.topology.BlockId.{BlockId}
-use Rattle.ce_model.specs.Limits.{greatest_dim, home_blocks}
+use Rattle.ce_model.specs.Limits.{greatest_blocks}
 use Rattle.ce_model.specs.Blocks.{put, blocks_of_home}
 use Rattle.ce_model.specs.Kernel.{with_store}
 use Rattle.ce_solo.proofs.Counting.{count}
 use Rattle.rk_node.specs.declared.out.Out.TheVariants.{Nothing}
-use Rattle.rk_node.specs.Boxes.{Box, IsClean, scrubbed}
+use Rattle.rk_node.specs.Boxes.{Box, IsClean, scrubbed_node}
 
 -- the box once these blocks were put into its store, one after the other
 abbrev pub all_put_home : List BlockId → Box → Box
@@ -19,5 +19,5 @@ AreBlocksOfHome home ids = (id : BlockId) → count id ids ≡ count id (blocks_
 
 -- a box with room for all blocks of the greatest cube is clean once it was scrubbed and the blocks of its home were put home
 abbrev pub ScrubbedIsClean : Type 0
-ScrubbedIsClean = (box : Box) (ids : List BlockId) → box.out ≡ Nothing → (2 ^ greatest_dim + 1) * home_blocks ≤ box.room
-    → AreBlocksOfHome box.node.home ids → IsClean (all_put_home ids (record box { node = scrubbed box.node }))
+ScrubbedIsClean = (box : Box) (ids : List BlockId) → box.out ≡ Nothing → greatest_blocks ≤ box.room
+    → AreBlocksOfHome box.node.home ids → IsClean (all_put_home ids (record box { node = scrubbed_node box.node }))

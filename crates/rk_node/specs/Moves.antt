@@ -22,8 +22,8 @@ abbrev pub with_mapped : Block → Process → Process
 with_mapped block p = with_space p (mapped block p.space)
 
 -- the blocks of a process are in the store
-abbrev pub released : ℕ → model.Node → model.Node
-released pid node = record node {
+abbrev pub released_node : ℕ → model.Node → model.Node
+released_node pid node = record node {
   processes = slice_set node.processes pid (with_space (model.process_at node pid) (emptied (model.process_at node pid).space));
   store = put_all (mapped_ids (model.process_at node pid).space) node.store;
 }

@@ -53,13 +53,13 @@ out_after None = out.Nothing
 out_after (Some say) = out_by (call_said say)
 
 -- the call makes of a node, in this turn, what the word of the kernel does
-pub record Makes (word : model.Node → model.Turn → Process → kernel.Did) (before after : Node) (turn turn' : model.Turn) (outcome : Did) : Type 0 where
+pub record HasMade (word : model.Node → model.Turn → Process → kernel.Did) (before after : Node) (turn turn' : model.Turn) (outcome : Did) : Type 0 where
   pub did : did_as outcome (node_of after) turn' ≡ word (node_of before) turn (model.process_at (node_of before) turn.pid)
   pub stocked : IsStocked after
   pub batch : HasBatch (out_of outcome) after.batch
   pub room : after.room ≡ before.room
 
 -- the turn goes on with fewer instructions left
-abbrev pub GoesOnIn : Did → Node → model.Turn → ℕ → Type 0
-GoesOnIn GoesOn node turn left = IsInTurn node turn × (turn.left < left)
-GoesOnIn other node turn left = Unit {0}
+abbrev pub HasGoneOnIn : Did → Node → model.Turn → ℕ → Type 0
+HasGoneOnIn GoesOn node turn left = IsInTurn node turn × (turn.left < left)
+HasGoneOnIn other node turn left = Unit {0}

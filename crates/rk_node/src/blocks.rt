@@ -7,7 +7,7 @@ ghost use Rattle.xm_owner.specs.Holdings.{held_at};
 ghost use Rattle.rk_node.specs.Standing.{node_of, turn_of};
 ghost use Rattle.rk_node.specs.Stocked.{IsStocked, IsInTurn, HasRoom};
 ghost use Rattle.rk_node.specs.Moves.{with_mapped, IsNamed};
-ghost use Rattle.rk_node.specs.Wording.{Makes};
+ghost use Rattle.rk_node.specs.Wording.{HasMade};
 
 use crate::node::Node;
 use crate::turn::{Did, Turn};
@@ -100,7 +100,7 @@ impl Node {
         requires stocked { IsStocked self.old }
         requires pid { turn.pid < process_count }
         requires batch { self.old.batch ≡ Some [] }
-        ensures { Makes (λ node turn p. returns node turn p value)
+        ensures { HasMade (λ node turn p. returns node turn p value)
             self.old self.new (turn_of turn) (turn_of turn) result }
     {
         self.answer(turn.pid, value);
@@ -110,7 +110,7 @@ impl Node {
     /// The process of the turn stops.
     pub fn stops(&mut self, turn: Turn, cause: Stop) -> Did
         requires { IsInTurn self.old (turn_of turn) }
-        ensures { Makes (λ node turn p. stops node turn p cause)
+        ensures { HasMade (λ node turn p. stops node turn p cause)
             self.old self.new (turn_of turn) (turn_of turn) result }
     {
         self.stop(turn.pid, cause);
@@ -121,7 +121,7 @@ impl Node {
     /// is 0.
     pub fn xmalloc(&mut self, turn: Turn) -> Did
         requires { IsInTurn self.old (turn_of turn) }
-        ensures { Makes xmalloc self.old self.new (turn_of turn) (turn_of turn) result }
+        ensures { HasMade xmalloc self.old self.new (turn_of turn) (turn_of turn) result }
     {
         let length = self.argument(turn.pid, 0);
         if self.cannot_map(turn.pid, length) {
@@ -148,7 +148,7 @@ impl Node {
         requires length { length ≤ block_room }
         requires unused { IsTrue
             (has_unused_window (process_at (node_of self.old) turn.pid).space) }
-        ensures { Makes (λ node turn p. maps_least node turn p length node.store)
+        ensures { HasMade (λ node turn p. maps_least node turn p length node.store)
             self.old self.new (turn_of turn) (turn_of turn) result }
     {
         match self.store.take_least() {
@@ -164,7 +164,7 @@ impl Node {
     /// xfree: the block goes to the store.
     pub fn xfree(&mut self, turn: Turn) -> Did
         requires { IsInTurn self.old (turn_of turn) }
-        ensures { Makes xfree self.old self.new (turn_of turn) (turn_of turn) result }
+        ensures { HasMade xfree self.old self.new (turn_of turn) (turn_of turn) result }
     {
         match self.block_named(turn.pid, self.argument(turn.pid, 0)) {
             Ok(window) => self.frees(turn, window),
@@ -177,7 +177,7 @@ impl Node {
         requires ready { IsInTurn self.old (turn_of turn) }
         requires held { IsSome (held_at self.old.held.mappings turn.pid window) }
         ensures { IfSome (held_at self.old.held.mappings turn.pid window)
-            (λ block. Makes (λ node turn p. frees node turn p (window, block))
+            (λ block. HasMade (λ node turn p. frees node turn p (window, block))
             self.old self.new (turn_of turn) (turn_of turn) result) }
     {
         let block = self.take_out(turn.pid, window);
@@ -188,7 +188,7 @@ impl Node {
     /// xlength: the block's length.
     pub fn xlength(&mut self, turn: Turn) -> Did
         requires { IsInTurn self.old (turn_of turn) }
-        ensures { Makes xlength self.old self.new (turn_of turn) (turn_of turn) result }
+        ensures { HasMade xlength self.old self.new (turn_of turn) (turn_of turn) result }
     {
         match self.block_named(turn.pid, self.argument(turn.pid, 0)) {
             Ok(window) => {

@@ -2,7 +2,7 @@ ghost use Rattle.std.specs.Prelude.{◌≡◌, IsTrue};
 ghost use Rattle.ce_model.specs.Kernel.{kernel_call, kernel_does, kernel};
 ghost use Rattle.rk_node.specs.Standing.{turn_of};
 ghost use Rattle.rk_node.specs.Stocked.{IsInTurn};
-ghost use Rattle.rk_node.specs.Wording.{Makes};
+ghost use Rattle.rk_node.specs.Wording.{HasMade};
 ghost use Rattle.rk_node.specs.Moves.{mynode, mypid, nnodes, exit, is_counted_at};
 
 use crate::node::Node;
@@ -13,7 +13,7 @@ impl Node {
     /// The call that the turn's process has made.
     pub fn kernel(&mut self, turn: &mut Turn) -> Did
         requires { IsInTurn self.old (turn_of turn.old) }
-        ensures made { Makes kernel self.old self.new (turn_of turn.old) (turn_of turn.new) result }
+        ensures made { HasMade kernel self.old self.new (turn_of turn.old) (turn_of turn.new) result }
         ensures left { turn.new.left ≡ turn.old.left }
     {
         let number = self.argument(turn.pid, 7);
@@ -36,7 +36,7 @@ impl Node {
     fn counted(&mut self, number: u32, turn: &mut Turn) -> Did
         requires ready { IsInTurn self.old (turn_of turn.old) }
         requires counted { IsTrue (is_counted_at number) }
-        ensures made { Makes (kernel_does (kernel_call number))
+        ensures made { HasMade (kernel_does (kernel_call number))
             self.old self.new (turn_of turn.old) (turn_of turn.new) result }
         ensures left { turn.new.left ≡ turn.old.left }
     {
@@ -56,7 +56,7 @@ impl Node {
     /// mynode: the node's number in its cube.
     fn mynode(&mut self, turn: Turn) -> Did
         requires { IsInTurn self.old (turn_of turn) }
-        ensures { Makes mynode self.old self.new (turn_of turn) (turn_of turn) result }
+        ensures { HasMade mynode self.old self.new (turn_of turn) (turn_of turn) result }
     {
         self.returns(turn, self.relative)
     }
@@ -64,7 +64,7 @@ impl Node {
     /// mypid: the process's id.
     fn mypid(&mut self, turn: Turn) -> Did
         requires { IsInTurn self.old (turn_of turn) }
-        ensures { Makes mypid self.old self.new (turn_of turn) (turn_of turn) result }
+        ensures { HasMade mypid self.old self.new (turn_of turn) (turn_of turn) result }
     {
         self.returns(turn, turn.pid)
     }
@@ -72,7 +72,7 @@ impl Node {
     /// nnodes: how many nodes the cube has.
     fn nnodes(&mut self, turn: Turn) -> Did
         requires { IsInTurn self.old (turn_of turn) }
-        ensures { Makes nnodes self.old self.new (turn_of turn) (turn_of turn) result }
+        ensures { HasMade nnodes self.old self.new (turn_of turn) (turn_of turn) result }
     {
         self.returns(turn, self.nodes())
     }
@@ -80,7 +80,7 @@ impl Node {
     /// exit: the process stops.
     fn exit(&mut self, turn: Turn) -> Did
         requires { IsInTurn self.old (turn_of turn) }
-        ensures { Makes exit self.old self.new (turn_of turn) (turn_of turn) result }
+        ensures { HasMade exit self.old self.new (turn_of turn) (turn_of turn) result }
     {
         let code = self.argument(turn.pid, 0);
         self.stops(turn, Stop::Exited(code))

@@ -1,7 +1,7 @@
 ghost use Rattle.ce_model.specs.Kernel.{spawn, ckill};
 ghost use Rattle.rk_node.specs.Standing.{turn_of};
 ghost use Rattle.rk_node.specs.Stocked.{IsInTurn};
-ghost use Rattle.rk_node.specs.Wording.{Makes};
+ghost use Rattle.rk_node.specs.Wording.{HasMade};
 ghost use Rattle.rk_node.specs.Moves.{note};
 
 use crate::node::Node;
@@ -12,7 +12,7 @@ impl Node {
     /// spawn: an image is to be started as a process at a place.
     pub fn spawn(&mut self, turn: Turn) -> Did
         requires { IsInTurn self.old (turn_of turn) }
-        ensures { Makes spawn self.old self.new (turn_of turn) (turn_of turn) result }
+        ensures { HasMade spawn self.old self.new (turn_of turn) (turn_of turn) result }
     {
         let to = self.place_named(turn.pid, 1);
         if !self.is_place(to) {
@@ -35,7 +35,7 @@ impl Node {
     /// ckill: the process at a place is to be ended.
     pub fn ckill(&mut self, turn: Turn) -> Did
         requires { IsInTurn self.old (turn_of turn) }
-        ensures { Makes ckill self.old self.new (turn_of turn) (turn_of turn) result }
+        ensures { HasMade ckill self.old self.new (turn_of turn) (turn_of turn) result }
     {
         let to = self.place_named(turn.pid, 0);
         if !self.is_place(to) {
@@ -47,7 +47,7 @@ impl Node {
     /// note: the word goes into the trace.
     pub fn note(&mut self, turn: Turn) -> Did
         requires { IsInTurn self.old (turn_of turn) }
-        ensures { Makes note self.old self.new (turn_of turn) (turn_of turn) result }
+        ensures { HasMade note self.old self.new (turn_of turn) (turn_of turn) result }
     {
         let word = self.argument(turn.pid, 0);
         self.says_call(

@@ -8,7 +8,7 @@ ghost use Rattle.xm_owner.specs.Holdings.{held_at};
 ghost use Rattle.rk_mail.specs.Targets.{bytes_of, targets_of};
 ghost use Rattle.rk_node.specs.Standing.{node_of, turn_of};
 ghost use Rattle.rk_node.specs.Stocked.{IsStocked, IsInTurn};
-ghost use Rattle.rk_node.specs.Wording.{Makes};
+ghost use Rattle.rk_node.specs.Wording.{HasMade};
 
 use crate::node::Node;
 use crate::turn::{Did, Turn};
@@ -82,7 +82,7 @@ impl Node {
     /// xsend: the block leaves the process, for one place.
     pub fn xsend(&mut self, turn: Turn) -> Did
         requires { IsInTurn self.old (turn_of turn) }
-        ensures { Makes xsend self.old self.new (turn_of turn) (turn_of turn) result }
+        ensures { HasMade xsend self.old self.new (turn_of turn) (turn_of turn) result }
     {
         match self.block_named(turn.pid, self.argument(turn.pid, 0)) {
             Ok(window) => self.sends_block(turn, window),
@@ -95,7 +95,7 @@ impl Node {
         requires ready { IsInTurn self.old (turn_of turn) }
         requires held { IsSome (held_at self.old.held.mappings turn.pid window) }
         ensures { IfSome (held_at self.old.held.mappings turn.pid window)
-            (λ block. Makes (λ node turn p. sends_block node turn p (window, block))
+            (λ block. HasMade (λ node turn p. sends_block node turn p (window, block))
             self.old self.new (turn_of turn) (turn_of turn) result) }
     {
         let to = self.place_named(turn.pid, 1);
@@ -117,7 +117,7 @@ impl Node {
     /// xmsend: the block leaves the process for several places, each further one of which gets a copy.
     pub fn xmsend(&mut self, turn: Turn) -> Did
         requires { IsInTurn self.old (turn_of turn) }
-        ensures { Makes xmsend self.old self.new (turn_of turn) (turn_of turn) result }
+        ensures { HasMade xmsend self.old self.new (turn_of turn) (turn_of turn) result }
     {
         match self.block_named(turn.pid, self.argument(turn.pid, 0)) {
             Ok(window) => self.xmsend_block(turn, window),
@@ -130,7 +130,7 @@ impl Node {
         requires ready { IsInTurn self.old (turn_of turn) }
         requires held { IsSome (held_at self.old.held.mappings turn.pid window) }
         ensures { IfSome (held_at self.old.held.mappings turn.pid window)
-            (λ block. Makes (λ node turn p. xmsend_block node turn p (window, block))
+            (λ block. HasMade (λ node turn p. xmsend_block node turn p (window, block))
             self.old self.new (turn_of turn) (turn_of turn) result) }
     {
         let count = self.argument(turn.pid, 1);
@@ -195,7 +195,7 @@ impl Node {
         requires held { IsSome (held_at self.old.held.mappings turn.pid window) }
         requires few { length places.now ≤ greatest_targets }
         ensures { IfSome (held_at self.old.held.mappings turn.pid window)
-            (λ block. Makes (λ node turn p. sends_copies node turn p (window, block) places.now)
+            (λ block. HasMade (λ node turn p. sends_copies node turn p (window, block) places.now)
             self.old self.new (turn_of turn) (turn_of turn) result) }
     {
         let Some((first, others)) = places.split_first() else {
@@ -254,7 +254,7 @@ impl Node {
     /// xrecv: the process polls, behind those that poll already, and its turn is over.
     pub fn xrecv(&mut self, turn: Turn) -> Did
         requires { IsInTurn self.old (turn_of turn) }
-        ensures { Makes xrecv self.old self.new (turn_of turn) (turn_of turn) result }
+        ensures { HasMade xrecv self.old self.new (turn_of turn) (turn_of turn) result }
     {
         self.set_status(turn.pid, Status::Polling);
         self.polling.push_back_reserved(turn.pid);
@@ -265,7 +265,7 @@ impl Node {
     /// xrecvb: the process waits for a message, and its turn is over.
     pub fn xrecvb(&mut self, turn: Turn) -> Did
         requires { IsInTurn self.old (turn_of turn) }
-        ensures { Makes xrecvb self.old self.new (turn_of turn) (turn_of turn) result }
+        ensures { HasMade xrecvb self.old self.new (turn_of turn) (turn_of turn) result }
     {
         self.set_status(turn.pid, Status::Asking);
         self.turn = None;

@@ -9,10 +9,10 @@ ghost use Rattle.xm_block.specs.Stores.{ids_of};
 ghost use Rattle.rk_process.specs.Seen.{unborn_own};
 ghost use Rattle.rk_node.specs.Standing.{node_of};
 ghost use Rattle.rk_node.specs.Stocked.{IsStocked, IsOnce, HasRoom};
-ghost use Rattle.rk_node.specs.Moves.{with_status, released, IsNew};
+ghost use Rattle.rk_node.specs.Moves.{with_status, released_node, IsNew};
 
 use crate::turn::Turn;
-use ce_model::{BlockId, HOME_BLOCKS, NoMemory, PROCESS_COUNT, Status, Stop};
+use ce_model::{NoMemory, PROCESS_COUNT, Status, Stop};
 use rk_mail::Batch;
 use rk_process::Process;
 use std::alloc::Global;
@@ -55,7 +55,7 @@ impl Node {
             images: 0,
             processes: unborn_processes(alloc)?,
             held: Held::new(alloc, room)?,
-            store: home_store(alloc, home, room)?,
+            store: Store::of_home(alloc, home, room)?,
             polling: VecDeque::with_capacity(alloc, PROCESS_COUNT as usize)?,
             turn: None,
             batch: Some(Batch::new(alloc)?),
@@ -128,7 +128,7 @@ impl Node {
         requires stocked { IsStocked self.old }
         requires pid { pid < process_count }
         requires once { IsOnce (node_of self.old) }
-        ensures node { node_of self.new ≡ released pid (node_of self.old) }
+        ensures node { node_of self.new ≡ released_node pid (node_of self.old) }
         ensures stocked { IsStocked self.new }
         ensures batch { self.new.batch ≡ self.old.batch }
         ensures room { self.new.room ≡ self.old.room }
@@ -188,18 +188,4 @@ fn unborn_processes(alloc: Global) -> Result<Vec<Process>, NoMemory>
         processes.push(Process::new(alloc)?)?;
     }
     Ok(processes)
-}
-
-/// A store with the blocks of this home.
-#[tactic(auto, using(ce_model::specs::Limits::home_blocks_lem))]
-fn home_store(alloc: Global, home: u32, room: u32) -> Result<Store, NoMemory>
-    requires { home_blocks ≤ room }
-    ensures blocks { IfOk result (λ store. ids_of store.blocks ≡ blocks_of_home home) }
-    ensures room { IfOk result (λ store. store.spare + home_blocks ≡ room) }
-{
-    let mut store = Store::new(alloc, room)?;
-    for index in 0..HOME_BLOCKS {
-        store.give(Block::new(alloc, BlockId { home, index })?);
-    }
-    Ok(store)
 }

@@ -1,6 +1,6 @@
 //! The box of a node.
-ghost use Rattle.std.specs.Prelude.{◌≡◌, ◌+◌, ◌*◌, ◌^◌, ◌<◌, ◌≤◌, length, Contains, IfOk, [], None};
-ghost use Rattle.ce_model.specs.Limits.{process_count, greatest_dim, greatest_images, host_home, home_blocks};
+ghost use Rattle.std.specs.Prelude.{◌≡◌, ◌+◌, ◌^◌, ◌<◌, ◌≤◌, length, Contains, IfOk, [], None};
+ghost use Rattle.ce_model.specs.Limits.{process_count, greatest_dim, greatest_images, greatest_blocks};
 ghost use Rattle.ce_model.specs.Blocks.{put, put_all};
 ghost use Rattle.ce_model.specs.Node.{process_at, blocks_of};
 ghost use Rattle.ce_model.specs.Kernel.{with_store};
@@ -8,9 +8,9 @@ ghost use Rattle.ce_model.specs.Saying.{says};
 ghost use Rattle.ce_model.specs.Hearing.{hears};
 ghost use Rattle.xm_block.specs.Stores.{ids_of};
 ghost use Rattle.rk_mail.specs.Talk.{call_said, heard_as};
-ghost use Rattle.rk_node.specs.Boxes.{IsClean, HasRoomFor, fresh_at, scrubbed};
-ghost use Rattle.rk_node.specs.Answering.{HasSaid, CanHear};
-ghost use Rattle.rk_node.specs.Taken.{TakesOut};
+ghost use Rattle.rk_node.specs.Boxes.{IsClean, HasRoomFor, fresh_at, scrubbed_node};
+ghost use Rattle.rk_node.specs.Answering.{HasSaid, IsAbleToHear};
+ghost use Rattle.rk_node.specs.Taken.{HasTakenOut};
 ghost use Rattle.rk_node.specs.Hearings.{AreApartFrom};
 
 use crate::node::Node;
@@ -51,7 +51,7 @@ impl NodeBox {
     /// A clean box of this home, with room for so many blocks, 2,080 at least, all that the greatest cube has: its own blocks
     /// are in its store. `NoMemory` may come at any time, and from no other call.
     pub fn new(alloc: Global, home: u32, room: u32) -> Result<NodeBox, NoMemory>
-        requires { (2 ^ greatest_dim + 1) * home_blocks ≤ room }
+        requires { greatest_blocks ≤ room }
         ensures clean { IfOk result (λ made. IsClean made) }
         ensures home { IfOk result (λ made. made.node.home ≡ home) }
         ensures room { IfOk result (λ made. made.room ≡ room) }
@@ -86,7 +86,7 @@ impl NodeBox {
         ensures node { self.new.node ≡ (says self.old.node).node }
         ensures room { self.new.room ≡ self.old.room }
         ensures said { HasSaid self.new (call_said result) }
-        ensures blocks { TakesOut self.old.node self.new.node (call_said result) }
+        ensures blocks { HasTakenOut self.old.node self.new.node (call_said result) }
     {
         let said = self.node.says();
         self.out = out_by(&said);
@@ -96,7 +96,7 @@ impl NodeBox {
     /// Hears the answer to the call that it said. The list has as many images as `enter` was told.
     pub fn hears(&mut self, images: &[Image], heard: Heard)
         requires images { length images.now ≡ self.old.node.images }
-        requires heard { CanHear images.now self.old heard }
+        requires heard { IsAbleToHear images.now self.old heard }
         ensures node { self.new.node ≡ hears images.now self.old.node (heard_as heard) }
         ensures room { self.new.room ≡ self.old.room }
         ensures out { self.new.out ≡ Out.Nothing }
@@ -119,7 +119,7 @@ impl NodeBox {
         requires idle { self.old.out ≡ Out.Nothing }
         requires room { length (blocks_of self.old.node) ≤ out.old.spare }
         requires apart { AreApartFrom (blocks_of self.old.node) out.old }
-        ensures after { self.new ≡ record self.old { node = scrubbed self.old.node } }
+        ensures after { self.new ≡ record self.old { node = scrubbed_node self.old.node } }
         ensures moved { ids_of out.new.blocks
             ≡ put_all (blocks_of self.old.node) (ids_of out.old.blocks) }
         ensures spare { out.new.spare + length (blocks_of self.old.node) ≡ out.old.spare }

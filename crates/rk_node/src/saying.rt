@@ -7,7 +7,7 @@ ghost use Rattle.xm_owner.specs.Holdings.{Mapping};
 ghost use Rattle.rk_process.specs.Runs.{reached_at};
 ghost use Rattle.rk_node.specs.Standing.{node_of, turn_of, processes_from};
 ghost use Rattle.rk_node.specs.Stocked.{IsStocked, IsInTurn, IsHearing};
-ghost use Rattle.rk_node.specs.Wording.{HasBatch, out_by, out_of, out_after, said_as, said_by, GoesOnIn};
+ghost use Rattle.rk_node.specs.Wording.{HasBatch, out_by, out_of, out_after, said_as, said_by, HasGoneOnIn};
 
 use crate::node::Node;
 use crate::turn::{Did, Turn};
@@ -75,7 +75,7 @@ impl Node {
         ensures stocked { IsStocked self.new }
         ensures batch { HasBatch (out_of result) self.new.batch }
         ensures room { self.new.room ≡ self.old.room }
-        ensures goes_on { GoesOnIn result self.new (turn_of turn.new) turn.old.left }
+        ensures goes_on { HasGoneOnIn result self.new (turn_of turn.new) turn.old.left }
     {
         match self.runs_process(turn) {
             Paused::Call => self.kernel(turn),

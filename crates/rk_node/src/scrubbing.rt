@@ -5,7 +5,7 @@ ghost use Rattle.ce_model.specs.Process.{unborn};
 ghost use Rattle.ce_model.specs.Node.{with_process, blocks_of};
 ghost use Rattle.ce_model.specs.Kernel.{with_store};
 ghost use Rattle.xm_block.specs.Stores.{ids_of};
-ghost use Rattle.rk_node.specs.Boxes.{scrubbed};
+ghost use Rattle.rk_node.specs.Boxes.{scrubbed_node};
 ghost use Rattle.rk_node.specs.Standing.{node_of};
 ghost use Rattle.rk_node.specs.Stocked.{IsStocked};
 ghost use Rattle.rk_node.specs.Hearings.{AreApartFrom, ids_in};
@@ -20,7 +20,7 @@ impl Node {
         requires stocked { IsStocked self.old }
         requires apart { AreApartFrom (blocks_of (node_of self.old)) out.old }
         requires room { length (blocks_of (node_of self.old)) ≤ out.old.spare }
-        ensures node { node_of self.new ≡ scrubbed (node_of self.old) }
+        ensures node { node_of self.new ≡ scrubbed_node (node_of self.old) }
         ensures moved { ids_of out.new.blocks
             ≡ put_all (blocks_of (node_of self.old)) (ids_of out.old.blocks) }
         ensures spare { out.new.spare + length (blocks_of (node_of self.old)) ≡ out.old.spare }

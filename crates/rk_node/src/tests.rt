@@ -5,15 +5,12 @@ ghost use Rattle.rk_node.specs.Answering.{HasSaid};
 ghost use Rattle.rk_node.specs.Boxes.{fresh_at};
 
 use super::*;
-use ce_model::{BlockId, HOST, Place, Status, Stop};
+use ce_model::{BlockId, GREATEST_BLOCKS, HOST, Place, Status, Stop};
 use rk_mail::{Batch, Heard, Say};
 use rv_image::Image;
 use std::alloc::Global;
 use std::test::Fail;
 use xm_block::{Block, Store};
-
-/// The room of the largest cube's blocks.
-const ROOM: u32 = 2_080;
 
 // Sends a block with the word 7 to the host, and reads the block that it gave away. The words are those of the RISC-V
 // unprivileged specification, by hand.
@@ -46,7 +43,7 @@ fn asking(alloc: Global) -> Result<NodeBox, Fail>
     ensures unborn { IfOk result (λ made. (process_at made.node 0).status ≡ Unborn) }
     ensures images { IfOk result (λ made. made.node.images ≡ 1) }
 {
-    let mut made = NodeBox::new(alloc, 0, ROOM)?;
+    let mut made = NodeBox::new(alloc, 0, GREATEST_BLOCKS)?;
     made.enter(0, 0, 1);
     let Say::Take {
         asking: 0,
@@ -98,12 +95,12 @@ fn a_box_says_and_hears(rt: HostRuntime) -> Result<(), Fail> {
 #[test]
 fn a_block_is_put_home(rt: HostRuntime) -> Result<(), Fail> {
     let alloc = rt.alloc();
-    let mut node = NodeBox::new(alloc, 3, ROOM)?;
-    let mut all = Store::new(alloc, ROOM)?;
+    let mut node = NodeBox::new(alloc, 3, GREATEST_BLOCKS)?;
+    let mut all = Store::new(alloc, GREATEST_BLOCKS)?;
     node.scrub(&mut all);
     assert_eq!(rt; all.count(), 32);
     node.put_home(Block::new(alloc, BlockId { home: 3, index: 5 })?);
-    let mut one = Store::new(alloc, ROOM)?;
+    let mut one = Store::new(alloc, GREATEST_BLOCKS)?;
     node.scrub(&mut one);
     assert_eq!(rt; one.count(), 1);
     Ok(())

@@ -1,5 +1,7 @@
+pub mod KindOrder
 pub mod Pieces
-pub mod Tables
+pub mod TextPlaces
+pub mod RegisterTable
 pub mod SymbolTable
 pub mod WordTable
 pub mod Gathering
@@ -10,14 +12,3 @@ pub mod Placing
 pub mod Putting
 pub mod Assembling
 pub mod Spelled
-pub mod Running
-pub mod FirstFaults
-pub mod FirstKinds
-pub mod OperandFaults
-pub mod LineJudged
-pub mod LabelsJudged
-pub mod Comments
-pub mod Labelling
-pub mod Summing
-pub mod Listed
-pub mod Blanks

@@ -4,7 +4,7 @@ use Rattle.rv_asm.specs.declared.fault.AsmKind.{AsmKind}
 use Rattle.rv_asm.specs.declared.fault.Halt.{Halt}
 use Rattle.rv_asm.specs.declared.fault.Halt.TheVariants as halts
 use Rattle.rv_asm.specs.declared.statement.Statement.{Statement}
-use Rattle.rv_asm.specs.Faults.{◌>>=◌, Stops}
+use Rattle.rv_asm.specs.Faults.{◌>>=◌, IsHaltOf}
 use Rattle.rv_asm.specs.FirstPass.{Laid, place, place_all}
 
 pub place_next : (line : ℕ) (laid next : Laid) (all others : List Statement) (statement : Statement) → all ≡ statement ∷ others → place line laid statement ≡ Ok next → place_all line next others ≡ place_all line laid all
@@ -12,7 +12,7 @@ unfolding place_all
 place_next line laid next all others statement e h =
     sym (ap (place_all line laid) e ∙ ap (λ (r : Result Laid AsmKind). r >>= λ one. place_all line one others) h)
 
-pub place_stops : (halt : Halt) (line : ℕ) (laid : Laid) (all others : List Statement) (statement : Statement) → all ≡ statement ∷ others → Stops halt (place line laid statement) → Stops halt (place_all line laid all)
+pub place_stops : (halt : Halt) (line : ℕ) (laid : Laid) (all others : List Statement) (statement : Statement) → all ≡ statement ∷ others → IsHaltOf halt (place line laid statement) → IsHaltOf halt (place_all line laid all)
 unfolding place_all
 place_stops halts.Memory line laid all others statement e h = tt
 place_stops (halts.Fault kind) line laid all others statement e h =

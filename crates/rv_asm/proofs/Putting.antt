@@ -12,10 +12,10 @@ use Rattle.rv_asm.specs.Sizes.{size_of}
 use Rattle.rv_asm.specs.Sound.{IsSound, ArePlacedSound}
 use Rattle.rv_asm.specs.FirstPass.{at_line}
 use Rattle.rv_asm.specs.SecondPass.{Part, Instruction, Plain, parts_of, second_pass}
-use Rattle.rv_asm.specs.Spelling.{Spells, AppendsParts}
+use Rattle.rv_asm.specs.Spelling.{IsSpellingOf, HasAppendedParts}
 
-pub spells_append : (front back : List Part) (xs ys : List ℕ) → Spells front xs → Spells back ys → Spells (front ++ back) (xs ++ ys)
-spells_append [] back xs ys s t = subst (λ (zs : List ℕ). Spells back (zs ++ ys)) (sym s) t
+pub spells_append : (front back : List Part) (xs ys : List ℕ) → IsSpellingOf front xs → IsSpellingOf back ys → IsSpellingOf (front ++ back) (xs ++ ys)
+spells_append [] back xs ys s t = subst (λ (zs : List ℕ). IsSpellingOf back (zs ++ ys)) (sym s) t
 spells_append (Instruction inst ∷ front) back xs ys s t =
     (s.0, s.1 ++ ys, s.2, s.3, ap (λ (zs : List ℕ). zs ++ ys) s.4 ∙ append_assoc (to_le_bytes w32 s.0) s.1 ys, spells_append front back s.1 ys s.5 t)
 spells_append (Plain plain ∷ front) back xs ys s t =
@@ -28,10 +28,10 @@ behind front parts = Ok (front ++ parts)
 -- the bytes lay out parts, and with those of the statements that are left they are the whole
 pub record IsPutSoFar (names : Names) (all : List Placed) (i : ℕ) (bytes : List ℕ) : Type 0 where
   pub parts : List Part
-  pub spelled : Spells parts bytes
+  pub spelled : IsSpellingOf parts bytes
   pub whole : second_pass names image_start all ≡ (second_pass names (image_start + length bytes) (drop i all) >>= behind parts)
 
-pub put_plain : (old new plain : List ℕ) → new ≡ old ++ plain → AppendsParts (Plain plain ∷ []) old new
+pub put_plain : (old new plain : List ℕ) → new ≡ old ++ plain → HasAppendedParts (Plain plain ∷ []) old new
 put_plain old new plain e = (plain, ([], sym (append-nil plain), refl), e)
 
 nothing_behind : (r : Result (List Part) AsmFault) → r ≡ (r >>= behind [])
@@ -66,13 +66,13 @@ regroup front here (Ok there) = ap (λ (parts : List Part). Ok parts) (sym (appe
 regroup front here (Err fault) = refl
 
 pub put_more : (names : Names) (all : List Placed) (i : ℕ) (d : Placed) (old new : List ℕ) → i < length all → IsPutSoFar names all i old
-    → (parts : List Part) → parts_of names (image_start + length old) (get_or all i d).statement ≡ Ok parts → AppendsParts parts old new → length new ≡ length old + size_of (get_or all i d).statement
+    → (parts : List Part) → parts_of names (image_start + length old) (get_or all i d).statement ≡ Ok parts → HasAppendedParts parts old new → length new ≡ length old + size_of (get_or all i d).statement
     → IsPutSoFar names all (i + 1) new
 put_more names all i d old new lt before parts e appended size =
     let there : image_start + length old + size_of (get_or all i d).statement ≡ image_start + length new = omega arith in
     record {
       parts = before.parts ++ parts;
-      spelled = subst (Spells (before.parts ++ parts)) (sym appended.2) (spells_append before.parts parts old appended.0 before.spelled appended.1);
+      spelled = subst (IsSpellingOf (before.parts ++ parts)) (sym appended.2) (spells_append before.parts parts old appended.0 before.spelled appended.1);
       whole =
           put_step names all i d old lt before
           ∙ ap (λ (r : Result (List Part) AsmKind). at_line (get_or all i d).line r >>= onward names (image_start + length old + size_of (get_or all i d).statement) (drop (i + 1) all) before.parts) e

@@ -4,9 +4,9 @@ use Rattle.std.specs.Prelude.{IfSome, bytes_eq}
 use Rattle.rv_inst.specs.Valid.{IsRegister, IsValid}
 use Rattle.rv_asm.specs.declared.mnemonic.Mnemonic.{Mnemonic}
 use Rattle.rv_asm.specs.declared.mnemonic.Mnemonic.TheVariants as words
-use Rattle.rv_asm.specs.Table.{look_up}
+use Rattle.ce_text.specs.Table.{look_up}
 use Rattle.rv_asm.specs.Words.{mnemonics, mnemonic_of}
-use Rattle.rv_asm.specs.Sound.{IsSoundWord}
+use Rattle.rv_asm.specs.Sound.{IsSoundMnemonic}
 
 -- the rows that hold an instruction or a register hold one that there is; nothing is asked of the others
 abbrev AllSound : List (List ℕ × Mnemonic) → Type 0
@@ -15,11 +15,11 @@ AllSound ((word, words.Plain inst) ∷ rows) = IsValid inst × AllSound rows
 AllSound ((word, words.Jump rd) ∷ rows) = IsRegister rd × AllSound rows
 AllSound ((word, mnemonic) ∷ rows) = AllSound rows
 
-looked_by : (here : Bool) (mnemonic : Mnemonic) (there : Option Mnemonic) → IsSoundWord mnemonic → IfSome there IsSoundWord → IfSome (cond here (Some mnemonic) there) IsSoundWord
+looked_by : (here : Bool) (mnemonic : Mnemonic) (there : Option Mnemonic) → IsSoundMnemonic mnemonic → IfSome there IsSoundMnemonic → IfSome (cond here (Some mnemonic) there) IsSoundMnemonic
 looked_by true mnemonic there sound others = sound
 looked_by false mnemonic there sound others = others
 
-looked : (rows : List (List ℕ × Mnemonic)) (text : List ℕ) → AllSound rows → IfSome (look_up rows text) IsSoundWord
+looked : (rows : List (List ℕ × Mnemonic)) (text : List ℕ) → AllSound rows → IfSome (look_up rows text) IsSoundMnemonic
 looked [] text all = tt
 looked ((word, words.Plain inst) ∷ rows) text all = looked_by (bytes_eq word text) (words.Plain inst) (look_up rows text) all.0 (looked rows text all.1)
 looked ((word, words.Jump rd) ∷ rows) text all = looked_by (bytes_eq word text) (words.Jump rd) (look_up rows text) all.0 (looked rows text all.1)
@@ -29,6 +29,6 @@ sound_rows : AllSound mnemonics
 unfolding mnemonics
 sound_rows = search (rules, arith)
 
-pub sound_word : (word : List ℕ) → IfSome (mnemonic_of word) IsSoundWord
+pub sound_word : (word : List ℕ) → IfSome (mnemonic_of word) IsSoundMnemonic
 unfolding mnemonic_of
 sound_word word = looked mnemonics word sound_rows

@@ -10,7 +10,7 @@ use Rattle.rv_asm.specs.Names.{Names}
 use Rattle.rv_asm.specs.Faults.{◌>>=◌, refuse, Unless}
 use Rattle.rv_asm.specs.FirstPass.{at_line, first_pass}
 use Rattle.rv_asm.specs.SecondPass.{Part, second_pass}
-use Rattle.rv_asm.specs.Spelling.{Spells}
+use Rattle.rv_asm.specs.Spelling.{IsSpellingOf}
 
 -- what a text describes: where it begins, and its parts from the start on
 pub record Assembly : Type 0 where
@@ -38,10 +38,10 @@ assembled text = do
 -- an image that is laid out so
 pub record IsLaidOut (assembly : Assembly) (image : ImageParts) : Type 0 where
   pub entry : image.entry ≡ assembly.entry
-  pub loaded : Spells assembly.parts image.loaded
+  pub loaded : IsSpellingOf assembly.parts image.loaded
   pub zero : image.zero ≡ 0
 
 -- the image that the text describes, or its first fault, unless memory runs out
-abbrev pub Assembles : List ℕ → Result ImageParts AsmFault → Type 0
-Assembles text (Ok image) = (assembly : Assembly) × (assembled text ≡ Ok assembly) × IsLaidOut assembly image
-Assembles text (Err fault) = Unless fault.kind (assembled text ≡ Err fault)
+abbrev pub IsAssemblyOf : List ℕ → Result ImageParts AsmFault → Type 0
+IsAssemblyOf text (Ok image) = (assembly : Assembly) × (assembled text ≡ Ok assembly) × IsLaidOut assembly image
+IsAssemblyOf text (Err fault) = Unless fault.kind (assembled text ≡ Err fault)

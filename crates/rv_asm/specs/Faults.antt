@@ -60,9 +60,9 @@ halt_at halts.Memory line = record { line = line; kind = Memory (record {}) }
 halt_at (halts.Fault kind) line = record { line = line; kind = kind }
 
 -- what is known of a call that stopped: memory ran out, or the definition has this fault
-abbrev pub Stops : {A : Type 0} → Halt → Result A AsmKind → Type 0
-Stops halts.Memory judged = Unit {0}
-Stops (halts.Fault kind) judged = judged ≡ Err kind
+abbrev pub IsHaltOf : {A : Type 0} → Halt → Result A AsmKind → Type 0
+IsHaltOf halts.Memory judged = Unit {0}
+IsHaltOf (halts.Fault kind) judged = judged ≡ Err kind
 
 -- what is known of a fault: nothing, where memory ran out
 abbrev pub Unless : AsmKind → Type 0 → Type 0
@@ -70,11 +70,11 @@ Unless (Memory cause) known = Unit {0}
 Unless kind known = known
 
 -- what a pass answered, seen by `view`, is what the definition says, unless memory ran out
-abbrev pub GivesAll : {A B : Type 0} → (A → B) → Result A AsmFault → Result B AsmFault → Type 0
-GivesAll view (Ok x) judged = judged ≡ Ok (view x)
-GivesAll view (Err fault) judged = Unless fault.kind (judged ≡ Err fault)
+abbrev pub IsAllSeenAs : {A B : Type 0} → (A → B) → Result A AsmFault → Result B AsmFault → Type 0
+IsAllSeenAs view (Ok x) judged = judged ≡ Ok (view x)
+IsAllSeenAs view (Err fault) judged = Unless fault.kind (judged ≡ Err fault)
 
 -- what a call answered, seen by `view`, is what the definition says, unless memory ran out
-abbrev pub Gives : {A B : Type 0} → (A → B) → Result A Halt → Result B AsmKind → Type 0
-Gives view (Ok x) judged = judged ≡ Ok (view x)
-Gives view (Err halt) judged = Stops halt judged
+abbrev pub IsSeenAs : {A B : Type 0} → (A → B) → Result A Halt → Result B AsmKind → Type 0
+IsSeenAs view (Ok x) judged = judged ≡ Ok (view x)
+IsSeenAs view (Err halt) judged = IsHaltOf halt judged

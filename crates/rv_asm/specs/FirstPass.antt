@@ -16,7 +16,7 @@ use Rattle.rv_asm.specs.Name.{is_name}
 use Rattle.rv_asm.specs.Names.{Names, no_names, with_name, is_taken}
 use Rattle.rv_asm.specs.Words.{mnemonic_of}
 use Rattle.rv_asm.specs.declared.fault.Halt.{Halt}
-use Rattle.rv_asm.specs.Faults.{◌>>=◌, refuse, or_fault, both, Stops}
+use Rattle.rv_asm.specs.Faults.{◌>>=◌, refuse, or_fault, both, IsHaltOf}
 use Rattle.rv_asm.specs.Operand.{two_pieces, number, name_piece}
 use Rattle.rv_asm.specs.Sizes.{size_of, lays_words}
 use Rattle.rv_asm.specs.Statements.{statements_of}
@@ -34,9 +34,9 @@ abbrev pub nothing_laid : Laid
 nothing_laid = laid_of no_names [] 0
 
 -- what is known of a call that lays something: what is laid out then is what the definition says, unless memory ran out
-abbrev pub Lays : Result (Unit {0}) Halt → Laid → Result Laid AsmKind → Type 0
-Lays (Ok done) laid judged = judged ≡ Ok laid
-Lays (Err halt) laid judged = Stops halt judged
+abbrev pub HasLaid : Result (Unit {0}) Halt → Laid → Result Laid AsmKind → Type 0
+HasLaid (Ok done) laid judged = judged ≡ Ok laid
+HasLaid (Err halt) laid judged = IsHaltOf halt judged
 
 -- ---- places
 
@@ -69,19 +69,19 @@ equ laid operands = do
   values ← both (name_piece parts.0) (number laid.names parts.1)
   define laid parts.0 (Number values.1)
 
--- a statement of another word
+-- a statement whose mnemonic or directive is another than `.equ`
 unfoldable pub lay : ℕ → Laid → List ℕ → List ℕ → Result Laid AsmKind
-lay line laid word operands = do
-  mnemonic ← or_fault (mnemonic_of word) UnknownWord
+lay line laid front operands = do
+  mnemonic ← or_fault (mnemonic_of front) UnknownWord
   statements ← statements_of mnemonic laid.names operands
   place_all line laid statements
 
--- what stands behind a word, without blanks at its ends
+-- what stands behind a mnemonic, without blanks at its ends
 abbrev pub operands_of : Option (List ℕ) → List ℕ
 operands_of None = []
 operands_of (Some rest) = trimmed rest
 
--- what a line has behind its label: nothing, or a word and its operands
+-- what a line has behind its label: nothing, or a mnemonic and its operands
 unfoldable pub statement : ℕ → Laid → List ℕ → Result Laid AsmKind
 statement line laid [] = Ok laid
 statement line laid (byte ∷ bytes) = do

@@ -4,7 +4,7 @@ use Rattle.std.specs.Int.{w32, from_le_bytes}
 use Rattle.rv_model.specs.declared.inst.Inst.{Inst}
 use Rattle.rv_model.specs.Words.{dec}
 use Rattle.rv_asm.specs.SecondPass.{Part, Instruction, Plain}
-use Rattle.rv_asm.specs.Spelling.{Spells}
+use Rattle.rv_asm.specs.Spelling.{IsSpellingOf}
 
 -- how many bytes parts take
 abbrev pub parts_size : List Part → ℕ
@@ -18,8 +18,8 @@ word_at place bytes = from_le_bytes w32 (take 4 (drop place bytes))
 
 -- the word at an instruction's place is decoded to the instruction
 abbrev pub InstructionsDecode : Type 0
-InstructionsDecode = (front back : List Part) (inst : Inst) (bytes : List ℕ) → Spells (front ++ Instruction inst ∷ back) bytes → dec (word_at (parts_size front) bytes) ≡ Some inst
+InstructionsDecode = (front back : List Part) (inst : Inst) (bytes : List ℕ) → IsSpellingOf (front ++ Instruction inst ∷ back) bytes → dec (word_at (parts_size front) bytes) ≡ Some inst
 
 -- parts have one spelling
 abbrev pub OneSpelling : Type 0
-OneSpelling = (parts : List Part) (first second : List ℕ) → Spells parts first → Spells parts second → first ≡ second
+OneSpelling = (parts : List Part) (first second : List ℕ) → IsSpellingOf parts first → IsSpellingOf parts second → first ≡ second

@@ -1,9 +1,7 @@
 pub mod Line
-pub mod LineFaults
-pub mod Listing
 pub mod Name
-pub mod Table
 pub mod Register
+pub mod Places
 pub mod Literal
 pub mod Faults
 pub mod Names
@@ -13,14 +11,10 @@ pub mod Words
 pub mod Sizes
 pub mod Statements
 pub mod Views
-pub mod Before
-pub mod Effects
 pub mod FirstPass
 pub mod SecondPass
 pub mod Sound
 pub mod Spelling
 pub mod Assembly
-pub mod Forms
-pub mod LabelFaults
 pub mod LaidOut
 pub mod Law

@@ -15,9 +15,9 @@ use Rattle.rv_asm.specs.Names.{Names}
 use Rattle.rv_asm.specs.Faults.{◌>>=◌, refuse, or_fault, both}
 
 -- a judgment that stands for another one: the same fault, or its value seen by `view`
-abbrev pub Views : {A B : Type 0} → (A → B) → Result A AsmKind → Result B AsmKind → Type 0
-Views view (Ok x) judged = judged ≡ Ok (view x)
-Views view (Err kind) judged = judged ≡ Err kind
+abbrev pub IsViewOf : {A B : Type 0} → (A → B) → Result A AsmKind → Result B AsmKind → Type 0
+IsViewOf view (Ok x) judged = judged ≡ Ok (view x)
+IsViewOf view (Err kind) judged = judged ≡ Err kind
 
 -- ---- how many operands
 

@@ -1,6 +1,6 @@
 -- The names of the registers.
 use Rattle.std.specs.Prelude.{ℕ, List, [], ◌∷◌, Option, codes}
-use Rattle.rv_asm.specs.Table.{look_up}
+use Rattle.ce_text.specs.Table.{look_up}
 
 -- the names of the RISC-V calling convention ("Integer Register Convention"), then the numbers
 unfoldable pub register_names : List (List ℕ × ℕ)

@@ -12,11 +12,11 @@ use Rattle.rv_asm.specs.declared.statement.Statement.{Statement}
 use Rattle.rv_asm.specs.declared.statement.Statement.TheVariants as statements
 use Rattle.rv_asm.specs.declared.statement.Placed.{Placed}
 
--- the instruction or the register that a word stands for is one
-abbrev pub IsSoundWord : Mnemonic → Type 0
-IsSoundWord (words.Plain inst) = IsValid inst
-IsSoundWord (words.Jump rd) = IsRegister rd
-IsSoundWord mnemonic = Unit {0}
+-- the instruction or the register that a mnemonic stands for is one
+abbrev pub IsSoundMnemonic : Mnemonic → Type 0
+IsSoundMnemonic (words.Plain inst) = IsValid inst
+IsSoundMnemonic (words.Jump rd) = IsRegister rd
+IsSoundMnemonic mnemonic = Unit {0}
 
 -- what a statement says of registers and numbers can be encoded
 abbrev pub IsSound : Statement → Type 0

@@ -5,26 +5,26 @@ use Rattle.rv_model.specs.Words.{dec}
 use Rattle.rv_asm.specs.declared.fault.AsmKind.{AsmKind}
 use Rattle.rv_asm.specs.declared.fault.AsmFault.{AsmFault}
 use Rattle.rv_asm.specs.declared.fault.Halt.{Halt}
-use Rattle.rv_asm.specs.Faults.{Stops, Unless}
+use Rattle.rv_asm.specs.Faults.{IsHaltOf, Unless}
 use Rattle.rv_asm.specs.SecondPass.{Part, Instruction, Plain}
 
 -- Bytes that lay out parts: an instruction is the word that decodes to it, little-endian.
-abbrev pub Spells : List Part → List ℕ → Type 0
-Spells [] bytes = bytes ≡ []
-Spells (Instruction inst ∷ parts) bytes =
-    (word : ℕ) × (rest : List ℕ) × (word < 2 ^ 32) × (dec word ≡ Some inst) × (bytes ≡ to_le_bytes w32 word ++ rest) × Spells parts rest
-Spells (Plain plain ∷ parts) bytes = (rest : List ℕ) × (bytes ≡ plain ++ rest) × Spells parts rest
+abbrev pub IsSpellingOf : List Part → List ℕ → Type 0
+IsSpellingOf [] bytes = bytes ≡ []
+IsSpellingOf (Instruction inst ∷ parts) bytes =
+    (word : ℕ) × (rest : List ℕ) × (word < 2 ^ 32) × (dec word ≡ Some inst) × (bytes ≡ to_le_bytes w32 word ++ rest) × IsSpellingOf parts rest
+IsSpellingOf (Plain plain ∷ parts) bytes = (rest : List ℕ) × (bytes ≡ plain ++ rest) × IsSpellingOf parts rest
 
 -- new is old with bytes behind it that lay out parts
-abbrev pub AppendsParts : List Part → List ℕ → List ℕ → Type 0
-AppendsParts parts old new = (bytes : List ℕ) × Spells parts bytes × (new ≡ old ++ bytes)
+abbrev pub HasAppendedParts : List Part → List ℕ → List ℕ → Type 0
+HasAppendedParts parts old new = (bytes : List ℕ) × IsSpellingOf parts bytes × (new ≡ old ++ bytes)
 
 -- what is known of a call that appends the parts that the definition says, unless memory runs out
-abbrev pub Appends : Result (Unit {0}) Halt → List ℕ → List ℕ → Result (List Part) AsmKind → Type 0
-Appends (Ok done) old new judged = (parts : List Part) × (judged ≡ Ok parts) × AppendsParts parts old new
-Appends (Err halt) old new judged = Stops halt judged
+abbrev pub HasAppended : Result (Unit {0}) Halt → List ℕ → List ℕ → Result (List Part) AsmKind → Type 0
+HasAppended (Ok done) old new judged = (parts : List Part) × (judged ≡ Ok parts) × HasAppendedParts parts old new
+HasAppended (Err halt) old new judged = IsHaltOf halt judged
 
 -- the same of a call that answers bytes
-abbrev pub GivesParts : {A : Type 0} → (A → List ℕ) → Result A AsmFault → Result (List Part) AsmFault → Type 0
-GivesParts view (Ok out) judged = (parts : List Part) × (judged ≡ Ok parts) × Spells parts (view out)
-GivesParts view (Err fault) judged = Unless fault.kind (judged ≡ Err fault)
+abbrev pub AreGivenParts : {A : Type 0} → (A → List ℕ) → Result A AsmFault → Result (List Part) AsmFault → Type 0
+AreGivenParts view (Ok out) judged = (parts : List Part) × (judged ≡ Ok parts) × IsSpellingOf parts (view out)
+AreGivenParts view (Err fault) judged = Unless fault.kind (judged ≡ Err fault)

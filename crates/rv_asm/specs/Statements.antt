@@ -137,7 +137,7 @@ zero_count names operands = do
 
 -- ---- the table
 
--- What a word and its operands lay, one after the other.
+-- What a mnemonic and its operands lay, one after the other.
 unfoldable pub statements_of : Mnemonic → Names → List ℕ → Result (List Statement) AsmKind
 statements_of (words.Plain inst) names operands = do
   nothing ← no_piece operands

@@ -1,4 +1,4 @@
--- The words of statements.
+-- Mnemonics and directives.
 use Rattle.std.specs.Prelude.{ℕ, pos, List, [], ◌∷◌, Option, codes}
 use Rattle.rv_model.specs.declared.inst.Inst.TheVariants.{Jalr, OpImm, Fence, Ecall, Ebreak}
 use Rattle.rv_model.specs.declared.inst.BranchOp.TheVariants.{Beq, Bne, Blt, Bge, Bltu, Bgeu}
@@ -8,9 +8,9 @@ use Rattle.rv_model.specs.declared.inst.ImmOp.TheVariants.{Addi, Slti, Sltiu, Xo
 use Rattle.rv_model.specs.declared.inst.RegOp.TheVariants.{Add, Sll, Slt, Sltu, Xor, Srl, Or, And, Sub, Sra}
 use Rattle.rv_asm.specs.declared.mnemonic.Mnemonic.{Mnemonic}
 use Rattle.rv_asm.specs.declared.mnemonic.Mnemonic.TheVariants as words
-use Rattle.rv_asm.specs.Table.{look_up}
+use Rattle.ce_text.specs.Table.{look_up}
 
--- each word, with what it begins
+-- each mnemonic and directive by its text
 unfoldable pub mnemonics : List (List ℕ × Mnemonic)
 mnemonics =
     (codes "lui", words.Lui)
@@ -65,6 +65,6 @@ mnemonics =
     ∷ (codes ".zero", words.Zero)
     ∷ []
 
--- what a word begins
+-- the mnemonic or directive with this text
 unfoldable pub mnemonic_of : List ℕ → Option Mnemonic
-mnemonic_of word = look_up mnemonics word
+mnemonic_of text = look_up mnemonics text

@@ -2,7 +2,7 @@
 
 ghost use Rattle.std.specs.Prelude.{◌≡◌, ◌^◌, ◌<◌, length};
 ghost use Rattle.rv_asm.specs.Symbols.{names_of};
-ghost use Rattle.rv_asm.specs.Assembly.{entry_of, Assembles};
+ghost use Rattle.rv_asm.specs.Assembly.{entry_of, IsAssemblyOf};
 
 use crate::fault::{AsmFault, AsmKind};
 use crate::first_pass::first_pass;
@@ -28,7 +28,7 @@ fn entry_of(symbols: &Symbols) -> u32
 /// `Memory` may come at any point.
 pub fn assemble(alloc: Global, text: &[u8]) -> Result<Image, AsmFault>
     requires { length text.now < 2 ^ 31 }
-    ensures { Assembles text.now result }
+    ensures { IsAssemblyOf text.now result }
 {
     let layout = first_pass(alloc, text)?;
     let bytes = second_pass(alloc, &layout)?;

@@ -9,7 +9,7 @@ use thiserror::Error;
 
 /// What is wrong with a line, in the order in which a line is judged: each kind is judged over the whole line
 /// before the next (docs/ASSEMBLY.md, "Faults").
-#[derive(Clone, Copy, Debug, PartialEq, Eq, Error)]
+#[derive(Clone, Copy, Debug, PartialEq, Eq, PartialOrd, Ord, Error)]
 pub enum AsmKind {
     /// A byte before any comment is neither a blank nor from 0x21 to 0x7E.
     #[error("bad byte")]
@@ -48,6 +48,9 @@ pub enum AsmKind {
     #[error("{0}")]
     Memory(NoMemory),
 }
+
+/// What operands are judged to be, or the kind of their fault.
+pub type Judged<T> = Result<T, AsmKind>;
 
 /// The first fault of a text.
 #[derive(Clone, Copy, Debug, PartialEq, Eq, Error)]

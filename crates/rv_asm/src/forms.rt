@@ -4,15 +4,15 @@ ghost use Rattle.std.specs.Prelude.{◌≡◌, IfOk};
 ghost use Rattle.rv_inst.specs.Valid.{IsRegister, IsTwelveBits, IsUpper, IsImmediateOf};
 ghost use Rattle.rv_asm.specs.Symbols.{names_of};
 ghost use Rattle.rv_asm.specs.Operand.{word_of, byte_of};
-ghost use Rattle.rv_asm.specs.Statements.{register_upper, register_memory, immediate, registers_immediate, three_registers, two_registers, register_word, register_label, registers_label, one_label, zero_count};
+ghost use Rattle.rv_asm.specs.Statements.{register_upper, register_memory, immediate, registers_immediate, three_registers, register_label, registers_label};
 
-use crate::fault::AsmKind;
+use crate::fault::Judged;
 use crate::name::Name;
 use crate::operand::{
-    both, memory, name_piece, number, one_piece, ranged, register, three_pieces, two_pieces,
+    both, memory, name_piece, number, ranged, register, three_pieces, twelve_bits, two_pieces,
 };
 use crate::symbols::Symbols;
-use rv_model::{IMAGE_ROOM, ImmOp};
+use rv_model::ImmOp;
 
 /// A number from -2^31 to 2^32 - 1, modulo 2^32.
 pub fn word_of(number: i64) -> u32
@@ -30,7 +30,7 @@ pub fn byte_of(number: i64) -> u8
 
 /// `rd, n` with n from 0 to 1,048,575, which is bits 31..12.
 #[tactic(auto, unfolding(crate::specs::Statements::register_upper))]
-pub fn register_upper(symbols: &Symbols, operands: &[u8]) -> Result<(u8, u32), AsmKind>
+pub fn register_upper(symbols: &Symbols, operands: &[u8]) -> Judged<(u8, u32)>
     ensures value { result ≡ register_upper (names_of symbols.now) operands.now }
     ensures small { IfOk result (λ it. IsRegister it.0 × IsUpper it.1) }
 {
@@ -41,7 +41,7 @@ pub fn register_upper(symbols: &Symbols, operands: &[u8]) -> Result<(u8, u32), A
 
 /// `rd, n(rs1)`, as rd, n and rs1.
 #[tactic(auto, unfolding(crate::specs::Statements::register_memory))]
-pub fn register_memory(symbols: &Symbols, operands: &[u8]) -> Result<(u8, i32, u8), AsmKind>
+pub fn register_memory(symbols: &Symbols, operands: &[u8]) -> Judged<(u8, i32, u8)>
     ensures value { result ≡ register_memory (names_of symbols.now) operands.now }
     ensures small { IfOk result (λ it. IsRegister it.0 × IsTwelveBits it.1 × IsRegister it.2) }
 {
@@ -51,26 +51,21 @@ pub fn register_memory(symbols: &Symbols, operands: &[u8]) -> Result<(u8, i32, u
 }
 
 /// The number of an operation on a register and a number: a shift amount, or from -2,048 to 2,047.
-#[tactic(auto, unfolding(crate::specs::Statements::immediate))]
-fn immediate(symbols: &Symbols, op: ImmOp, piece: &[u8]) -> Result<i64, AsmKind>
+#[tactic(auto, unfolding(crate::specs::Statements::immediate, crate::specs::Operand::twelve_bits))]
+fn immediate(symbols: &Symbols, op: ImmOp, piece: &[u8]) -> Judged<i64>
     ensures value { result ≡ immediate (names_of symbols.now) op piece.now }
     ensures fits { IfOk result (IsImmediateOf op) }
     ensures small { IfOk result IsTwelveBits }
 {
-    let n = number(symbols, piece);
     match op {
-        ImmOp::Slli | ImmOp::Srli | ImmOp::Srai => ranged(0, 31, n),
-        _ => ranged(-2048, 2047, n),
+        ImmOp::Slli | ImmOp::Srli | ImmOp::Srai => ranged(0, 31, number(symbols, piece)),
+        _ => twelve_bits(symbols, piece),
     }
 }
 
 /// `rd, rs1, n` of an operation on a register and a number.
 #[tactic(auto, unfolding(crate::specs::Statements::registers_immediate))]
-pub fn registers_immediate(
-    symbols: &Symbols,
-    op: ImmOp,
-    operands: &[u8],
-) -> Result<(u8, u8, i32), AsmKind>
+pub fn registers_immediate(symbols: &Symbols, op: ImmOp, operands: &[u8]) -> Judged<(u8, u8, i32)>
     ensures value { result ≡ registers_immediate (names_of symbols.now) op operands.now }
     ensures small { IfOk result (λ it. IsRegister it.0 × IsRegister it.1 × IsImmediateOf op it.2) }
 {
@@ -81,7 +76,7 @@ pub fn registers_immediate(
 
 /// `rd, rs1, rs2`
 #[tactic(auto, unfolding(crate::specs::Statements::three_registers))]
-pub fn three_registers(operands: &[u8]) -> Result<(u8, u8, u8), AsmKind>
+pub fn three_registers(operands: &[u8]) -> Judged<(u8, u8, u8)>
     ensures value { result ≡ three_registers operands.now }
     ensures small { IfOk result (λ it. IsRegister it.0 × IsRegister it.1 × IsRegister it.2) }
 {
@@ -90,30 +85,9 @@ pub fn three_registers(operands: &[u8]) -> Result<(u8, u8, u8), AsmKind>
     Ok((rd, rs1, rs2))
 }
 
-/// `rd, rs`
-#[tactic(auto, unfolding(crate::specs::Statements::two_registers))]
-pub fn two_registers(operands: &[u8]) -> Result<(u8, u8), AsmKind>
-    ensures value { result ≡ two_registers operands.now }
-    ensures small { IfOk result (λ it. IsRegister it.0 × IsRegister it.1) }
-{
-    let (rd, rs) = two_pieces(operands)?;
-    both(register(rd), register(rs))
-}
-
-/// `rd, n`, with n modulo 2^32.
-#[tactic(auto, unfolding(crate::specs::Statements::register_word))]
-pub fn register_word(symbols: &Symbols, operands: &[u8]) -> Result<(u8, u32), AsmKind>
-    ensures value { result ≡ register_word (names_of symbols.now) operands.now }
-    ensures small { IfOk result (λ it. IsRegister it.0) }
-{
-    let (rd, n) = two_pieces(operands)?;
-    let (rd, n) = both(register(rd), number(symbols, n))?;
-    Ok((rd, word_of(n)))
-}
-
 /// `rd, label`
 #[tactic(auto, unfolding(crate::specs::Statements::register_label))]
-pub fn register_label(operands: &[u8]) -> Result<(u8, Name<'_>), AsmKind>
+pub fn register_label(operands: &[u8]) -> Judged<(u8, Name<'_>)>
     ensures value { result ≡ register_label operands.now }
     ensures small { IfOk result (λ it. IsRegister it.0) }
 {
@@ -124,31 +98,11 @@ pub fn register_label(operands: &[u8]) -> Result<(u8, Name<'_>), AsmKind>
 
 /// `rs1, rs2, label`
 #[tactic(auto, unfolding(crate::specs::Statements::registers_label))]
-pub fn registers_label(operands: &[u8]) -> Result<(u8, u8, Name<'_>), AsmKind>
+pub fn registers_label(operands: &[u8]) -> Judged<(u8, u8, Name<'_>)>
     ensures value { result ≡ registers_label operands.now }
     ensures small { IfOk result (λ it. IsRegister it.0 × IsRegister it.1) }
 {
     let (rs1, rs2, label) = three_pieces(operands)?;
     let ((rs1, rs2), ()) = both(both(register(rs1), register(rs2)), name_piece(label))?;
     Ok((rs1, rs2, Name::of(label)))
-}
-
-/// `label`
-#[tactic(auto, unfolding(crate::specs::Statements::one_label))]
-pub fn one_label(operands: &[u8]) -> Result<Name<'_>, AsmKind>
-    ensures { result ≡ one_label operands.now }
-{
-    let label = one_piece(operands)?;
-    name_piece(label)?;
-    Ok(Name::of(label))
-}
-
-/// `n` from 0 to the most bytes that an image may take up.
-#[tactic(auto, unfolding(crate::specs::Statements::zero_count))]
-pub fn zero_count(symbols: &Symbols, operands: &[u8]) -> Result<u32, AsmKind>
-    ensures { result ≡ zero_count (names_of symbols.now) operands.now }
-{
-    let n = one_piece(operands)?;
-    let n = ranged(0, i64::from(IMAGE_ROOM), number(symbols, n))?;
-    Ok(n as u32)
 }

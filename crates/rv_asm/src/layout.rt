@@ -7,10 +7,12 @@ ghost use Rattle.rv_asm.specs.Sound.{ArePlacedSound, ArePlacedSound-prop};
 
 use crate::statement::Placed;
 use crate::symbols::Symbols;
+use std::alloc::Global;
 
 /// What the first pass lays out: what the names mean, and the statements with their lines.
 #[derive(Drop)]
 pub struct Layout<'a> {
+    pub alloc: Global,
     pub symbols: Symbols,
     pub statements: Vec<Placed<'a>>,
     /// How many bytes the statements take.

@@ -1,13 +1,13 @@
-//! The words of statements.
+//! Mnemonics and directives.
 
 ghost use Rattle.std.specs.Prelude.{◌≡◌, IfSome};
-ghost use Rattle.rv_asm.specs.Sound.{IsSoundWord};
+ghost use Rattle.rv_asm.specs.Sound.{IsSoundMnemonic};
 ghost use Rattle.rv_asm.specs.Words.{mnemonic_of};
 
-use crate::table::look_up;
+use ce_text::look_up;
 use rv_model::{BranchOp, ImmOp, Inst, LoadOp, RegOp, StoreOp};
 
-/// What a statement's word asks for. `.equ`, which lays nothing, is not among them.
+/// What a mnemonic or a directive asks for. `.equ`, which lays nothing, is not among them.
 #[derive(Clone, Copy, Debug)]
 pub enum Mnemonic {
     /// `lui rd, n`
@@ -46,7 +46,7 @@ pub enum Mnemonic {
     Zero,
 }
 
-const WORDS: [(&str, Mnemonic); 50] = [
+const MNEMONICS: [(&str, Mnemonic); 50] = [
     ("lui", Mnemonic::Lui),
     ("auipc", Mnemonic::Auipc),
     ("jal", Mnemonic::Jal),
@@ -114,11 +114,11 @@ const WORDS: [(&str, Mnemonic); 50] = [
     (".zero", Mnemonic::Zero),
 ];
 
-/// What a word begins, and `None` where it begins nothing.
+/// The mnemonic or directive with this text.
 #[tactic(auto, unfolding(crate::specs::Words::mnemonic_of, crate::specs::Words::mnemonics))]
-pub fn mnemonic_of(word: &[u8]) -> Option<Mnemonic>
-    ensures value { result ≡ mnemonic_of word.now }
-    ensures sound { IfSome result IsSoundWord }
+pub fn mnemonic_of(text: &[u8]) -> Option<Mnemonic>
+    ensures value { result ≡ mnemonic_of text.now }
+    ensures sound { IfSome result IsSoundMnemonic }
 {
-    look_up(&WORDS, word)
+    look_up(&MNEMONICS, text)
 }

@@ -2,11 +2,11 @@
 
 ghost use Rattle.std.specs.Prelude.{◌≡◌, ◌≤ℤ◌, Some, Ok, IfOk};
 ghost use Rattle.rv_inst.specs.Valid.{IsRegister, IsTwelveBits};
-ghost use Rattle.rv_asm.specs.Faults.{both, rank, earlier};
+ghost use Rattle.rv_asm.specs.Faults.{both};
 ghost use Rattle.rv_asm.specs.Symbols.{names_of};
-ghost use Rattle.rv_asm.specs.Operand.{Views, no_piece, one_piece, two_pieces, three_pieces, register, number, number_named, ranged, name_piece, twelve_bits, in_brackets, memory};
+ghost use Rattle.rv_asm.specs.Operand.{IsViewOf, no_piece, one_piece, two_pieces, three_pieces, register, number, ranged, name_piece, twelve_bits, in_brackets, memory};
 
-use crate::fault::AsmKind;
+use crate::fault::{AsmKind, Judged};
 use crate::line::is_token;
 use crate::literal::literal_of;
 use crate::name::is_name;
@@ -14,60 +14,21 @@ use crate::register::register_of;
 use crate::symbols::{Symbol, Symbols};
 use ce_text::{cut_at, trimmed};
 
-/// The place of a kind among those that operands can have.
-fn rank(kind: AsmKind) -> u8
-    ensures { result ≡ rank kind }
-{
-    match kind {
-        AsmKind::BadByte => 0,
-        AsmKind::NameTaken => 1,
-        AsmKind::UnknownWord => 2,
-        AsmKind::Operands => 3,
-        AsmKind::BadRegister => 4,
-        AsmKind::BadNumber => 5,
-        AsmKind::UnknownName => 6,
-        AsmKind::Unaligned => 7,
-        AsmKind::TooLarge => 8,
-        AsmKind::TooFar => 9,
-        AsmKind::Entry => 10,
-        AsmKind::Memory(_) => 11,
-    }
-}
-
-/// The kind that is judged first.
-pub fn earlier(first: AsmKind, second: AsmKind) -> AsmKind
-    ensures { result ≡ earlier first second }
-{
-    if rank(first) <= rank(second) {
-        first
-    } else {
-        second
-    }
-}
-
 /// Two judgments of one line: both values, or the fault whose kind is judged first.
 #[tactic(auto, unfolding(crate::specs::Faults::both))]
-pub fn both<A: Drop, B: Drop>(
-    first: Result<A, AsmKind>,
-    second: Result<B, AsmKind>,
-) -> Result<(A, B), AsmKind>
+pub fn both<A: Drop, B: Drop>(first: Judged<A>, second: Judged<B>) -> Judged<(A, B)>
     ensures joined { result ≡ both first second }
     ensures parts { IfOk result (λ pair. (first ≡ Ok pair.0) × (second ≡ Ok pair.1)) }
 {
-    match first {
-        Ok(first) => match second {
-            Ok(second) => Ok((first, second)),
-            Err(kind) => Err(kind),
-        },
-        Err(first) => match second {
-            Ok(_) => Err(first),
-            Err(second) => Err(earlier(first, second)),
-        },
+    match (first, second) {
+        (Ok(first), Ok(second)) => Ok((first, second)),
+        (Ok(_), Err(kind)) | (Err(kind), Ok(_)) => Err(kind),
+        (Err(first), Err(second)) => Err(first.min(second)),
     }
 }
 
 /// `Operands` where there is an operand.
-pub fn no_piece(operands: &[u8]) -> Result<(), AsmKind>
+pub fn no_piece(operands: &[u8]) -> Judged<()>
     ensures { result ≡ no_piece operands.now }
 {
     match operands {
@@ -78,8 +39,8 @@ pub fn no_piece(operands: &[u8]) -> Result<(), AsmKind>
 
 /// The one operand, and `Operands` where there are more.
 #[tactic(auto, using(crate::proofs::Pieces::one_none, crate::proofs::Pieces::one_some))]
-pub fn one_piece(operands: &[u8]) -> Result<&[u8], AsmKind>
-    ensures { Views (λ piece. piece.now) result (one_piece operands.now) }
+pub fn one_piece(operands: &[u8]) -> Judged<&[u8]>
+    ensures { IsViewOf (λ piece. piece.now) result (one_piece operands.now) }
 {
     let (piece, rest) = cut_at(operands, b',');
     match rest {
@@ -89,8 +50,8 @@ pub fn one_piece(operands: &[u8]) -> Result<&[u8], AsmKind>
 }
 
 /// The two operands, and `Operands` where there are fewer or more.
-pub fn two_pieces(operands: &[u8]) -> Result<(&[u8], &[u8]), AsmKind>
-    ensures { Views (λ parts. (parts.0.now, parts.1.now)) result (two_pieces operands.now) }
+pub fn two_pieces(operands: &[u8]) -> Judged<(&[u8], &[u8])>
+    ensures { IsViewOf (λ parts. (parts.0.now, parts.1.now)) result (two_pieces operands.now) }
 {
     let (piece, rest) = cut_at(operands, b',');
     match rest {
@@ -103,8 +64,9 @@ pub fn two_pieces(operands: &[u8]) -> Result<(&[u8], &[u8]), AsmKind>
 }
 
 /// The three operands, and `Operands` where there are fewer or more.
-pub fn three_pieces(operands: &[u8]) -> Result<(&[u8], &[u8], &[u8]), AsmKind>
-    ensures { Views (λ parts. (parts.0.now, parts.1.now, parts.2.now)) result (three_pieces operands.now) }
+pub fn three_pieces(operands: &[u8]) -> Judged<(&[u8], &[u8], &[u8])>
+    ensures { IsViewOf (λ parts. (parts.0.now, parts.1.now, parts.2.now)) result
+        (three_pieces operands.now) }
 {
     let (piece, rest) = cut_at(operands, b',');
     match rest {
@@ -118,7 +80,7 @@ pub fn three_pieces(operands: &[u8]) -> Result<(&[u8], &[u8], &[u8]), AsmKind>
 
 /// A register. `Operands` where the operand is not one token, then `BadRegister`.
 #[tactic(auto, unfolding(crate::specs::Operand::register))]
-pub fn register(piece: &[u8]) -> Result<u8, AsmKind>
+pub fn register(piece: &[u8]) -> Judged<u8>
     ensures value { result ≡ register piece.now }
     ensures small { IfOk result IsRegister }
 {
@@ -131,33 +93,26 @@ pub fn register(piece: &[u8]) -> Result<u8, AsmKind>
     }
 }
 
-fn number_named(meaning: Option<Symbol>) -> Result<i64, AsmKind>
-    ensures { result ≡ number_named meaning }
-{
-    match meaning {
-        Some(Symbol::Number(number)) => Ok(number),
-        Some(Symbol::Label(_)) | None => Err(AsmKind::UnknownName),
-    }
-}
-
 /// A number. `Operands` where the operand is not one token, then `BadNumber`, then `UnknownName`.
 #[tactic(auto, unfolding(crate::specs::Operand::number))]
-pub fn number(symbols: &Symbols, piece: &[u8]) -> Result<i64, AsmKind>
+pub fn number(symbols: &Symbols, piece: &[u8]) -> Judged<i64>
     ensures { result ≡ number (names_of symbols.now) piece.now }
 {
     if !is_token(piece) {
         return Err(AsmKind::Operands);
     }
-    if is_name(piece) {
-        number_named(symbols.meaning(piece))
-    } else {
-        literal_of(piece).ok_or(AsmKind::BadNumber)
+    if !is_name(piece) {
+        return literal_of(piece).ok_or(AsmKind::BadNumber);
+    }
+    match symbols.meaning(piece) {
+        Some(Symbol::Number(number)) => Ok(number),
+        Some(Symbol::Label(_)) | None => Err(AsmKind::UnknownName),
     }
 }
 
 /// A number that is judged to lie in a range, and `BadNumber` where it does not.
 #[tactic(auto, unfolding(crate::specs::Operand::ranged))]
-pub fn ranged(low: i64, high: i64, judged: Result<i64, AsmKind>) -> Result<i64, AsmKind>
+pub fn ranged(low: i64, high: i64, judged: Judged<i64>) -> Judged<i64>
     ensures value { result ≡ ranged low high judged }
     ensures least { IfOk result (λ number. low ≤ℤ number) }
     ensures greatest { IfOk result (λ number. number ≤ℤ high) }
@@ -172,7 +127,7 @@ pub fn ranged(low: i64, high: i64, judged: Result<i64, AsmKind>) -> Result<i64, 
 
 /// `Operands` where an operand has not the form of a name.
 #[tactic(auto, unfolding(crate::specs::Operand::name_piece))]
-pub fn name_piece(piece: &[u8]) -> Result<(), AsmKind>
+pub fn name_piece(piece: &[u8]) -> Judged<()>
     ensures { result ≡ name_piece piece.now }
 {
     if is_name(piece) {
@@ -182,15 +137,16 @@ pub fn name_piece(piece: &[u8]) -> Result<(), AsmKind>
     }
 }
 
+/// A number from -2,048 to 2,047.
 #[tactic(auto, unfolding(crate::specs::Operand::twelve_bits))]
-fn twelve_bits(symbols: &Symbols, piece: &[u8]) -> Result<i64, AsmKind>
+pub fn twelve_bits(symbols: &Symbols, piece: &[u8]) -> Judged<i64>
     ensures value { result ≡ twelve_bits (names_of symbols.now) piece.now }
     ensures small { IfOk result IsTwelveBits }
 {
     ranged(-2048, 2047, number(symbols, piece))
 }
 
-fn in_brackets(symbols: &Symbols, front: &[u8], behind: &[u8]) -> Result<(i64, u8), AsmKind>
+fn in_brackets(symbols: &Symbols, front: &[u8], behind: &[u8]) -> Judged<(i64, u8)>
     ensures value { result ≡ in_brackets (names_of symbols.now) front.now (Some behind.now) }
     ensures small { IfOk result (λ it. IsTwelveBits it.0 × IsRegister it.1) }
 {
@@ -211,7 +167,7 @@ fn in_brackets(symbols: &Symbols, front: &[u8], behind: &[u8]) -> Result<(i64, u
 
 /// `n(rs1)`: a number from -2,048 to 2,047, and a register.
 #[tactic(auto, unfolding(crate::specs::Operand::memory))]
-pub fn memory(symbols: &Symbols, piece: &[u8]) -> Result<(i64, u8), AsmKind>
+pub fn memory(symbols: &Symbols, piece: &[u8]) -> Judged<(i64, u8)>
     ensures value { result ≡ memory (names_of symbols.now) piece.now }
     ensures small { IfOk result (λ it. IsTwelveBits it.0 × IsRegister it.1) }
 {

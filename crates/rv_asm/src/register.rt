@@ -1,85 +1,40 @@
 //! The names of the registers.
 
-ghost use Rattle.std.specs.Prelude.{◌≡◌, IfSome};
+ghost use Rattle.std.specs.Prelude.{◌≡◌, ◌<◌, IfSome};
 ghost use Rattle.rv_inst.specs.Valid.{IsRegister};
 ghost use Rattle.rv_asm.specs.Register.{register_of};
+ghost use Rattle.rv_asm.specs.Places.{number_at};
 
-use crate::table::look_up;
+use crate::table::place_of;
 
-/// The names of the RISC-V calling convention, with `fp` as a second name of `s0`, and then the numbers.
-const NAMES: [(&str, u8); 65] = [
-    ("zero", 0),
-    ("ra", 1),
-    ("sp", 2),
-    ("gp", 3),
-    ("tp", 4),
-    ("t0", 5),
-    ("t1", 6),
-    ("t2", 7),
-    ("s0", 8),
-    ("s1", 9),
-    ("a0", 10),
-    ("a1", 11),
-    ("a2", 12),
-    ("a3", 13),
-    ("a4", 14),
-    ("a5", 15),
-    ("a6", 16),
-    ("a7", 17),
-    ("s2", 18),
-    ("s3", 19),
-    ("s4", 20),
-    ("s5", 21),
-    ("s6", 22),
-    ("s7", 23),
-    ("s8", 24),
-    ("s9", 25),
-    ("s10", 26),
-    ("s11", 27),
-    ("t3", 28),
-    ("t4", 29),
-    ("t5", 30),
-    ("t6", 31),
-    ("fp", 8),
-    ("x0", 0),
-    ("x1", 1),
-    ("x2", 2),
-    ("x3", 3),
-    ("x4", 4),
-    ("x5", 5),
-    ("x6", 6),
-    ("x7", 7),
-    ("x8", 8),
-    ("x9", 9),
-    ("x10", 10),
-    ("x11", 11),
-    ("x12", 12),
-    ("x13", 13),
-    ("x14", 14),
-    ("x15", 15),
-    ("x16", 16),
-    ("x17", 17),
-    ("x18", 18),
-    ("x19", 19),
-    ("x20", 20),
-    ("x21", 21),
-    ("x22", 22),
-    ("x23", 23),
-    ("x24", 24),
-    ("x25", 25),
-    ("x26", 26),
-    ("x27", 27),
-    ("x28", 28),
-    ("x29", 29),
-    ("x30", 30),
-    ("x31", 31),
+/// The names of the RISC-V calling convention by number, then `fp`, which is a second name of `s0`, then the numbers.
+const NAMES: [&str; 65] = [
+    "zero", "ra", "sp", "gp", "tp", "t0", "t1", "t2", "s0", "s1", "a0", "a1", "a2", "a3", "a4",
+    "a5", "a6", "a7", "s2", "s3", "s4", "s5", "s6", "s7", "s8", "s9", "s10", "s11", "t3", "t4",
+    "t5", "t6", "fp", "x0", "x1", "x2", "x3", "x4", "x5", "x6", "x7", "x8", "x9", "x10", "x11",
+    "x12", "x13", "x14", "x15", "x16", "x17", "x18", "x19", "x20", "x21", "x22", "x23", "x24",
+    "x25", "x26", "x27", "x28", "x29", "x30", "x31",
 ];
 
 /// The number of the register with this name, 0 to 31.
-#[tactic(auto, unfolding(crate::specs::Register::register_of, crate::specs::Register::register_names))]
+#[tactic(auto, using(crate::proofs::RegisterTable::register_by_place))]
 pub fn register_of(name: &[u8]) -> Option<u8>
     ensures value { result ≡ register_of name.now }
     ensures small { IfSome result IsRegister }
 {
-    look_up(&NAMES, name)
+    let place = place_of(&NAMES, name)?;
+    Some(number_at(place))
+}
+
+/// The number of the register whose name has this place.
+fn number_at(place: usize) -> u8
+    requires { place < 65 }
+    ensures value { result ≡ number_at place }
+    ensures small { IsRegister result }
+{
+    match place {
+        0..=31 => place as u8,
+        32 => 8,
+        _ => (place - 33) as u8,
+    }
 }

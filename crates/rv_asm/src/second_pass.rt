@@ -8,10 +8,10 @@ ghost use Rattle.rv_asm.specs.Symbols.{names_of};
 ghost use Rattle.rv_asm.specs.Sizes.{size_of};
 ghost use Rattle.rv_asm.specs.Sound.{IsSound};
 ghost use Rattle.rv_asm.specs.SecondPass.{Instruction, address_of, offset_to, parts_of, second_pass};
-ghost use Rattle.rv_asm.specs.Spelling.{Appends, GivesParts};
+ghost use Rattle.rv_asm.specs.Spelling.{HasAppended, AreGivenParts};
 ghost use Rattle.rv_asm.specs.declared.statement.Statement.TheVariants as statements;
 
-use crate::fault::{AsmFault, AsmKind, Halt};
+use crate::fault::{AsmFault, AsmKind, Halt, Judged};
 use crate::layout::Layout;
 use crate::name::Name;
 use crate::statement::{Statement, two_instructions};
@@ -28,7 +28,7 @@ const BRANCH_REACH: u32 = 1 << 12;
 
 /// The address of a label, and `UnknownName` where no line has it.
 #[tactic(auto, unfolding(crate::specs::SecondPass::address_of))]
-fn address_of(symbols: &Symbols, label: &Name<'_>) -> Result<u32, AsmKind>
+fn address_of(symbols: &Symbols, label: &Name<'_>) -> Judged<u32>
     ensures { result ≡ address_of (names_of symbols.now) label.now }
 {
     match symbols.meaning(label.as_slice()) {
@@ -39,7 +39,7 @@ fn address_of(symbols: &Symbols, label: &Name<'_>) -> Result<u32, AsmKind>
 
 /// How far a target lies from an instruction, and `TooFar` where that is odd or not from -reach to reach - 1.
 #[tactic(auto, unfolding(crate::specs::SecondPass::offset_to))]
-fn offset_to(reach: u32, address: u32, target: u32) -> Result<i32, AsmKind>
+fn offset_to(reach: u32, address: u32, target: u32) -> Judged<i32>
     requires { reach ≤ 2 ^ 20 }
     ensures value { result ≡ offset_to reach address target }
     ensures even { IfOk result IsEven }
@@ -71,77 +71,10 @@ fn put_zeros(out: &mut Vec<u8>, count: u32) -> Result<(), AllocError>
 /// Puts an instruction at the end of the bytes.
 fn put(out: &mut Vec<u8>, inst: Inst) -> Result<(), Halt>
     requires { IsValid inst }
-    ensures parts { Appends result out.old.items out.new.items (Ok (Instruction inst ∷ [])) }
+    ensures parts { HasAppended result out.old.items out.new.items (Ok (Instruction inst ∷ [])) }
     ensures size { OnOk result (vec_len out.new ≡ vec_len out.old + 4) }
 {
     Ok(put_word(out, encode(&inst))?)
-}
-
-/// `jal rd, label` at the end of the bytes.
-#[tactic(auto, unfolding(crate::specs::SecondPass::parts_of))]
-fn put_jump(out: &mut Vec<u8>, symbols: &Symbols, rd: u8, label: &Name<'_>) -> Result<(), Halt>
-    requires register { IsRegister rd }
-    requires room { vec_len out.old ≤ image_room }
-    ensures parts { Appends result out.old.items out.new.items (parts_of (names_of symbols.now) (image_start + vec_len out.old) (statements.Jal rd label.now)) }
-    ensures size { OnOk result (vec_len out.new ≡ vec_len out.old + 4) }
-{
-    let address = PRIVATE_START + out.len() as u32;
-    let target = address_of(symbols, label)?;
-    let offset = offset_to(JUMP_REACH, address, target)?;
-    put(out, Inst::Jal { rd, offset })
-}
-
-/// A branch to a label at the end of the bytes.
-#[tactic(auto, unfolding(crate::specs::SecondPass::parts_of))]
-fn put_branch(
-    out: &mut Vec<u8>,
-    symbols: &Symbols,
-    op: BranchOp,
-    rs1: u8,
-    rs2: u8,
-    label: &Name<'_>,
-) -> Result<(), Halt>
-    requires first { IsRegister rs1 }
-    requires second { IsRegister rs2 }
-    requires room { vec_len out.old ≤ image_room }
-    ensures parts { Appends result out.old.items out.new.items (parts_of (names_of symbols.now) (image_start + vec_len out.old) (statements.Branch op rs1 rs2 label.now)) }
-    ensures size { OnOk result (vec_len out.new ≡ vec_len out.old + 4) }
-{
-    let address = PRIVATE_START + out.len() as u32;
-    let target = address_of(symbols, label)?;
-    let offset = offset_to(BRANCH_REACH, address, target)?;
-    put(
-        out,
-        Inst::Branch {
-            op,
-            rs1,
-            rs2,
-            offset,
-        },
-    )
-}
-
-/// `la rd, label` at the end of the bytes.
-#[tactic(auto, unfolding(crate::specs::SecondPass::parts_of))]
-fn put_address(out: &mut Vec<u8>, symbols: &Symbols, rd: u8, label: &Name<'_>) -> Result<(), Halt>
-    requires { IsRegister rd }
-    ensures parts { Appends result out.old.items out.new.items (parts_of (names_of symbols.now) (image_start + vec_len out.old) (statements.La rd label.now)) }
-    ensures size { OnOk result (vec_len out.new ≡ vec_len out.old + 8) }
-{
-    let target = address_of(symbols, label)?;
-    let (high, low) = two_instructions(rd, target);
-    put(out, high)?;
-    put(out, low)
-}
-
-/// `.word label` at the end of the bytes.
-#[tactic(auto, unfolding(crate::specs::SecondPass::parts_of))]
-fn put_label(out: &mut Vec<u8>, symbols: &Symbols, label: &Name<'_>) -> Result<(), Halt>
-    ensures parts { Appends result out.old.items out.new.items (parts_of (names_of symbols.now) (image_start + vec_len out.old) (statements.Address label.now)) }
-    ensures size { OnOk result (vec_len out.new ≡ vec_len out.old + 4) }
-{
-    let target = address_of(symbols, label)?;
-    Ok(put_word(out, target)?)
 }
 
 /// What a statement becomes, at the end of the bytes so far.
@@ -153,21 +86,44 @@ fn put_statement(
 ) -> Result<(), Halt>
     requires sound { IsSound statement.now }
     requires room { vec_len out.old ≤ image_room }
-    ensures parts { Appends result out.old.items out.new.items (parts_of (names_of symbols.now) (image_start + vec_len out.old) statement.now) }
+    ensures parts { HasAppended result out.old.items out.new.items
+        (parts_of (names_of symbols.now) (image_start + vec_len out.old) statement.now) }
     ensures size { OnOk result (vec_len out.new ≡ vec_len out.old + size_of statement.now) }
 {
+    let address = PRIVATE_START + out.len() as u32;
     match statement {
         Statement::Inst(inst) => put(out, *inst),
-        Statement::Jal { rd, label } => put_jump(out, symbols, *rd, label),
+        Statement::Jal { rd, label } => {
+            let target = address_of(symbols, label)?;
+            let offset = offset_to(JUMP_REACH, address, target)?;
+            put(out, Inst::Jal { rd: *rd, offset })
+        }
         Statement::Branch {
             op,
             rs1,
             rs2,
             label,
-        } => put_branch(out, symbols, *op, *rs1, *rs2, label),
-        Statement::La { rd, label } => put_address(out, symbols, *rd, label),
+        } => {
+            let target = address_of(symbols, label)?;
+            let offset = offset_to(BRANCH_REACH, address, target)?;
+            let (op, rs1, rs2) = (*op, *rs1, *rs2);
+            put(
+                out,
+                Inst::Branch {
+                    op,
+                    rs1,
+                    rs2,
+                    offset,
+                },
+            )
+        }
+        Statement::La { rd, label } => {
+            let (high, low) = two_instructions(*rd, address_of(symbols, label)?);
+            put(out, high)?;
+            put(out, low)
+        }
         Statement::Word(word) => Ok(put_word(out, *word)?),
-        Statement::Address(label) => put_label(out, symbols, label),
+        Statement::Address(label) => Ok(put_word(out, address_of(symbols, label)?)?),
         Statement::Byte(byte) => Ok(out.push(*byte)?),
         Statement::Zero(count) => Ok(put_zeros(out, *count)?),
     }
@@ -175,7 +131,8 @@ fn put_statement(
 
 /// The bytes of a layout, or its first fault of the second pass.
 pub fn second_pass(alloc: Global, layout: &Layout<'_>) -> Result<Vec<u8>, AsmFault>
-    ensures parts { GivesParts (λ out. out.items) result (second_pass (names_of layout.now.symbols) image_start layout.now.statements.items) }
+    ensures parts { AreGivenParts (λ out. out.items) result
+        (second_pass (names_of layout.now.symbols) image_start layout.now.statements.items) }
     ensures size { IfOk result (λ out. vec_len out ≡ layout.now.size) }
 {
     let mut out = Vec::new(alloc);

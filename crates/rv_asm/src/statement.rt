@@ -2,29 +2,29 @@
 
 ghost use Rattle.std.specs.Prelude.{◌≡◌, ◌∷◌, [], map, IfOk, Ok};
 ghost use Rattle.rv_inst.specs.Valid.{IsRegister, IsTwelveBits, IsUpper, IsValid};
-ghost use Rattle.rv_asm.specs.Sound.{IsSoundWord, IsSound, AreSound};
-ghost use Rattle.rv_asm.specs.Faults.{Gives, all_of, gathered};
+ghost use Rattle.rv_asm.specs.Sound.{IsSoundMnemonic, IsSound, AreSound};
+ghost use Rattle.rv_asm.specs.Faults.{IsSeenAs, all_of, gathered};
 ghost use Rattle.rv_asm.specs.Symbols.{names_of};
-ghost use Rattle.rv_asm.specs.Statements.{low_part, high_part, is_short, two_instructions, load_word, value_named, word_value, byte_value, statements_of};
+ghost use Rattle.rv_asm.specs.Statements.{low_part, high_part, two_instructions, load_word, word_value, byte_value, statements_of};
 ghost use Rattle.rv_asm.specs.Line.{pieces};
 ghost use Rattle.rv_asm.specs.Views.{datum_value, judged_of};
 ghost use Rattle.rv_model.specs.declared.inst.Inst.TheVariants as insts;
 ghost use Rattle.rv_model.specs.declared.inst.ImmOp.TheVariants.{Addi};
 ghost use Rattle.rv_asm.specs.declared.statement.Statement.TheVariants as statements;
 
-use crate::fault::{AsmKind, Halt};
+use crate::fault::{AsmKind, Halt, Judged};
 use crate::forms::{
-    byte_of, one_label, register_label, register_memory, register_upper, register_word,
-    registers_immediate, registers_label, three_registers, two_registers, word_of, zero_count,
+    byte_of, register_label, register_memory, register_upper, registers_immediate, registers_label,
+    three_registers, word_of,
 };
 use crate::line::is_token;
 use crate::literal::literal_of;
 use crate::mnemonic::Mnemonic;
 use crate::name::{Name, is_name};
-use crate::operand::{earlier, no_piece, number, ranged};
+use crate::operand::{both, name_piece, no_piece, number, one_piece, ranged, register, two_pieces};
 use crate::symbols::{Symbol, Symbols};
 use ce_text::{cut_at, trimmed};
-use rv_model::{BranchOp, ImmOp, Inst};
+use rv_model::{BranchOp, IMAGE_ROOM, ImmOp, Inst};
 use std::alloc::{AllocError, Global};
 
 /// What is laid at one place. `.word a, b` is laid as `.word a` and `.word b`, and `li` as its instructions.
@@ -109,16 +109,10 @@ pub fn two_instructions(rd: u8, word: u32) -> (Inst, Inst)
     (Inst::Lui { rd, imm }, addi(rd, rd, low_part(word)))
 }
 
-fn is_short(word: u32) -> bool
-    ensures { result ≡ is_short word }
-{
-    word < 2048 || word >= 0xFFFF_F800
-}
-
 /// The list of one statement.
 fn one<'a>(alloc: Global, statement: Statement<'a>) -> Result<Vec<Statement<'a>>, Halt>
     requires { IsSound statement }
-    ensures value { Gives (λ list. list.items) result (Ok (statement.entry ∷ [])) }
+    ensures value { IsSeenAs (λ list. list.items) result (Ok (statement.entry ∷ [])) }
     ensures sound { IfOk result (λ list. AreSound list.items) }
 {
     let mut list = Vec::new(alloc);
@@ -129,10 +123,11 @@ fn one<'a>(alloc: Global, statement: Statement<'a>) -> Result<Vec<Statement<'a>>
 /// The instructions that put a word into a register.
 fn load_word<'a>(alloc: Global, rd: u8, word: u32) -> Result<Vec<Statement<'a>>, Halt>
     requires { IsRegister rd }
-    ensures value { Gives (λ list. list.items) result (Ok (map (λ inst. statements.Inst inst) (load_word rd word))) }
+    ensures value { IsSeenAs (λ list. list.items) result
+        (Ok (map (λ inst. statements.Inst inst) (load_word rd word))) }
     ensures sound { IfOk result (λ list. AreSound list.items) }
 {
-    if is_short(word) {
+    if word < 2048 || word >= 0xFFFF_F800 {
         return one(alloc, Statement::Inst(addi(rd, 0, low_part(word))));
     }
     let (high, low) = two_instructions(rd, word);
@@ -141,39 +136,28 @@ fn load_word<'a>(alloc: Global, rd: u8, word: u32) -> Result<Vec<Statement<'a>>,
     Ok(list)
 }
 
-fn value_named<'a>(name: &'a [u8], meaning: Option<Symbol>) -> Statement<'a>
-    ensures value { result ≡ value_named name.now meaning }
-    ensures sound { IsSound result }
-{
-    match meaning {
-        Some(Symbol::Number(number)) => Statement::Word(word_of(number)),
-        Some(Symbol::Label(_)) | None => Statement::Address(Name::of(name)),
-    }
-}
-
 /// An operand of `.word`: a number, or a name that is none so far, which is a label.
 #[tactic(auto, unfolding(crate::specs::Statements::word_value))]
-fn word_value<'a>(symbols: &Symbols, piece: &'a [u8]) -> Result<Statement<'a>, AsmKind>
+fn word_value<'a>(symbols: &Symbols, piece: &'a [u8]) -> Judged<Statement<'a>>
     ensures value { result ≡ word_value (names_of symbols.now) piece.now }
     ensures sound { IfOk result IsSound }
 {
     if !is_token(piece) {
         return Err(AsmKind::Operands);
     }
-    if is_name(piece) {
-        return Ok(value_named(piece, symbols.meaning(piece)));
+    if !is_name(piece) {
+        let number = literal_of(piece).ok_or(AsmKind::BadNumber)?;
+        return Ok(Statement::Word(word_of(number)));
     }
-    let number = literal_of(piece).ok_or(AsmKind::BadNumber)?;
-    Ok(Statement::Word(word_of(number)))
+    match symbols.meaning(piece) {
+        Some(Symbol::Number(number)) => Ok(Statement::Word(word_of(number))),
+        Some(Symbol::Label(_)) | None => Ok(Statement::Address(Name::of(piece))),
+    }
 }
 
 /// An operand of `.word`, or one of `.byte`, which is from -128 to 255.
 #[tactic(auto, unfolding(crate::specs::Statements::byte_value))]
-fn datum_value<'a>(
-    datum: Datum,
-    symbols: &Symbols,
-    piece: &'a [u8],
-) -> Result<Statement<'a>, AsmKind>
+fn datum_value<'a>(datum: Datum, symbols: &Symbols, piece: &'a [u8]) -> Judged<Statement<'a>>
     ensures value { result ≡ datum_value datum (names_of symbols.now) piece.now }
     ensures sound { IfOk result IsSound }
 {
@@ -191,10 +175,11 @@ fn datum_value<'a>(
 fn gathered<'a>(
     list: &mut Vec<Statement<'a>>,
     fault: Option<AsmKind>,
-    value: Result<Statement<'a>, AsmKind>,
+    value: Judged<Statement<'a>>,
 ) -> Result<Option<AsmKind>, AllocError>
     requires { IfOk value IsSound }
-    ensures more { IfOk result (λ next. judged_of next list.new.items ≡ gathered (judged_of fault list.old.items) value.entry) }
+    ensures more { IfOk result (λ next. judged_of next list.new.items
+        ≡ gathered (judged_of fault list.old.items) value.entry) }
     ensures sound { IfOk result (λ next. AreSound list.old.items → AreSound list.new.items) }
 {
     match value {
@@ -204,7 +189,7 @@ fn gathered<'a>(
         }
         Err(kind) => match fault {
             None => Ok(Some(kind)),
-            Some(first) => Ok(Some(earlier(first, kind))),
+            Some(first) => Ok(Some(first.min(kind))),
         },
     }
 }
@@ -216,7 +201,8 @@ fn data<'a>(
     symbols: &Symbols,
     operands: &'a [u8],
 ) -> Result<Vec<Statement<'a>>, Halt>
-    ensures value { Gives (λ list. list.items) result (all_of (map (datum_value datum (names_of symbols.now)) (pieces operands.now))) }
+    ensures value { IsSeenAs (λ list. list.items) result
+        (all_of (map (datum_value datum (names_of symbols.now)) (pieces operands.now))) }
     ensures sound { IfOk result (λ list. AreSound list.items) }
 {
     let mut list = Vec::new(alloc);
@@ -234,17 +220,18 @@ fn data<'a>(
     }
 }
 
-/// What a word and its operands lay, one after the other. The faults are judged in the order Operands, BadRegister,
+/// What a mnemonic and its operands lay, one after the other. The faults are judged in the order Operands, BadRegister,
 /// BadNumber, UnknownName.
-#[tactic(auto, unfolding(crate::specs::Statements::statements_of))]
+#[tactic(auto, unfolding(crate::specs::Statements::statements_of, crate::specs::Statements::two_registers, crate::specs::Statements::register_word, crate::specs::Statements::one_label, crate::specs::Statements::zero_count))]
 pub fn statements_of<'a>(
     alloc: Global,
     mnemonic: Mnemonic,
     symbols: &Symbols,
     operands: &'a [u8],
 ) -> Result<Vec<Statement<'a>>, Halt>
-    requires { IsSoundWord mnemonic }
-    ensures value { Gives (λ list. list.items) result (statements_of mnemonic (names_of symbols.now) operands.now) }
+    requires { IsSoundMnemonic mnemonic }
+    ensures value { IsSeenAs (λ list. list.items) result
+        (statements_of mnemonic (names_of symbols.now) operands.now) }
     ensures sound { IfOk result (λ list. AreSound list.items) }
 {
     match mnemonic {
@@ -281,7 +268,8 @@ pub fn statements_of<'a>(
             one(alloc, Statement::Inst(Inst::Op { op, rd, rs1, rs2 }))
         }
         Mnemonic::Mv => {
-            let (rd, rs) = two_registers(operands)?;
+            let (rd, rs) = two_pieces(operands)?;
+            let (rd, rs) = both(register(rd), register(rs))?;
             one(alloc, Statement::Inst(addi(rd, rs, 0)))
         }
         Mnemonic::Jal => {
@@ -289,7 +277,9 @@ pub fn statements_of<'a>(
             one(alloc, Statement::Jal { rd, label })
         }
         Mnemonic::Jump { rd } => {
-            let label = one_label(operands)?;
+            let label = one_piece(operands)?;
+            name_piece(label)?;
+            let label = Name::of(label);
             one(alloc, Statement::Jal { rd, label })
         }
         Mnemonic::Branch(op) => {
@@ -309,12 +299,14 @@ pub fn statements_of<'a>(
             one(alloc, Statement::La { rd, label })
         }
         Mnemonic::Zero => {
-            let count = zero_count(symbols, operands)?;
-            one(alloc, Statement::Zero(count))
+            let count = one_piece(operands)?;
+            let count = ranged(0, i64::from(IMAGE_ROOM), number(symbols, count))?;
+            one(alloc, Statement::Zero(count as u32))
         }
         Mnemonic::Li => {
-            let (rd, word) = register_word(symbols, operands)?;
-            load_word(alloc, rd, word)
+            let (rd, word) = two_pieces(operands)?;
+            let (rd, word) = both(register(rd), number(symbols, word))?;
+            load_word(alloc, rd, word_of(word))
         }
         Mnemonic::Word => data(alloc, Datum::Word, symbols, operands),
         Mnemonic::Byte => data(alloc, Datum::Byte, symbols, operands),

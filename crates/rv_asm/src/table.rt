@@ -1,15 +1,17 @@
-//! Tables from texts to values.
+//! Places of texts among others.
 
-ghost use Rattle.std.specs.Prelude.{◌≡◌, map};
-ghost use Rattle.rv_asm.specs.Table.{look_up};
+ghost use Rattle.std.specs.Prelude.{◌≡◌, ◌<◌, map, length, IfSome};
+ghost use Rattle.rv_asm.specs.Places.{place_of};
 
-/// The value of a table's first row for a text.
-pub fn look_up<T: Copy>(table: &[(&str, T)], text: &[u8]) -> Option<T>
-    ensures { result ≡ look_up (map (λ row. (row.0.now, row.1)) table.now) text.now }
+/// The first place of a text among others.
+#[tactic(auto, using(crate::proofs::TextPlaces::place_more, crate::proofs::TextPlaces::place_end))]
+pub fn place_of(texts: &[&str], text: &[u8]) -> Option<usize>
+    ensures within { IfSome result (λ place. place < length texts.now) }
+    ensures first { result ≡ place_of 0 (map (λ it. it.now) texts.now) text.now }
 {
-    for (word, value) in table {
-        if word.as_bytes() == text {
-            return Some(*value);
+    for place in 0..texts.len() {
+        if texts[place].as_bytes() == text {
+            return Some(place);
         }
     }
     None

@@ -32,7 +32,7 @@ named_cause (Err (Memory cause)) = None
 named_cause (Err fault) = Some fault
 
 -- an answer is this value, unless memory ran out
-abbrev pub Gives : {X : Type 0} → Result X ImageFault → X → Type 0
-Gives (Ok found) x = found ≡ x
-Gives (Err (Memory cause)) x = Unit {0}
-Gives (Err fault) x = ⊥
+abbrev pub IsValueOf : {X : Type 0} → Result X ImageFault → X → Type 0
+IsValueOf (Ok found) x = found ≡ x
+IsValueOf (Err (Memory cause)) x = Unit {0}
+IsValueOf (Err fault) x = ⊥

@@ -1,7 +1,7 @@
 //! Laws of RKI1, each the contract of a function.
 ghost use Rattle.std.specs.Prelude.{◌≡◌, ℕ, List};
 ghost use Rattle.rv_model.specs.Image.{ImageParts};
-ghost use Rattle.rv_image.specs.Fault.{Gives};
+ghost use Rattle.rv_image.specs.Fault.{IsValueOf};
 ghost use Rattle.rv_image.specs.Rki1.{IsRki1};
 
 use crate::{Image, ImageFault, read, write};
@@ -18,7 +18,7 @@ pub fn rki1_is_unambiguous()
 
 /// What `read` gives of what `write` gives: the image itself. Only where memory runs out there is none.
 pub fn written_and_read(alloc: Global, image: &Image) -> Result<Image, ImageFault>
-    ensures { Gives result image.now }
+    ensures { IsValueOf result image.now }
 {
     let bytes = write(alloc, image)?;
     read(alloc, &bytes)

@@ -3,7 +3,7 @@ use std::error::Error;
 use std::fmt;
 
 /// Memory ran out. It is the one answer that every call which allocates may give at any time.
-#[derive(Clone, Copy, Debug, PartialEq, Eq)]
+#[derive(Clone, Copy, Debug, PartialEq, Eq, PartialOrd, Ord)]
 pub struct NoMemory;
 
 impl fmt::Display for NoMemory {

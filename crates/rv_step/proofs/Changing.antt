@@ -15,11 +15,11 @@ use Rattle.rv_model.specs.LittleEndian.{with_number_at}
 use Rattle.rv_model.specs.Exec.{◌>>=◌, IsAccessSize, exec, performed, jumped, is_taken, reg, next_pc, offset_by, store_size, went, stopped}
 use Rattle.rv_model.specs.Private.{private_access, private_size, is_private}
 use Rattle.rv_model.specs.Words.{dec}
-use Rattle.rv_step.specs.Changed.{ChangesAtMost, memory_left}
+use Rattle.rv_step.specs.Changed.{HasChangedAtMost, memory_left}
 use Rattle.rv_model.proofs.PrivateSize.{private_size_lem}
 
 -- nothing changed
-stays : (m : List ℕ) → ChangesAtMost 4 m m
+stays : (m : List ℕ) → HasChangedAtMost 4 m m
 stays m = record { first = 0; size = refl; before = refl; behind = refl }
 
 length-low : (size n : ℕ) → IsAccessSize size → length (bytes_low_first 0 size n) ≡ size
@@ -39,7 +39,7 @@ behind_written bytes low offset size more e le =
     ∙ drop-drop more (offset + size) bytes
     ∙ ap (λ (n : ℕ). drop n bytes) (omega arith)
 
-written_changes : (bytes : List ℕ) (offset size more n : ℕ) → IsAccessSize size → size + more ≡ 4 → offset + size ≤ length bytes → ChangesAtMost 4 bytes (with_number_at bytes offset size n)
+written_changes : (bytes : List ℕ) (offset size more n : ℕ) → IsAccessSize size → size + more ≡ 4 → offset + size ≤ length bytes → HasChangedAtMost 4 bytes (with_number_at bytes offset size n)
 unfolding with_number_at
 written_changes bytes offset size more n sized four le =
     let low : length (bytes_low_first 0 size n) ≡ size = length-low size n sized in
@@ -68,7 +68,7 @@ rest_of size (inr (inl e)) = (2, omega arith)
 rest_of size (inr (inr e)) = (0, omega arith)
 
 store_by : (bytes x : List ℕ) (a pc size n : ℕ) (aligned private : Bool) → IsAccessSize size → length bytes ≡ private_size → (a % size == 0) ≡ aligned → is_private a ≡ private
-    → ChangesAtMost 4 bytes (memory_left bytes (cond aligned (cond private (Ok (with_number_at bytes (a - 0x1_0000) size n)) (Err (Unmapped a))) (Err (Misaligned a)) >>= λ left. went x pc left))
+    → HasChangedAtMost 4 bytes (memory_left bytes (cond aligned (cond private (Ok (with_number_at bytes (a - 0x1_0000) size n)) (Err (Unmapped a))) (Err (Misaligned a)) >>= λ left. went x pc left))
 store_by bytes x a pc size n false private sized len e p = stays bytes
 store_by bytes x a pc size n true false sized len e p = stays bytes
 store_by bytes x a pc size n true true sized len e p =
@@ -78,7 +78,7 @@ store_by bytes x a pc size n true true sized len e p =
     written_changes bytes (a - 0x1_0000) size more.0 n sized more.1 (omega (arith, place, len, private_size_lem))
 
 store_changes : (bytes x : List ℕ) (a pc size n : ℕ) → IsAccessSize size → length bytes ≡ private_size
-    → ChangesAtMost 4 bytes (memory_left bytes (private_access.stored bytes a size n >>= λ left. went x pc left))
+    → HasChangedAtMost 4 bytes (memory_left bytes (private_access.stored bytes a size n >>= λ left. went x pc left))
 store_changes bytes x a pc size n sized len = store_by bytes x a pc size n (a % size == 0) (is_private a) sized len refl refl
 
 sized : (op : StoreOp) → IsAccessSize (store_size op)
@@ -88,19 +88,19 @@ sized Sw = inr (inr refl)
 
 -- ---- the others
 
-jump_by : (bytes x : List ℕ) (pc target : ℕ) (aligned : Bool) → ChangesAtMost 4 bytes (memory_left bytes (cond aligned (went x target bytes) (stopped (Target pc))))
+jump_by : (bytes x : List ℕ) (pc target : ℕ) (aligned : Bool) → HasChangedAtMost 4 bytes (memory_left bytes (cond aligned (went x target bytes) (stopped (Target pc))))
 jump_by bytes x pc target true = stays bytes
 jump_by bytes x pc target false = stays bytes
 
-branch_by : (bytes x : List ℕ) (pc target next : ℕ) (taken : Bool) → ChangesAtMost 4 bytes (memory_left bytes (cond taken (jumped pc target x bytes) (went x next bytes)))
+branch_by : (bytes x : List ℕ) (pc target next : ℕ) (taken : Bool) → HasChangedAtMost 4 bytes (memory_left bytes (cond taken (jumped pc target x bytes) (went x next bytes)))
 branch_by bytes x pc target next true = jump_by bytes x pc target (target % 4 == 0)
 branch_by bytes x pc target next false = stays bytes
 
-load_by : (bytes : List ℕ) (pc : ℕ) (regs : ℕ → List ℕ) (loaded : Result ℕ Stop) → ChangesAtMost 4 bytes (memory_left bytes (loaded >>= λ n. went (regs n) pc bytes))
+load_by : (bytes : List ℕ) (pc : ℕ) (regs : ℕ → List ℕ) (loaded : Result ℕ Stop) → HasChangedAtMost 4 bytes (memory_left bytes (loaded >>= λ n. went (regs n) pc bytes))
 load_by bytes pc regs (Ok n) = stays bytes
 load_by bytes pc regs (Err cause) = stays bytes
 
-performed_changes : (inst : Inst) (x bytes : List ℕ) (pc : ℕ) → length bytes ≡ private_size → ChangesAtMost 4 bytes (memory_left bytes (performed private_access inst x pc bytes))
+performed_changes : (inst : Inst) (x bytes : List ℕ) (pc : ℕ) → length bytes ≡ private_size → HasChangedAtMost 4 bytes (memory_left bytes (performed private_access inst x pc bytes))
 unfolding performed
 performed_changes (Lui rd imm) x bytes pc len = stays bytes
 performed_changes (Auipc rd imm) x bytes pc len = stays bytes
@@ -116,15 +116,15 @@ performed_changes Ecall x bytes pc len = stays bytes
 performed_changes Ebreak x bytes pc len = stays bytes
 
 decoded_by : (found : Option Inst) (x bytes : List ℕ) (pc word : ℕ) → length bytes ≡ private_size
-    → ChangesAtMost 4 bytes (memory_left bytes (ok_or found (Illegal pc word) >>= λ inst. performed private_access inst x pc bytes))
+    → HasChangedAtMost 4 bytes (memory_left bytes (ok_or found (Illegal pc word) >>= λ inst. performed private_access inst x pc bytes))
 decoded_by None x bytes pc word len = stays bytes
 decoded_by (Some inst) x bytes pc word len = performed_changes inst x bytes pc len
 
 fetched_by : (fetched : Result ℕ Stop) (x bytes : List ℕ) (pc : ℕ) → length bytes ≡ private_size
-    → ChangesAtMost 4 bytes (memory_left bytes (fetched >>= λ word. ok_or (dec word) (Illegal pc word) >>= λ inst. performed private_access inst x pc bytes))
+    → HasChangedAtMost 4 bytes (memory_left bytes (fetched >>= λ word. ok_or (dec word) (Illegal pc word) >>= λ inst. performed private_access inst x pc bytes))
 fetched_by (Err cause) x bytes pc len = stays bytes
 fetched_by (Ok word) x bytes pc len = decoded_by (dec word) x bytes pc word len
 
-pub exec_changes : (x bytes : List ℕ) (pc : ℕ) → length bytes ≡ private_size → ChangesAtMost 4 bytes (memory_left bytes (exec private_access x pc bytes))
+pub exec_changes : (x bytes : List ℕ) (pc : ℕ) → length bytes ≡ private_size → HasChangedAtMost 4 bytes (memory_left bytes (exec private_access x pc bytes))
 unfolding exec
 exec_changes x bytes pc len = fetched_by (private_access.fetched bytes pc) x bytes pc len

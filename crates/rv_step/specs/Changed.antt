@@ -3,7 +3,7 @@ use Rattle.std.specs.Prelude.{◌≡◌, ℕ, ◌+◌, List, length, take, drop}
 use Rattle.rv_model.specs.Exec.{Outcome, went, called, stopped}
 
 -- as many bytes as before, and the same ones but for `count` of them at most, which stand in a row
-pub record ChangesAtMost (count : ℕ) (old new : List ℕ) : Type 0 where
+pub record HasChangedAtMost (count : ℕ) (old new : List ℕ) : Type 0 where
   pub first : ℕ
   pub size : length new ≡ length old
   pub before : take first new ≡ take first old

@@ -1,3 +1,4 @@
 pub mod Apart
+pub mod HomeBlocks
 pub mod Names
 pub mod Rises

@@ -1,11 +1,12 @@
 ghost use Rattle.std.specs.Prelude.{◌≡◌, ◌≤◌, ◌+◌, ◌-◌, ◌↔◌, [], ◌∷◌, length, All, Contains, IsTrue, IsNone, IfSome, IfNone, IfOk};
-ghost use Rattle.ce_model.specs.Blocks.{put};
+ghost use Rattle.ce_model.specs.Limits.{home_blocks};
+ghost use Rattle.ce_model.specs.Blocks.{blocks_of_home, put};
 ghost use Rattle.xm_block.specs.Rising.{IsRising};
 ghost use Rattle.xm_block.specs.Stores.{ids_of, is_before, with_block};
 
 use crate::Block;
 use crate::order::place_of;
-use ce_model::NoMemory;
+use ce_model::{BlockId, HOME_BLOCKS, NoMemory};
 use std::alloc::Global;
 use std::collections::VecDeque;
 use std::marker::Model;
@@ -41,6 +42,21 @@ impl Store {
             blocks: VecDeque::with_capacity(alloc, room)?,
             room,
         })
+    }
+
+    /// A store with all blocks of a home, each of length 0, and room for so many blocks, `HOME_BLOCKS` at least. `NoMemory`
+    /// may come at any time.
+    #[tactic(auto, using(ce_model::specs::Limits::home_blocks_lem))]
+    pub fn of_home(alloc: Global, home: u32, room: u32) -> Result<Store, NoMemory>
+        requires { home_blocks ≤ room }
+        ensures blocks { IfOk result (λ store. ids_of store.blocks ≡ blocks_of_home home) }
+        ensures room { IfOk result (λ store. store.spare + home_blocks ≡ room) }
+    {
+        let mut store = Store::new(alloc, room)?;
+        for index in 0..HOME_BLOCKS {
+            store.give(Block::new(alloc, BlockId { home, index })?);
+        }
+        Ok(store)
     }
 
     /// How many blocks are in the store.

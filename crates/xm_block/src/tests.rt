@@ -1,7 +1,7 @@
 ghost use Rattle.std.specs.Prelude.{◌≡◌, IfOk};
 
 use super::*;
-use ce_model::BlockId;
+use ce_model::{BlockId, GREATEST_BLOCKS, HOME_BLOCKS};
 use std::alloc::Global;
 use std::process::Abort;
 use std::test::Fail;
@@ -84,9 +84,14 @@ fn least_block_first(rt: HostRuntime) -> Result<(), Fail> {
 }
 
 #[test]
+#[tactic(auto, using(ce_model::specs::Limits::home_blocks_lem))]
 fn openings(rt: HostRuntime) -> Result<(), Fail> {
-    let store = Store::new(rt.alloc(), 2080)?;
+    let store = Store::new(rt.alloc(), GREATEST_BLOCKS)?;
     assert_eq!(rt; store.count(), 0);
+    let mut of_home = Store::of_home(rt.alloc(), 7, HOME_BLOCKS)?;
+    assert_eq!(rt; of_home.count(), 32);
+    check_least(&rt, &mut of_home, 7, 0);
+    check_least(&rt, &mut of_home, 7, 1);
     assert_eq!(rt; block(rt.alloc(), 63, 31)?.length(), 0);
     Ok(())
 }

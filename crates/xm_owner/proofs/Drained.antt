@@ -11,7 +11,7 @@ use Rattle.ce_model.specs.Blocks.{Block}
 use Rattle.xm_block.specs.Rising.{IsRising}
 use Rattle.xm_owner.specs.Holdings.{Mapping, blocks_of, without_process}
 use Rattle.xm_owner.specs.Tables.{key_before, mappings_of}
-use Rattle.xm_owner.specs.Ranges.{Drained}
+use Rattle.xm_owner.specs.Ranges.{IsDrainedRange}
 use Rattle.xm_owner.specs.declared.key.Key.{Key}
 
 nil-right : {X : Type 0} (xs : List X) → xs ++ [] ≡ xs
@@ -167,7 +167,7 @@ module _ (pid : ℕ) where
           ∙ ap (λ bs. slice_range blocks first last ++ bs) backs.1
           ∙ nil-right (slice_range blocks first last))
 
-    pub drained : IsRising key_before keys → Drained pid keys blocks first last
+    pub drained : IsRising key_before keys → IsDrainedRange pid keys blocks first last
     drained rising =
         let order = in_order (record { pid = 0; window = 0 }) in
         let taken = blocks-left order in

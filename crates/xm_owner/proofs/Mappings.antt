@@ -4,7 +4,7 @@ use Rattle.std.proofs.lemmas.Bool.{cases_Bool}
 use Rattle.std.proofs.lemmas.Bool.Decides.{nat_tests}
 use Rattle.std.proofs.lemmas.Option.{none-some}
 use Rattle.ce_model.specs.Blocks.{Block}
-use Rattle.xm_owner.specs.Holdings.{Mapping, is_at, is_before, held_at, with_mapping, without, without_process, with_block_at, ChangesOnly}
+use Rattle.xm_owner.specs.Holdings.{Mapping, is_at, is_before, held_at, with_mapping, without, without_process, with_block_at, HasChangedOnly}
 
 -- a mapping is at its own window, and at no other one
 at-own : (mapping : Mapping) → is_at mapping.pid mapping.window mapping ≡ true
@@ -48,7 +48,7 @@ held_at-with_other added (mapping ∷ mappings) p w differs = elim (cases_Bool (
 ]
 
 pub changes-with_mapping : (added : Mapping) (mappings : List Mapping) → held_at mappings added.pid added.window ≡ None
-    → ChangesOnly mappings (with_mapping added mappings) added.pid added.window (Some added.block)
+    → HasChangedOnly mappings (with_mapping added mappings) added.pid added.window (Some added.block)
 changes-with_mapping added mappings vacant = record {
   changed = held_at-with_mapping added mappings vacant;
   others = held_at-with_other added mappings;
@@ -73,7 +73,7 @@ held_at-without_other pid window (mapping ∷ mappings) p w differs = elim (case
   ])
 ]
 
-pub changes-without : (pid window : ℕ) (mappings : List Mapping) → ChangesOnly mappings (without pid window mappings) pid window None
+pub changes-without : (pid window : ℕ) (mappings : List Mapping) → HasChangedOnly mappings (without pid window mappings) pid window None
 changes-without pid window mappings = record {
   changed = held_at-without pid window mappings;
   others = held_at-without_other pid window mappings;
@@ -85,7 +85,7 @@ without-vacant pid window (mapping ∷ mappings) vacant =
     rw (vacant-head pid window mapping mappings vacant)
     (ap (λ rest. mapping ∷ rest) (without-vacant pid window mappings (vacant-tail pid window mapping mappings vacant)))
 
-pub changes-none : (pid window : ℕ) (mappings : List Mapping) → held_at mappings pid window ≡ None → ChangesOnly mappings mappings pid window None
+pub changes-none : (pid window : ℕ) (mappings : List Mapping) → held_at mappings pid window ≡ None → HasChangedOnly mappings mappings pid window None
 changes-none pid window mappings vacant = record { changed = vacant; others = λ p w differs. refl }
 
 -- another block in place of one
@@ -110,7 +110,7 @@ held_at-with_block_other pid window block (mapping ∷ mappings) p w differs = e
 ]
 
 pub changes-with_block : (pid window : ℕ) (block was : Block) (mappings : List Mapping) → held_at mappings pid window ≡ Some was
-    → ChangesOnly mappings (with_block_at pid window block mappings) pid window (Some block)
+    → HasChangedOnly mappings (with_block_at pid window block mappings) pid window (Some block)
 changes-with_block pid window block was mappings held = record {
   changed = held_at-with_block pid window block was mappings held;
   others = held_at-with_block_other pid window block mappings;

@@ -52,6 +52,6 @@ with_block_at pid window block (mapping ∷ mappings) =
     else mapping ∷ with_block_at pid window block mappings
 
 -- one window alone changes what it holds, and this is there afterwards
-pub record ChangesOnly (old new : List Mapping) (pid window : ℕ) (there : Option Block) : Type 0 where
+pub record HasChangedOnly (old new : List Mapping) (pid window : ℕ) (there : Option Block) : Type 0 where
   pub changed : held_at new pid window ≡ there
   pub others : (p w : ℕ) → (p ≡ pid → w ≡ window → ⊥) → held_at new p w ≡ held_at old p w

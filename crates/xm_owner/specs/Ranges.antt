@@ -8,7 +8,7 @@ use Rattle.xm_owner.specs.Tables.{key_before, mappings_of}
 use Rattle.xm_owner.specs.declared.key.Key.{Key}
 
 -- what is left where the keys from place `first` up to `last` are those of the process
-pub record Drained (pid : ℕ) (keys : List Key) (blocks : List Block) (first last : ℕ) : Type 0 where
+pub record IsDrainedRange (pid : ℕ) (keys : List Key) (blocks : List Block) (first last : ℕ) : Type 0 where
   pub order : first ≤ last
   pub mappings : mappings_of (remove_range keys first last) (remove_range blocks first last) ≡ without_process pid (mappings_of keys blocks)
   pub taken : slice_range blocks first last ≡ blocks_of pid (mappings_of keys blocks)

@@ -4,7 +4,7 @@ ghost use Rattle.xm_block.specs.Stores.{AreApart, with_blocks};
 ghost use Rattle.std.specs.Option.{option_copied, option_copied_mut};
 ghost use Rattle.std.specs.Borrow.{sem};
 ghost use Rattle.xm_block.specs.Rising.{IsRising};
-ghost use Rattle.xm_owner.specs.Holdings.{is_before, held_at, with_mapping, without, blocks_of, without_process, ChangesOnly};
+ghost use Rattle.xm_owner.specs.Holdings.{is_before, held_at, with_mapping, without, blocks_of, without_process, HasChangedOnly};
 ghost use Rattle.xm_owner.specs.Loans.{LendsBlock};
 
 use crate::key::{Key, index_of, place_of, range_of};
@@ -65,7 +65,7 @@ impl Held {
           mappings = with_mapping (record { pid = pid; window = window; block = block }) self.old.mappings;
           spare = self.old.spare - 1;
         } }
-        ensures change { ChangesOnly self.old.mappings self.new.mappings pid window (Some block) }
+        ensures change { HasChangedOnly self.old.mappings self.new.mappings pid window (Some block) }
     {
         let key = Key { pid, window };
         let place = place_of(&self.keys, key);
@@ -83,7 +83,7 @@ impl Held {
     pub fn unmap(&mut self, pid: u32, window: u32) -> Option<Block>
         ensures block { result ≡ held_at self.old.mappings pid window }
         ensures after { self.new.mappings ≡ without pid window self.old.mappings }
-        ensures change { ChangesOnly self.old.mappings self.new.mappings pid window None }
+        ensures change { HasChangedOnly self.old.mappings self.new.mappings pid window None }
         ensures room { IfSome result (λ _. self.new.spare ≡ self.old.spare + 1) }
         ensures unchanged { IfNone result (self.new ≡ self.old) }
     {

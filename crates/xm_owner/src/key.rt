@@ -2,7 +2,7 @@ ghost use Rattle.std.specs.Prelude.{◌≡◌, ◌≤◌, true, false, nat_lt, L
 ghost use Rattle.std.specs.List.{AllWithin, position_or_len};
 ghost use Rattle.xm_block.specs.Rising.{IsRising};
 ghost use Rattle.ce_model.specs.Blocks.{Block};
-ghost use Rattle.xm_owner.specs.Ranges.{Drained};
+ghost use Rattle.xm_owner.specs.Ranges.{IsDrainedRange};
 ghost use Rattle.xm_owner.specs.Tables.{key_before, same_key};
 
 /// Where a block is mapped: a process, and a window of it.
@@ -85,7 +85,7 @@ pub(crate) fn range_of(keys: &Vec<Key>, pid: u32) -> (usize, usize)
     requires { IsRising key_before keys.now.items }
     ensures within { result.1 ≤ length keys.now.items }
     ensures drained { (blocks : List Block) → length blocks ≡ length keys.now.items
-        → Drained pid keys.now.items blocks result.0 result.1 }
+        → IsDrainedRange pid keys.now.items blocks result.0 result.1 }
 {
     let first = count_below(keys, pid as u64);
     let last = count_below(keys, pid as u64 + 1);

@@ -3,7 +3,7 @@ ghost use Rattle.std.specs.Prelude.{◌≡◌, ◌≤◌, None, IfOk, map};
 ghost use Rattle.ce_model.specs.Limits.{greatest_dim};
 ghost use Rattle.ce_model.specs.Machine.{after, held_by};
 ghost use Rattle.ce_host.specs.declared.command.Command.TheVariants.{Freecube, Getcube, Peek};
-ghost use Rattle.ce_cube.specs.Crews.{AreAllHome, HoldAllBlocks, IsCrewInStep, IsHostAtHome, cube_grant};
+ghost use Rattle.ce_cube.specs.Crews.{AreAllHome, HasAllBlocks, IsCrewInStep, IsHostAtHome, cube_grant};
 ghost use Rattle.ce_run.specs.Asking.{HasCube, HasDrained};
 ghost use Rattle.ce_run.specs.Seats.{HasDone, HasUser, IsSeatAt};
 ghost use Rattle.ce_run.specs.declared.seat.Seat.{Seat};
@@ -85,7 +85,7 @@ pub(crate) fn free_cube(
 
 /// The boxes and the host of a crew that is done, with all blocks at home.
 fn come_home(crew: SerialCrew, drained: Vec<Block>) -> (Vec<NodeBox>, Host)
-    requires { HoldAllBlocks (cube_grant crew.grant) crew.nodes.items crew.host drained.items }
+    requires { HasAllBlocks (cube_grant crew.grant) crew.nodes.items crew.host drained.items }
     ensures { AreAllHome (cube_grant crew.grant) result.0.items result.1 }
 {
     let SerialCrew {

@@ -123,13 +123,13 @@ fn tell(
         (call_said said) answer crew.new) }
 {
     match ask_in_cube(alloc, machine, crew, Call::Say(said))? {
-        Reply::Heard(heard) => Ok(told(heard)),
+        Reply::Heard(heard) => Ok(answer_of_heard(heard)),
         _ => unreachable!(),
     }
 }
 
 /// What a host is told that hears so of what it started or ended.
-fn told(heard: Heard) -> Answer
+fn answer_of_heard(heard: Heard) -> Answer
     requires { IsSome (heard_reply heard) }
     ensures { heard_reply heard ≡ Some result }
 {

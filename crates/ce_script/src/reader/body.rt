@@ -9,7 +9,7 @@ ghost use Rattle.ce_script.specs.Lines.{Line, has_bad_byte};
 ghost use Rattle.ce_script.specs.Statements.{body_in};
 ghost use Rattle.ce_script.specs.Bodies.{has_bad_word, bytes_of, fault_where, image_in, form_fault, body_fault};
 ghost use Rattle.ce_script.specs.declared.script.ScriptKind.TheVariants.{BadByte, BadImage};
-ghost use Rattle.ce_script.specs.Reading.{Unless, Finds};
+ghost use Rattle.ce_script.specs.Reading.{Unless, HasFound};
 ghost use Rattle.ce_script.specs.ReadLines.{lines_left, lines_shown, reach_of, IsBody, IsBodyIn};
 ghost use Rattle.ce_script.specs.ReadWords.{read_as};
 
@@ -65,7 +65,8 @@ pub fn body_in<'a>(rest: Rest<'a>) -> Option<(Body<'a>, Rest<'a>)>
 /// The first line of a body that has a bad byte.
 fn bad_byte_line(body: Body) -> Option<u32>
     requires { body.at + length body.text.now < 2 ^ 31 }
-    ensures { result ≡ option_map (λ line. line.number) (find has_bad_byte (lines_shown body.entry)) }
+    ensures { result
+        ≡ option_map (λ line. line.number) (find has_bad_byte (lines_shown body.entry)) }
 {
     let mut number = body.at;
     let mut rest = Some(body.text);
@@ -106,11 +107,14 @@ fn push_word(bytes: &mut Vec<u8>, kind: WordKind, word: &[u8]) -> Result<(), Scr
 /// Adds what the words of a line write.
 fn push_line(bytes: &mut Vec<u8>, kind: WordKind, line: &[u8]) -> Result<(), ScriptKind>
     ensures { MatchResult result
-        (λ _. (list_any (λ word. is_none (read_as kind word)) (words_between (before_comment line.now)) ≡ false)
+        (λ _. (list_any (λ word. is_none (read_as kind word))
+        (words_between (before_comment line.now)) ≡ false)
         × (bytes.new.items ≡ bytes.old.items
-        ++ flat_map (λ word. unwrap_or (read_as kind word) []) (words_between (before_comment line.now))))
+        ++ flat_map (λ word. unwrap_or (read_as kind word) [])
+        (words_between (before_comment line.now))))
         (λ fault. Unless fault ((fault ≡ BadImage)
-        × (list_any (λ word. is_none (read_as kind word)) (words_between (before_comment line.now)) ≡ true))) }
+        × (list_any (λ word. is_none (read_as kind word))
+        (words_between (before_comment line.now)) ≡ true))) }
 {
     let mut rest = before_comment(line);
     while let Some((word, behind)) = next_word(rest) {
@@ -124,10 +128,12 @@ fn push_line(bytes: &mut Vec<u8>, kind: WordKind, line: &[u8]) -> Result<(), Scr
 fn bytes_of(alloc: Global, kind: WordKind, body: Body) -> Result<Vec<u8>, ScriptFault>
     requires { body.at + length body.text.now < 2 ^ 31 }
     ensures { MatchResult result
-        (λ bytes. (fault_where (has_bad_word (read_as kind)) BadImage (lines_shown body.entry) ≡ None)
+        (λ bytes. (fault_where (has_bad_word (read_as kind)) BadImage
+        (lines_shown body.entry) ≡ None)
         × (bytes.items ≡ bytes_of (read_as kind) (lines_shown body.entry)))
         (λ fault. Unless fault.kind
-        (fault_where (has_bad_word (read_as kind)) BadImage (lines_shown body.entry) ≡ Some fault)) }
+        (fault_where (has_bad_word (read_as kind)) BadImage
+        (lines_shown body.entry) ≡ Some fault)) }
 {
     let mut bytes = Vec::new(alloc);
     let mut number = body.at;
@@ -148,7 +154,7 @@ fn bytes_of(alloc: Global, kind: WordKind, body: Body) -> Result<Vec<u8>, Script
 fn hex_image(alloc: Global, body: Body) -> Result<Image, ScriptFault>
     requires { body.at + length body.text.now < 2 ^ 31 }
     ensures { (lines : List Line) → IsBody body.entry lines
-        → Finds result (form_fault Hex body.entry.at lines) (Some (image_in Hex lines)) }
+        → HasFound result (form_fault Hex body.entry.at lines) (Some (image_in Hex lines)) }
 {
     let bytes = bytes_of(alloc, WordKind::Instruction, body)?;
     match Image::of_parts(PRIVATE_START, bytes, 0) {
@@ -162,7 +168,7 @@ fn hex_image(alloc: Global, body: Body) -> Result<Image, ScriptFault>
 fn rki_image(alloc: Global, body: Body) -> Result<Image, ScriptFault>
     requires { body.at + length body.text.now < 2 ^ 31 }
     ensures { (lines : List Line) → IsBody body.entry lines
-        → Finds result (form_fault Rki body.entry.at lines) (Some (image_in Rki lines)) }
+        → HasFound result (form_fault Rki body.entry.at lines) (Some (image_in Rki lines)) }
 {
     let bytes = bytes_of(alloc, WordKind::Plain, body)?;
     match rv_image::read(alloc, bytes.as_slice()) {
@@ -179,7 +185,7 @@ fn rki_image(alloc: Global, body: Body) -> Result<Image, ScriptFault>
 fn asm_image(alloc: Global, body: Body) -> Result<Image, ScriptFault>
     requires { body.at + length body.text.now < 2 ^ 31 }
     ensures { (lines : List Line) → IsBody body.entry lines
-        → Finds result (form_fault Asm body.entry.at lines) (Some (image_in Asm lines)) }
+        → HasFound result (form_fault Asm body.entry.at lines) (Some (image_in Asm lines)) }
 {
     match assemble(alloc, body.text) {
         Ok(image) => Ok(image),
@@ -195,7 +201,7 @@ fn asm_image(alloc: Global, body: Body) -> Result<Image, ScriptFault>
 pub fn image_in(alloc: Global, form: ImageForm, body: Body) -> Result<Image, ScriptFault>
     requires { body.at + length body.text.now < 2 ^ 31 }
     ensures { (lines : List Line) → IsBody body.entry lines
-        → Finds result (body_fault form body.entry.at lines) (Some (image_in form lines)) }
+        → HasFound result (body_fault form body.entry.at lines) (Some (image_in form lines)) }
 {
     if let Some(line) = bad_byte_line(body) {
         return Err(ScriptKind::BadByte.at(line));

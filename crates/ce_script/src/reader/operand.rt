@@ -7,13 +7,14 @@ ghost use Rattle.ce_script.specs.Sayings.{number_at, place_at, command_by};
 ghost use Rattle.ce_script.specs.Verbs.{OldImage, is_command};
 ghost use Rattle.ce_script.specs.Faults.{first_some, refused, operand_fault};
 ghost use Rattle.ce_script.specs.Sayings.{number_of};
-ghost use Rattle.ce_script.specs.Reading.{Judges, operands_judged};
+ghost use Rattle.ce_script.specs.Reading.{HasJudged, operands_judged};
 ghost use Rattle.ce_script.specs.ReadLines.{here_of};
+ghost use Rattle.ce_script.specs.Places.{IsIndexOf};
 
 use crate::grammar::Verb;
+use crate::reader::index::NameIndex;
 use crate::reader::line::WordedLine;
-use crate::reader::names::place_of_image;
-use crate::script::{Named, ScriptKind};
+use crate::script::ScriptKind;
 use crate::spelling::{data_in, is_name, number_to};
 use ce_host::Command;
 use ce_model::{Bytes, GREATEST_COUNT, GREATEST_DIMENSION, Place};
@@ -22,7 +23,8 @@ use std::alloc::Global;
 /// The number at a place, at most this.
 #[tactic(auto, using(crate::proofs::Numbers::number_there, crate::proofs::Numbers::number_missing))]
 pub fn number(line: &WordedLine, place: usize, most: u32) -> Result<u32, ScriptKind>
-    ensures { Judges result (refused (is_none (number_to most (operand place (here_of line.now)))) BadNumber)
+    ensures { HasJudged result
+        (refused (is_none (number_to most (operand place (here_of line.now)))) BadNumber)
         (Some (number_at place (here_of line.now))) }
 {
     match number_to(line.operand(place), most) {
@@ -34,9 +36,10 @@ pub fn number(line: &WordedLine, place: usize, most: u32) -> Result<u32, ScriptK
 /// The node and the process id at a place and behind it.
 fn place(line: &WordedLine, place: usize) -> Result<Place, ScriptKind>
     requires { place < 2 ^ 32 }
-    ensures { Judges result (first_some
+    ensures { HasJudged result (first_some
         (refused (is_none (number_to greatest_number (operand place (here_of line.now)))) BadNumber
-        ∷ refused (is_none (number_to greatest_number (operand (place + 1) (here_of line.now)))) BadNumber ∷ []))
+        ∷ refused (is_none (number_to greatest_number (operand (place + 1) (here_of line.now))))
+        BadNumber ∷ []))
         (Some (place_at place (here_of line.now))) }
 {
     let node = number(line, place, u32::MAX)?;
@@ -45,23 +48,24 @@ fn place(line: &WordedLine, place: usize) -> Result<Place, ScriptKind>
 }
 
 /// The number of an earlier image.
-fn old_image(images: &[Named], word: &[u8]) -> Result<u32, ScriptKind>
-    requires { length images.now < 2 ^ 32 }
-    ensures { let names = map (λ named. named.name) images.now in
-        Judges result (operand_fault names OldImage word.now) (Some (number_of word.now names)) }
+fn old_image(images: &NameIndex, word: &[u8]) -> Result<u32, ScriptKind>
+    ensures { (names : List (List ℕ)) → IsIndexOf images.now names
+        → HasJudged result (operand_fault names OldImage word.now)
+        (Some (number_of word.now names)) }
 {
     if !is_name(word) {
         return Err(ScriptKind::BadName);
     }
-    match place_of_image(images, word) {
-        Some(number) => Ok(number as u32),
+    match images.place(word) {
+        Some(number) => Ok(number),
         None => Err(ScriptKind::UnknownImage),
     }
 }
 
 /// The bytes of a message.
 fn data(alloc: Global, line: &WordedLine, place: usize) -> Result<Bytes, ScriptKind>
-    ensures { Judges result (refused (is_none (data_in (operand place (here_of line.now)))) BadHex)
+    ensures { HasJudged result
+        (refused (is_none (data_in (operand place (here_of line.now)))) BadHex)
         (data_in (operand place (here_of line.now))) }
 {
     match data_in(alloc, line.operand(place))? {
@@ -76,12 +80,12 @@ pub fn command(
     alloc: Global,
     verb: Verb,
     line: &WordedLine,
-    images: &[Named],
+    images: &NameIndex,
 ) -> Result<Command, ScriptKind>
-    requires few { length images.now < 2 ^ 32 }
-    requires command { IsTrue (is_command verb) }
-    ensures { let names = map (λ named. named.name) images.now in
-        Judges result (operands_judged names verb (here_of line.now)) (command_by verb names (here_of line.now)) }
+    requires { IsTrue (is_command verb) }
+    ensures { (names : List (List ℕ)) → IsIndexOf images.now names
+        → HasJudged result (operands_judged names verb (here_of line.now))
+        (command_by verb names (here_of line.now)) }
 {
     match verb {
         Verb::Getcube => Ok(Command::Getcube(number(line, 1, GREATEST_DIMENSION)?)),

@@ -1,5 +1,5 @@
 //! What is known behind some statements, and how a statement adds to it.
-ghost use Rattle.std.specs.Prelude.{◌≡◌, ◌&&◌, ◌≤◌, ◌<◌, ◌+◌, ◌^◌, false, true, ◌∷◌, ◌++◌, [], ℕ, List, IfOk, OnOk, IsTrue, Some, None, is_some, map, length};
+ghost use Rattle.std.specs.Prelude.{◌≡◌, ◌&&◌, ◌≤◌, ◌<◌, ◌+◌, ◌^◌, false, true, ◌∷◌, ◌++◌, [], ℕ, List, IfOk, OnOk, IsTrue, Some, None, is_some, map, length, position, bytes_eq};
 ghost use Rattle.ce_script.specs.declared.grammar.Verb.TheVariants.{Machine, User, Image};
 ghost use Rattle.ce_script.specs.declared.script.ScriptKind.TheVariants.{NoEnd};
 ghost use Rattle.ce_script.specs.Lines.{words};
@@ -12,15 +12,16 @@ ghost use Rattle.ce_script.specs.Bodies.{body_fault, image_in, fault_at};
 ghost use Rattle.ce_script.specs.Statements.{body_in, Statement};
 ghost use Rattle.ce_script.specs.Sayings.{command_by};
 ghost use Rattle.ce_script.specs.Faults.{refused, has_unknown_form};
-ghost use Rattle.ce_script.specs.Reading.{Judges, Finds, Unless, word_fault, place_fault, operands_judged, user_fault, with_name};
+ghost use Rattle.ce_script.specs.Reading.{HasJudged, HasFound, Unless, word_fault, place_fault, operands_judged, user_fault, with_name};
 ghost use Rattle.ce_script.specs.ReadLines.{line_of, here_of, lines_left, reach_of, statements_from, IsLater};
-ghost use Rattle.ce_script.specs.Standing.{names_of, AreFew, with_dim, with_user, with_image, with_command, said, new_image_fault, rest_fault, verb_fault, line_judged, statement_judged, Stands, Keeps, SaysImage, SaysStatement, Begins, nothing_said};
+ghost use Rattle.ce_script.specs.Places.{IsIndexOf, AreIndexed};
+ghost use Rattle.ce_script.specs.Standing.{names_of, AreFew, with_dim, with_user, with_image, with_command, with_statement, new_image_fault, rest_fault, verb_fault, line_judged, statement_judged, HasReadUpTo, HasKept, HasSaidImage, HasSaidStatement, HasBegun, nothing_said};
 
 use crate::grammar::{ImageForm, Verb, form_of, verb_of};
 use crate::name::Name;
 use crate::reader::body::{body_in, image_in};
+use crate::reader::index::{Indexes, NameIndex};
 use crate::reader::line::WordedLine;
-use crate::reader::names::{has_image, place_of};
 use crate::reader::operand::{command, number};
 use crate::reader::rest::Rest;
 use crate::script::{Named, Script, ScriptFault, ScriptKind};
@@ -67,7 +68,8 @@ fn lacks_form(verb: Verb, line: &WordedLine) -> bool
 
 /// The verb of a line whose words are as many as belong to it.
 pub fn verb_on(line: &WordedLine) -> Result<Verb, ScriptKind>
-    ensures { Judges result (word_fault (here_of line.now)) (verb_of (words (line_of line.now))) }
+    ensures { HasJudged result (word_fault (here_of line.now))
+        (verb_of (words (line_of line.now))) }
 {
     if !are_plain(before_comment(line.text)) {
         return Err(ScriptKind::BadByte);
@@ -104,7 +106,8 @@ impl Reader {
     /// Whether a statement with this verb may stand here.
     #[tactic(auto, unfolding(crate::specs::Reading::place_fault))]
     fn check_place(&self, verb: Verb) -> Result<(), ScriptKind>
-        ensures { Judges result (place_fault (is_some self.now.script.dim) (is_some self.now.user) verb) (Some tt) }
+        ensures { HasJudged result
+            (place_fault (is_some self.now.script.dim) (is_some self.now.user) verb) (Some tt) }
     {
         if matches!(verb, Verb::Machine) {
             if self.script.dim.is_some() {
@@ -124,47 +127,56 @@ impl Reader {
     /// `machine D`
     #[tactic(auto, using(crate::proofs::OperandFaults::machine_fault))]
     fn machine(&mut self, line: &WordedLine) -> Result<(), ScriptKind>
-        ensures judged { Judges result (rest_fault self.old Machine (here_of line.now)) (Some tt) }
-        ensures said { OnOk result (self.new ≡ said self.old Machine (here_of line.now)) }
+        ensures judged { HasJudged result
+            (rest_fault self.old Machine (here_of line.now)) (Some tt) }
+        ensures said { OnOk result (self.new ≡ with_statement self.old Machine (here_of line.now)) }
     {
         self.script.dim = Some(number(line, 1, GREATEST_DIMENSION)?);
         Ok(())
     }
 
     /// `user NAME`
-    fn user(&mut self, alloc: Global, word: &[u8]) -> Result<(), ScriptKind>
-        requires { AreFew self.old }
-        ensures judged { Judges result (user_fault self.old.script.users word.now) (Some tt) }
+    fn user(&mut self, alloc: Global, indexes: &mut Indexes, word: &[u8]) -> Result<(), ScriptKind>
+        requires few { AreFew self.old }
+        requires indexed { AreIndexed indexes.old self.old }
+        ensures judged { HasJudged result (user_fault self.old.script.users word.now) (Some tt) }
         ensures said { OnOk result (self.new ≡ with_user self.old word.now) }
+        ensures indexed { OnOk result (AreIndexed indexes.new self.new) }
     {
         if !is_name(word) {
             return Err(ScriptKind::BadName);
         }
-        let users = &self.script.users;
-        if let Some(number) = place_of(users.as_slice(), word) {
-            self.user = Some(number as u32);
+        if let Some(number) = indexes.users.place(word) {
+            self.user = Some(number);
             return Ok(());
         }
-        let number = users.len() as u32;
+        let number = self.script.users.len() as u32;
         if number >= GREATEST_USERS {
             return Err(ScriptKind::TooMany);
         }
         self.script.users.push(name_of(alloc, word)?)?;
+        indexes.users.add(word, number)?;
         self.user = Some(number);
         Ok(())
     }
 
     /// A command.
-    fn command(&mut self, alloc: Global, verb: Verb, line: &WordedLine) -> Result<(), ScriptKind>
-        requires few { AreFew self.old }
+    fn command(
+        &mut self,
+        alloc: Global,
+        images: &NameIndex,
+        verb: Verb,
+        line: &WordedLine,
+    ) -> Result<(), ScriptKind>
+        requires indexed { IsIndexOf images.now (names_of self.old) }
         requires command { IsTrue (is_command verb) }
         requires user { IsTrue (is_some self.old.user) }
-        ensures judged { Judges result
+        ensures judged { HasJudged result
             (operands_judged (names_of self.old) verb (here_of line.now)) (Some tt) }
         ensures said { OnOk result (self.new
             ≡ with_command self.old (command_by verb (names_of self.old) (here_of line.now))) }
     {
-        let said = command(alloc, verb, line, self.script.images.as_slice())?;
+        let said = command(alloc, verb, line, images)?;
         let Some(user) = self.user else {
             unreachable!();
         };
@@ -173,17 +185,17 @@ impl Reader {
     }
 
     /// Why no image of this name may begin.
-    fn check_image(&self, word: &[u8]) -> Result<(), ScriptKind>
-        ensures { Judges result (new_image_fault (names_of self.now) word.now) (Some tt) }
+    fn check_image(&self, images: &NameIndex, word: &[u8]) -> Result<(), ScriptKind>
+        requires { IsIndexOf images.now (names_of self.now) }
+        ensures { HasJudged result (new_image_fault (names_of self.now) word.now) (Some tt) }
     {
         if !is_name(word) {
             return Err(ScriptKind::BadName);
         }
-        let images = self.script.images.as_slice();
-        if has_image(images, word) {
+        if images.place(word).is_some() {
             return Err(ScriptKind::NameTaken);
         }
-        if images.len() >= GREATEST_IMAGES as usize {
+        if self.script.images.len() >= GREATEST_IMAGES as usize {
             return Err(ScriptKind::TooMany);
         }
         Ok(())
@@ -193,60 +205,83 @@ impl Reader {
     fn image<'a>(
         &mut self,
         alloc: Global,
+        indexes: &mut Indexes,
         line: &WordedLine,
         form: ImageForm,
         rest: Rest<'a>,
     ) -> Result<Rest<'a>, ScriptFault>
         requires few { AreFew self.old }
+        requires indexed { AreIndexed indexes.old self.old }
         requires form { form_of (operand 2 (here_of line.now)) ≡ Some form }
         requires at { rest.before ≡ line.now.number }
         requires reach { reach_of rest ≤ 2 ^ 31 }
-        ensures image { SaysImage result self.old self.new line.now rest.entry }
+        ensures image { HasSaidImage result self.old self.new line.now rest.entry }
         ensures past { IfOk result (λ next. statements_from true (lines_left rest.entry)
             ≡ statements_from false (lines_left next)) }
         ensures later { IfOk result (IsLater rest.entry) }
+        ensures indexed { OnOk result (AreIndexed indexes.new self.new) }
     {
-        if let Err(kind) = self.check_image(line.operand(1)) {
+        if let Err(kind) = self.check_image(&indexes.images, line.operand(1)) {
             return Err(kind.at(line.number));
         }
         let Some((body, after)) = body_in(rest) else {
             return Err(ScriptKind::NoEnd.at(line.number));
         };
         let image = image_in(alloc, form, body)?;
-        match self.add_image(alloc, line.operand(1), image) {
+        match self.add_image(alloc, indexes, line.operand(1), image) {
             Ok(()) => Ok(after),
             Err(want) => Err(ScriptKind::Memory(want).at(line.number)),
         }
     }
 
     /// One image more.
-    fn add_image(&mut self, alloc: Global, word: &[u8], image: Image) -> Result<(), NoMemory>
-        requires { IsTrue (is_name word.now) }
-        ensures { OnOk result (self.new ≡ with_image self.old word.now image) }
+    fn add_image(
+        &mut self,
+        alloc: Global,
+        indexes: &mut Indexes,
+        word: &[u8],
+        image: Image,
+    ) -> Result<(), NoMemory>
+        requires name { IsTrue (is_name word.now) }
+        requires few { AreFew self.old }
+        requires indexed { AreIndexed indexes.old self.old }
+        requires free { position (bytes_eq word.now) (names_of self.old) ≡ None }
+        ensures said { OnOk result (self.new ≡ with_image self.old word.now image) }
+        ensures indexed { OnOk result (AreIndexed indexes.new self.new) }
     {
         let name = name_of(alloc, word)?;
+        let number = self.script.images.len() as u32;
         self.script.images.push(Named { name, image })?;
+        indexes.images.add(word, number)?;
         Ok(())
     }
 
     /// A statement that is no image.
-    fn plain(&mut self, alloc: Global, verb: Verb, line: &WordedLine) -> Result<(), ScriptKind>
+    fn plain(
+        &mut self,
+        alloc: Global,
+        indexes: &mut Indexes,
+        verb: Verb,
+        line: &WordedLine,
+    ) -> Result<(), ScriptKind>
         requires few { AreFew self.old }
+        requires indexed { AreIndexed indexes.old self.old }
         requires plain { is_image verb ≡ false }
         requires user { IsTrue (is_command verb) → IsTrue (is_some self.old.user) }
-        ensures judged { Judges result (rest_fault self.old verb (here_of line.now)) (Some tt) }
-        ensures said { OnOk result (self.new ≡ said self.old verb (here_of line.now)) }
+        ensures judged { HasJudged result (rest_fault self.old verb (here_of line.now)) (Some tt) }
+        ensures said { OnOk result (self.new ≡ with_statement self.old verb (here_of line.now)) }
+        ensures indexed { OnOk result (AreIndexed indexes.new self.new) }
     {
         match verb {
             Verb::Machine => self.machine(line),
-            Verb::User => self.user(alloc, line.operand(1)),
-            _ => self.command(alloc, verb, line),
+            Verb::User => self.user(alloc, indexes, line.operand(1)),
+            _ => self.command(alloc, &indexes.images, verb, line),
         }
     }
 
     /// The verb of a statement that may stand here.
     fn begun(&self, line: &WordedLine) -> Result<Verb, ScriptKind>
-        ensures { Begins result self.now (here_of line.now) }
+        ensures { HasBegun result self.now (here_of line.now) }
     {
         let verb = verb_on(line)?;
         self.check_place(verb)?;
@@ -257,13 +292,16 @@ impl Reader {
     fn statement<'a>(
         &mut self,
         alloc: Global,
+        indexes: &mut Indexes,
         line: &WordedLine,
         rest: Rest<'a>,
     ) -> Result<Rest<'a>, ScriptFault>
         requires few { AreFew self.old }
+        requires indexed { AreIndexed indexes.old self.old }
         requires at { rest.before ≡ line.now.number }
         requires reach { reach_of rest ≤ 2 ^ 31 }
-        ensures said { SaysStatement result self.old self.new line.now rest.entry }
+        ensures said { HasSaidStatement result self.old self.new line.now rest.entry }
+        ensures indexed { OnOk result (AreIndexed indexes.new self.new) }
         ensures later { IfOk result (IsLater rest.entry) }
     {
         let verb = match self.begun(line) {
@@ -271,8 +309,8 @@ impl Reader {
             Err(kind) => return Err(kind.at(line.number)),
         };
         match (verb, form_of(line.operand(2))) {
-            (Verb::Image, Some(form)) => self.image(alloc, line, form, rest),
-            _ => match self.plain(alloc, verb, line) {
+            (Verb::Image, Some(form)) => self.image(alloc, indexes, line, form, rest),
+            _ => match self.plain(alloc, indexes, verb, line) {
                 Ok(()) => Ok(rest),
                 Err(kind) => Err(kind.at(line.number)),
             },
@@ -283,16 +321,19 @@ impl Reader {
     pub fn line<'a>(
         &mut self,
         alloc: Global,
+        indexes: &mut Indexes,
         text: &[u8],
         rest: Rest<'a>,
     ) -> Result<Rest<'a>, ScriptFault>
         requires few { AreFew self.old }
+        requires indexed { AreIndexed indexes.old self.old }
         requires reach { reach_of rest ≤ 2 ^ 31 }
         ensures stands { (all : List Statement)
-            → Stands all self.old (statements_from false
+            → HasReadUpTo all self.old (statements_from false
             (record { number = rest.entry.before; text = text.now } ∷ lines_left rest.entry))
-            → Keeps all result self.new (λ next. statements_from false (lines_left next)) }
+            → HasKept all result self.new (λ next. statements_from false (lines_left next)) }
         ensures few { OnOk result (AreFew self.new) }
+        ensures indexed { OnOk result (AreIndexed indexes.new self.new) }
         ensures later { IfOk result (IsLater rest.entry) }
     {
         let line = match WordedLine::new(alloc, rest.before, text) {
@@ -302,6 +343,6 @@ impl Reader {
         if line.words.is_empty() {
             return Ok(rest);
         }
-        self.statement(alloc, &line, rest)
+        self.statement(alloc, indexes, &line, rest)
     }
 }

@@ -13,7 +13,7 @@ use Rattle.ce_model.specs.Cube.{opening, left_by, IsNext, IsAlone}
 use Rattle.ce_model.specs.Subcubes.{node_of, is_inside, first_free}
 use Rattle.ce_model.specs.Renaming.{CubeGrant}
 use Rattle.ce_model.specs.Views.{grant_in, trace_behind, from_grant, view}
-use Rattle.ce_model.specs.Machine.{MachineParts, IsMachine, HeldCube, MachineState, machine_opening, held_by, is_free, nodes_of, standing_of, cube_of, record_by, held_by_entry, with_cube, with_grant, with_drained, without_cube, changed_by, changed_by_call, after, Request, getcube, peek, drain, freecube, in_cube, with_places_outward, answered, IsCallOf, Fits, IsLawfulEntry, IsLawful}
+use Rattle.ce_model.specs.Machine.{MachineParts, IsMachine, HeldCube, MachineState, machine_opening, held_by, is_free, nodes_of, standing_of, cube_of, record_by, held_by_entry, with_cube, with_grant, with_drained, without_cube, changed_by, changed_by_call, after, Request, getcube, peek, drain, freecube, in_cube, with_places_outward, answered, IsCallOf, IsFitting, IsLawfulEntry, IsLawful}
 use Rattle.ce_model.proofs.Subcubes.{is_inside-node_of}
 use Rattle.ce_model.proofs.Walked.{kept_by_each, each-more}
 use Rattle.ce_model.proofs.AloneByEntries.{alone_by_entries}
@@ -177,7 +177,7 @@ module _ (parts : MachineParts) (machine : IsMachine parts) (h : List Entry) (be
       (ap (λ call. changed_by_call call entry (after h)) own.called)
       (call-step parts machine (after h) h before entry cube is fits.not_drained own)
 
-  by_request : (entry : Entry) (request : Request) → Fits parts h entry.user entry.actor request → answered parts (after h) entry.user entry.actor request ≡ Some entry.what
+  by_request : (entry : Entry) (request : Request) → IsFitting parts h entry.user entry.actor request → answered parts (after h) entry.user entry.actor request ≡ Some entry.what
       → Steps parts h entry
   by_request entry (getcube d) fits e = by_grant entry d (first_free (is_free (after h)) parts.dim d) refl fits.0 fits.1.2 e
   by_request entry peek fits e =

@@ -13,7 +13,7 @@ use Rattle.ce_model.specs.Cube.{Cube, CubeState, opening, asked_by, call_by, Hos
 use Rattle.ce_model.specs.Subcubes.{is_inside, relative}
 use Rattle.ce_model.specs.Renaming.{call_with, block_outward, CubeGrant, number_outward}
 use Rattle.ce_model.specs.Views.{trace_behind, view}
-use Rattle.ce_model.specs.Machine.{MachineParts, IsMachine, HeldCube, held_by, nodes_of, standing_of, with_places_outward, record_by, held_by_entry, with_cube, changed_by, changed_by_call, cube_of, after, Request, getcube, peek, drain, freecube, in_cube, is_alone, answered, IsCallOf, FitsHistory, Fits, IsLawfulEntry}
+use Rattle.ce_model.specs.Machine.{MachineParts, IsMachine, HeldCube, held_by, nodes_of, standing_of, with_places_outward, record_by, held_by_entry, with_cube, changed_by, changed_by_call, cube_of, after, Request, getcube, peek, drain, freecube, in_cube, is_alone, answered, IsCallOf, IsFittingIn, IsFitting, IsLawfulEntry}
 use Rattle.ce_model.proofs.OneMore.{state-more, hoststore-more}
 use Rattle.ce_solo.specs.Laws.{IsForeign, StillFits}
 use Rattle.ce_solo.proofs.Projection.Views.{found-more, trace-stays, view-is}
@@ -53,7 +53,7 @@ fits-on : (parts : MachineParts) (h h' : List Entry) (user actor : ℕ) (request
     → ((held : Option HeldCube) → held_by (after h) user ≡ held → held ≡ None → held_by (after h') user ≡ None)
     → ((drained : Bool) → IsSomeAnd (held_by (after h) user) (λ cube. cube.drained ≡ drained) → IsSomeAnd (held_by (after h') user) (λ cube. cube.drained ≡ drained))
     → ((call : Call) → IsSomeAnd (held_by (after h) user) (IsCallOf parts h actor call) → IsSomeAnd (held_by (after h') user) (IsCallOf parts h' actor call))
-    → FitsHistory parts h user actor request → FitsHistory parts h' user actor request
+    → IsFittingIn parts h user actor request → IsFittingIn parts h' user actor request
 fits-on parts h h' user actor (getcube d) none drained call fits = (fits.0, fits.1, none (held_by (after h) user) refl fits.2)
 fits-on parts h h' user actor peek none drained call fits = fits
 fits-on parts h h' user actor drain none drained call fits = (fits.0, drained false fits.1)
@@ -96,7 +96,7 @@ module _ (parts : MachineParts) (machine : IsMachine parts) (h : List Entry) (be
       (λ asked. ap (λ t. call_by (cube_of parts.images cube.grant) (opening (cube_of parts.images cube.grant)) t (relative cube.grant.sub actor) asked) (view-stays cube is quiet)) fits
 
   fits-quiet : (request : Request) → held_by (after h') user ≡ held_by (after h) user → (entry.user == user && is_some (call_of entry.what)) ≡ false
-      → FitsHistory parts h user actor request → FitsHistory parts h' user actor request
+      → IsFittingIn parts h user actor request → IsFittingIn parts h' user actor request
   fits-quiet request same quiet fits =
       fits-on parts h h' user actor request (λ held is none. same ∙ is ∙ none) (λ drained some. subst (λ held. IsSomeAnd held (λ cube. cube.drained ≡ drained)) (sym same) some)
       (λ call some. subst (λ held. IsSomeAnd held (IsCallOf parts h' actor call)) (sym same) (quiet_call call (held_by (after h) user) refl quiet some)) fits
@@ -136,7 +136,7 @@ module _ (parts : MachineParts) (machine : IsMachine parts) (h : List Entry) (be
         ap (λ t. call_by c (opening c) t (relative cube.grant.sub actor) asked) view_next
         ∙ call_by-other c (opening c) (view h cube.number) (relative cube.grant.sub actor) asked own.inner (inner_other of.inside)) of
 
-    fits-beside : (request : Request) → FitsHistory parts h user actor request → FitsHistory parts h' user actor request
+    fits-beside : (request : Request) → IsFittingIn parts h user actor request → IsFittingIn parts h' user actor request
     fits-beside request fits =
         fits-on parts h h' user actor request (λ held is none. let no_cube : Some cube ≡ None = sym held_is ∙ is ∙ none in absurd (cc))
         (λ drained some. subst (λ held. IsSomeAnd held (λ cube. cube.drained ≡ drained)) (sym held_next) (subst (λ held. IsSomeAnd held (λ cube. cube.drained ≡ drained)) held_is some))
@@ -147,27 +147,27 @@ module _ (parts : MachineParts) (machine : IsMachine parts) (h : List Entry) (be
 
   beside_call : (request : Request) (call : Call) (held : Option HeldCube) → held_by (after h) entry.user ≡ held → IsSomeAnd held (IsCallOf parts h entry.actor call)
       → option_map (λ cube. answer (nodes_of cube.grant) (standing_of (after h) cube) entry.actor (with_places_outward cube.grant call)) held ≡ Some entry.what
-      → entry.user ≡ user → (entry.actor == actor) ≡ false → FitsHistory parts h user actor request → FitsHistory parts h' user actor request
+      → entry.user ≡ user → (entry.actor == actor) ≡ false → IsFittingIn parts h user actor request → IsFittingIn parts h' user actor request
   beside_call request call None is some e same other fits = absurd some
   beside_call request call (Some cube) is some e same other fits =
       fits-beside cube is some.not_drained same (own-called parts machine h before entry call cube is some e) other request fits
 
-  peeked : (request : Request) (what : What) → Peek ≡ what → entry.what ≡ what → FitsHistory parts h user actor request → FitsHistory parts h' user actor request
+  peeked : (request : Request) (what : What) → Peek ≡ what → entry.what ≡ what → IsFittingIn parts h user actor request → IsFittingIn parts h' user actor request
   peeked request what is same fits =
       let call : call_of entry.what ≡ None = ap call_of (same ∙ sym is) in
       fits-quiet request (ap (λ state. held_by state user) (after-more h entry ∙ ap (λ what. changed_by (after h) (record { user = entry.user; actor = entry.actor; what = what })) (same ∙ sym is)))
       (and_false _ _ (ap is_some call)) fits
 
-  by_asked : (request asked : Request) → Fits parts h entry.user entry.actor asked → answered parts (after h) entry.user entry.actor asked ≡ Some entry.what
-      → is_alone asked ≡ false → entry.user ≡ user → (entry.actor == actor) ≡ false → FitsHistory parts h user actor request → FitsHistory parts h' user actor request
+  by_asked : (request asked : Request) → IsFitting parts h entry.user entry.actor asked → answered parts (after h) entry.user entry.actor asked ≡ Some entry.what
+      → is_alone asked ≡ false → entry.user ≡ user → (entry.actor == actor) ≡ false → IsFittingIn parts h user actor request → IsFittingIn parts h' user actor request
   by_asked request (getcube d) of e beside same other fits = absurd (cc)
   by_asked request drain of e beside same other fits = absurd (cc)
   by_asked request freecube of e beside same other fits = absurd (cc)
   by_asked request peek of e beside same other fits = peeked request entry.what (ap (λ o. elim o [ None ↦ Peek | Some z ↦ z ]) e) refl fits
   by_asked request (in_cube call) of e beside same other fits = beside_call request call (held_by (after h) entry.user) refl of.1 e same other fits
 
-  by_user : (request : Request) (lawful : IsLawfulEntry parts h entry) → IsForeign user actor entry lawful.request → FitsHistory parts h user actor request
-      → FitsHistory parts h' user actor request
+  by_user : (request : Request) (lawful : IsLawfulEntry parts h entry) → IsForeign user actor entry lawful.request → IsFittingIn parts h user actor request
+      → IsFittingIn parts h' user actor request
   by_user request lawful foreign fits =
       elim (cases_Bool (entry.user == user)) [
         | inl same ↦

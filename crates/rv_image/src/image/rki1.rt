@@ -3,7 +3,7 @@
 ghost use Rattle.std.specs.Prelude.{◌≡◌, ◌+◌, ◌≤◌, IfOk, length};
 ghost use Rattle.std.specs.Result.{result_err};
 ghost use Rattle.rv_model.specs.Image.{ImageParts, image_parts};
-ghost use Rattle.rv_image.specs.Fault.{named_cause, Gives};
+ghost use Rattle.rv_image.specs.Fault.{named_cause, IsValueOf};
 ghost use Rattle.rv_image.specs.Rki1.{IsRki1, number_at, fields_of, fault_of};
 
 use super::{Image, is_entry, is_too_large};
@@ -85,7 +85,7 @@ pub fn read(alloc: Global, bytes: &[u8]) -> Result<Image, ImageFault>
     // What is read is spelled so.
     ensures found { IfOk result (λ image. IsRki1 bytes.now image) }
     // What is spelled so is read, unless memory runs out.
-    ensures only { (image : ImageParts) → IsRki1 bytes.now image → Gives result image }
+    ensures only { (image : ImageParts) → IsRki1 bytes.now image → IsValueOf result image }
     // Which fault it is.
     ensures exact { named_cause result ≡ fault_of bytes.now }
 {

@@ -1,11 +1,11 @@
 use Rattle.std.proofs.Common.{length, refl, subst, sym, ap, ◌∙◌}
-use Rattle.rk_node.specs.Answering.{CanHear}
+use Rattle.rk_node.specs.Answering.{IsAbleToHear}
 use Rattle.rk_node.specs.Boxes.{Box, IsClean}
-use Rattle.ce_model.specs.Machine.{Fits, in_cube}
+use Rattle.ce_model.specs.Machine.{IsFitting, in_cube}
 use Rattle.rk_mail.specs.Talk.{call_said, heard_as}
 use Rattle.ce_model.specs.Hearing.{hears}
 use Rattle.ce_cube.specs.Exchanges.{HasExchanged}
-use Rattle.ce_machine.specs.Meanings.{Stands}
+use Rattle.ce_machine.specs.Meanings.{IsAnsweredBy}
 use Rattle.ce_machine.specs.declared.call.Call.TheVariants.{Say}
 use Rattle.ce_cube.proofs.Exchanging.{mask-small, base-small, base-apart, number-small, call-fits, images-are, stands-heard, stands-hear, stands-exchanged}
 use Rattle.ce_cube.proofs.exchange.exchange.Goals as goal
@@ -30,7 +30,7 @@ node_of-requires-clause-relative c =
 pub act-requires : goal.act-requires
 act-requires c = record {
   machine = c.requires.node.sound.within;
-  fits = subst (λ actor. Fits c.args.machine.now.parts c.args.machine.now.history c.args.grant.now.user actor (in_cube (call_said c.args.said))) (sym c.node_of.ensures)
+  fits = subst (λ actor. IsFitting c.args.machine.now.parts c.args.machine.now.history c.args.grant.now.user actor (in_cube (call_said c.args.said))) (sym c.node_of.ensures)
       (call-fits c.args.machine.now c.args.grant.now c.args.r c.requires.node c.requires.said.0 c.args.node.now (call_said c.args.said) c.requires.said.1);
   boxes = tt;
 }
@@ -43,10 +43,10 @@ hears-requires-clause-images c =
 pub hears-requires-clause-heard : goal.hears-requires-clause-heard
 hears-requires-clause-heard c =
     let grown = c.in-Ok.ensures.grows in
-    subst (λ images. CanHear images c.args.node.now c.heard_in-heard.result) (sym c.requires.images)
+    subst (λ images. IsAbleToHear images c.args.node.now c.heard_in-heard.result) (sym c.requires.images)
     (stands-hear c.args.machine.now c.args.grant.now c.args.r c.requires.node c.requires.said.0 c.args.node.now (call_said c.args.said) c.requires.said.1
     (λ box. box.node.home) IsClean c.args.said refl c.heard_in-heard.result grown.0 c.node_of.result c.node_of.ensures
-    (subst (Stands (λ (box : Box). box.node.home) IsClean c.args.machine.now.parts c.args.machine.now.history grown.0 (record { family = c.args.grant.now.user; actor = c.node_of.result }) (Say c.args.said)) c.heard_in-heard.ensures grown.2))
+    (subst (IsAnsweredBy (λ (box : Box). box.node.home) IsClean c.args.machine.now.parts c.args.machine.now.history grown.0 (record { family = c.args.grant.now.user; actor = c.node_of.result }) (Say c.args.said)) c.heard_in-heard.ensures grown.2))
 
 pub returns : goal.returns
 returns c box called =
@@ -55,7 +55,7 @@ returns c box called =
     subst (HasExchanged m c.act.new.self c.args.grant.now c.args.r box c.hears.new.self (call_said c.args.said)) (sym c.is_work-work.ensures)
     (stands-exchanged m c.args.grant.now c.args.r c.requires.node box c.args.node.now (call_said c.args.said) called
     (λ box. box.node.home) IsClean c.args.said refl c.heard_in-heard.result grown.0 c.node_of.result c.node_of.ensures
-    (subst (Stands (λ (box : Box). box.node.home) IsClean m.parts m.history grown.0 (record { family = c.args.grant.now.user; actor = c.node_of.result }) (Say c.args.said)) c.heard_in-heard.ensures grown.2)
+    (subst (IsAnsweredBy (λ (box : Box). box.node.home) IsClean m.parts m.history grown.0 (record { family = c.args.grant.now.user; actor = c.node_of.result }) (Say c.args.said)) c.heard_in-heard.ensures grown.2)
     c.act.new.self c.hears.new.self c.in-Ok.ensures.fixed grown.1
     (c.hears.ensures.node ∙ ap (λ images. hears images c.args.node.now.node (heard_as c.heard_in-heard.result)) c.requires.images) c.hears.ensures.room c.hears.ensures.out c.in-Ok.ensures.few)
 

@@ -1,10 +1,8 @@
-use Rattle.std.proofs.Common.{◌≡◌, ℕ, ◌+◌, ◌<◌, ◌^◌, List, [], get_or, length, set, sym, ap, ◌∙◌, subst, arith}
+use Rattle.std.proofs.Common.{◌≡◌, ◌+◌, ◌<◌, ◌^◌, length, set, sym, ap, ◌∙◌, subst, arith}
 use Rattle.ce_model.specs.Trace.{NodeRecord, blank_record}
 use Rattle.ce_model.specs.Subcubes.{node_of}
-use Rattle.ce_machine.specs.Tables.{desk_at}
 use Rattle.ce_machine.specs.Desks.{AreChanged}
-use Rattle.ce_machine.proofs.Loops.{at_first, first-none, first-next, first-more, first-all}
-use Rattle.ce_machine.proofs.Steps.{desk-read}
+use Rattle.ce_machine.proofs.Loops.{at_first, first-none, first-read, first-more, first-all}
 use Rattle.ce_machine.proofs.desks.clear_nodes.Goals as goal
 
 abbrev clear : NodeRecord → NodeRecord
@@ -16,16 +14,10 @@ loop-r-init c = first-none c.args.grant.now.sub clear c.args.desks.now.items
 pub clear-requires : goal.clear-requires
 clear-requires c =
     let sub = c.args.grant.now.sub in
-    let d = c.args.grant.now.dim in
     let r = c.loop-r.r in
-    let old = c.args.desks.now.items in
-    let now = c.loop-r.desks.items in
-    let below : r < 2 ^ d = omega (arith, c.loop-r-test.true, c.node_count-r-end.ensures) in
-    let has : node_of sub r < length old = c.requires.sub.within r below in
-    let read : c.index_mut-desk.result.now ≡ get_or now (node_of sub r) c.index_mut-desk.result.now =
-    subst (λ n. c.index_mut-desk.result.now ≡ get_or now n c.index_mut-desk.result.now) c.node_at.ensures c.index_mut-desk.ensures.value in
+    let below : r < 2 ^ c.args.grant.now.dim = omega (arith, c.loop-r-test.true, c.node_count-r-end.ensures) in
     ap (λ (kept : NodeRecord). kept.waiting)
-    (desk-read now (node_of sub r) c.index_mut-desk.result.now (omega (arith, has, c.loop-r.invariant.count)) read ∙ first-next sub d r c.requires.sub.sub_is below clear old now has c.loop-r.invariant)
+    (first-read sub c.args.grant.now.dim r c.requires.sub.sub_is below clear c.args.desks.now.items c.loop-r.desks.items _ c.index_mut-desk.result.now (c.requires.sub.within r below) c.loop-r.invariant c.node_at.ensures c.index_mut-desk.ensures.value)
     ∙ c.requires.empty r below
 
 pub loop-r-preserved : goal.loop-r-preserved

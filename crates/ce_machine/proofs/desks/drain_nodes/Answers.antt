@@ -1,4 +1,4 @@
-use Rattle.std.proofs.Common.{◌≡◌, ℕ, ◌+◌, ◌<◌, ◌≤◌, ◌^◌, List, [], ◌∷◌, ◌++◌, get_or, flat_map, map, length, set, refl, sym, ap, ◌∙◌, subst, arith, append_assoc, append-nil}
+use Rattle.std.proofs.Common.{◌≡◌, ℕ, ◌+◌, ◌<◌, ◌^◌, List, ◌++◌, flat_map, map, length, set, refl, sym, ap, ◌∙◌, subst, arith, append_assoc, append-nil}
 use Rattle.std.specs.List.{range_with_len}
 use Rattle.std.proofs.lemmas.List.{length-append, length-map}
 use Rattle.ce_model.specs.Blocks.{Block}
@@ -8,15 +8,14 @@ use Rattle.ce_model.specs.Subcubes.{node_of}
 use Rattle.ce_machine.specs.Tables.{desk_at}
 use Rattle.ce_machine.specs.Desks.{AreChanged, without_items}
 use Rattle.ce_machine.proofs.Drained.{blocks-append}
-use Rattle.ce_machine.proofs.Loops.{at_first, first-none, first-next, first-more, first-all, rest_from, rest-more, rest-none, rest-all, few-among}
-use Rattle.ce_machine.proofs.Steps.{desk-read}
+use Rattle.ce_machine.proofs.Loops.{at_first, first-none, first-read, first-more, first-all, rest_from, rest-more, rest-none, rest-whole, few-among}
 use Rattle.ce_machine.proofs.desks.drain_nodes.Goals as goal
 
 pub loop-r-init : goal.loop-r-init
 loop-r-init c =
     let sub = c.args.grant.now.sub in
     let whole : rest_from sub 0 c.node_count-r-end.result ≡ map (node_of sub) (range_with_len 0 (2 ^ c.args.grant.now.dim)) =
-    rest-all sub c.node_count-r-end.result ∙ ap (λ n. map (node_of sub) (range_with_len 0 n)) c.node_count-r-end.ensures in
+    rest-whole sub c.node_count-r-end.result _ c.node_count-r-end.ensures in
     record {
       desks = first-none sub without_items c.args.desks.now.items;
       blocks = refl;
@@ -31,14 +30,11 @@ drain-requires c =
     let r = c.loop-r.r in
     let end = c.node_count-r-end.result in
     let old = c.args.desks.now.items in
-    let now = c.loop-r.desks.items in
     let inv = c.loop-r.invariant in
     let below : r < 2 ^ d = omega (arith, c.loop-r-test.true, c.node_count-r-end.ensures) in
     let has : node_of sub r < length old = c.requires.sub.within r below in
-    let read : c.index_mut-desk.result.now ≡ get_or now (node_of sub r) c.index_mut-desk.result.now =
-    subst (λ n. c.index_mut-desk.result.now ≡ get_or now n c.index_mut-desk.result.now) c.node_at.ensures c.index_mut-desk.ensures.value in
     let desk : c.index_mut-desk.result.now ≡ desk_at old (node_of sub r) =
-    desk-read now (node_of sub r) c.index_mut-desk.result.now (omega (arith, has, inv.desks.count)) read ∙ first-next sub d r c.requires.sub.sub_is below without_items old now has inv.desks in
+    first-read sub d r c.requires.sub.sub_is below without_items old c.loop-r.desks.items _ c.index_mut-desk.result.now has c.loop-r.invariant.desks c.node_at.ensures c.index_mut-desk.ensures.value in
     let waits : List ℕ → List Item = λ nodes. flat_map (λ node. (desk_at old node).waiting) nodes in
     omega (
       arith,
@@ -60,11 +56,9 @@ loop-r-preserved c =
     let inv = c.loop-r.invariant in
     let below : r < 2 ^ d = omega (arith, c.loop-r-test.true, c.node_count-r-end.ensures) in
     let has : node_of sub r < length old = c.requires.sub.within r below in
-    let read : c.index_mut-desk.result.now ≡ get_or now (node_of sub r) c.index_mut-desk.result.now =
-    subst (λ n. c.index_mut-desk.result.now ≡ get_or now n c.index_mut-desk.result.now) c.node_at.ensures c.index_mut-desk.ensures.value in
     let kept = desk_at old (node_of sub r) in
     let desk : c.index_mut-desk.result.now ≡ kept =
-    desk-read now (node_of sub r) c.index_mut-desk.result.now (omega (arith, has, inv.desks.count)) read ∙ first-next sub d r c.requires.sub.sub_is below without_items old now has inv.desks in
+    first-read sub d r c.requires.sub.sub_is below without_items old c.loop-r.desks.items _ c.index_mut-desk.result.now has c.loop-r.invariant.desks c.node_at.ensures c.index_mut-desk.ensures.value in
     let waits : List ℕ → List Item = λ nodes. flat_map (λ node. (desk_at old node).waiting) nodes in
     let blocks : List Item → List Block = λ items. map (λ (p : Parcel). p.block) (parcels_among items) in
     let rest = waits (rest_from sub (r + 1) end) in
@@ -100,7 +94,7 @@ returns c =
     let blocks : List Item → List Block = λ items. map (λ (p : Parcel). p.block) (parcels_among items) in
     let at_end : c.loop-r.r ≡ 2 ^ d = omega (arith, c.loop-r-test.false, c.loop-r.auto.r-end, c.node_count-r-end.ensures) in
     let whole : rest_from sub 0 end ≡ map (node_of sub) (range_with_len 0 (2 ^ d)) =
-    rest-all sub end ∙ ap (λ n. map (node_of sub) (range_with_len 0 n)) c.node_count-r-end.ensures in
+    rest-whole sub end _ c.node_count-r-end.ensures in
     record {
       desks = first-all sub d without_items old c.loop-r.desks.items c.requires.sub.sub_is
           (subst (λ n. AreChanged old c.loop-r.desks.items (at_first sub n without_items)) at_end inv.desks);

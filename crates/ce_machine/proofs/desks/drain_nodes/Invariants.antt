@@ -1,4 +1,4 @@
-use Rattle.std.proofs.Common.{◌≡◌, ℕ, ◌+◌, ◌≤◌, ◌++◌, map, flat_map, length, vec_capacity}
+use Rattle.std.proofs.Common.{◌≡◌, ◌+◌, ◌≤◌, ◌++◌, map, flat_map, length, vec_capacity}
 use Rattle.ce_model.specs.Parcels.{Parcel, parcels_among}
 use Rattle.ce_machine.specs.Tables.{desk_at}
 use Rattle.ce_machine.specs.Desks.{AreChanged, without_items}

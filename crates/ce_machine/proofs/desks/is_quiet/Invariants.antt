@@ -1,4 +1,4 @@
-use Rattle.std.proofs.Common.{◌≡◌, ℕ, ◌^◌}
+use Rattle.std.proofs.Common.{◌≡◌}
 use Rattle.std.specs.List.{list_all}
 use Rattle.ce_model.specs.Answers.{is_quiet_node}
 use Rattle.ce_machine.specs.Tables.{desk_at}

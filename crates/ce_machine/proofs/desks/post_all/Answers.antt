@@ -1,4 +1,4 @@
-use Rattle.std.proofs.Common.{◌≡◌, ℕ, ◌+◌, ◌<◌, ◌≤◌, ◌==◌, true, List, [], ◌∷◌, ◌++◌, length, refl, sym, ap, ◌∙◌, subst, arith, append_assoc}
+use Rattle.std.proofs.Common.{◌≡◌, List, [], ◌∷◌, ◌++◌, length, refl, sym, ap, ◌∙◌, subst, arith, append_assoc}
 use Rattle.std.specs.List.{AllByRecursion}
 use Rattle.std.proofs.lemmas.Bool.{eq-eqb}
 use Rattle.std.proofs.lemmas.List.{length-append}
@@ -10,7 +10,7 @@ use Rattle.ce_model.specs.Renaming.{place_outward, targets_renamed}
 use Rattle.ce_model.specs.Subcubes.{node_of}
 use Rattle.rk_mail.specs.Targets.{targets_of}
 use Rattle.ce_machine.specs.Desks.{IsInCube}
-use Rattle.ce_machine.proofs.Letters.{IsPosted, posted-none, posted-more, posted-all, posted-host, out-apart, out-own, node-left, host-left}
+use Rattle.ce_machine.proofs.Letters.{IsPosted, posted-none, posted-more, out-apart, out-own, node-left, host-left}
 use Rattle.ce_machine.proofs.desks.post_all.Goals as goal
 
 pub loop-to-init : goal.loop-to-init
@@ -28,7 +28,7 @@ post-requires-clause-at_node c = λ below.
     let sub = c.args.grant.now.sub in
     let inv = c.loop-to.invariant in
     let from = c.args.from in
-    let posted = subst (λ b. IsPosted sub from c.args.first c.args.batch c.args.desks.now.items c.args.host.now c.loop-to.number b c.loop-to.desks.items c.loop-to.host) c.in-Some.ensures.taken inv.posted in
+    let posted = rw c.in-Some.ensures.taken at c.loop-to.invariant.posted in
     node-left sub from c.args.first c.args.batch c.args.desks.now.items c.args.host.now c.requires.room c.loop-to.number (c.in-Some.to, c.in-Some.block) c.take_first.new.self c.loop-to.desks.items c.loop-to.host posted
     (node_of sub c.in-Some.to.node) (c.requires.sub.within c.in-Some.to.node below) (out-own (length c.args.desks.now.items) c.args.grant.now.dim sub c.in-Some.to.node c.requires.sub below)
 
@@ -37,7 +37,7 @@ post-requires-clause-at_host c = λ host.
     let sub = c.args.grant.now.sub in
     let inv = c.loop-to.invariant in
     let from = c.args.from in
-    let posted = subst (λ b. IsPosted sub from c.args.first c.args.batch c.args.desks.now.items c.args.host.now c.loop-to.number b c.loop-to.desks.items c.loop-to.host) c.in-Some.ensures.taken inv.posted in
+    let posted = rw c.in-Some.ensures.taken at c.loop-to.invariant.posted in
     let places = subst (λ b. AllByRecursion (λ (target : Place × Block). IsInCube c.args.grant.now.dim target.0) b) c.in-Some.ensures.taken inv.places in
     host-left sub from c.args.first c.args.batch c.args.desks.now.items c.args.host.now c.requires.room c.loop-to.number (c.in-Some.to, c.in-Some.block) c.take_first.new.self c.loop-to.desks.items c.loop-to.host posted
     (out-apart (length c.args.desks.now.items) c.args.grant.now.dim sub c.in-Some.to c.requires.sub places.0 ∙ eq-eqb c.in-Some.to.node HOST host)

@@ -1,11 +1,8 @@
-use Rattle.std.proofs.Common.{◌≡◌, ℕ, ◌+◌, ◌<◌, ◌≤◌, ◌^◌, ◌++◌, length, vec_capacity}
+use Rattle.std.proofs.Common.{◌≡◌, ◌+◌, ◌≤◌, ◌++◌, length, vec_capacity}
 use Rattle.std.specs.List.{AllByRecursion}
-use Rattle.ce_model.specs.declared.topology.TheConstants.{HOST}
 use Rattle.ce_model.specs.Renaming.{place_outward, targets_renamed}
 use Rattle.rk_mail.specs.Targets.{targets_of}
-use Rattle.ce_machine.specs.Rooms.{node_room, mail_room}
-use Rattle.ce_machine.specs.Tables.{desk_at}
-use Rattle.ce_machine.specs.Desks.{AreChanged, with_items, letters, IsInCube, HaveRoom}
+use Rattle.ce_machine.specs.Desks.{IsInCube}
 use Rattle.ce_machine.proofs.Letters.{IsPosted}
 use Rattle.ce_machine.proofs.desks.post_all.Given as goal
 

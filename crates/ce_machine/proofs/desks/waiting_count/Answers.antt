@@ -1,14 +1,12 @@
-use Rattle.std.proofs.Common.{◌≡◌, ℕ, ◌+◌, ◌*◌, ◌<◌, ◌≤◌, ◌^◌, List, [], ◌∷◌, ◌++◌, get_or, flat_map, map, length, sym, ap, ◌∙◌, subst, arith}
+use Rattle.std.proofs.Common.{◌≡◌, ℕ, ◌+◌, ◌<◌, ◌^◌, List, flat_map, map, length, ap, ◌∙◌, arith}
 use Rattle.std.specs.List.{range_with_len}
 use Rattle.std.proofs.lemmas.List.{length-append}
-use Rattle.ce_model.specs.Limits.{greatest_nodes_lem}
 use Rattle.ce_model.specs.Parcels.{Item}
 use Rattle.ce_model.specs.Trace.{NodeRecord}
 use Rattle.ce_model.specs.Subcubes.{node_of}
 use Rattle.ce_machine.specs.Rooms.{node_room_lem}
 use Rattle.ce_machine.specs.Tables.{desk_at}
-use Rattle.ce_machine.proofs.Loops.{rest_from, rest-more, rest-none, rest-all, few-nodes}
-use Rattle.ce_machine.proofs.Steps.{desk-read}
+use Rattle.ce_machine.proofs.Loops.{read-at, rest_from, rest-more, rest-none, rest-whole, few-nodes}
 use Rattle.ce_machine.proofs.desks.waiting_count.Goals as goal
 
 pub overflow_add-count : goal.overflow_add-count
@@ -23,9 +21,8 @@ loop-r-preserved c =
     let r = c.loop-r.r in
     let end = c.node_count-r-end.result in
     let below : r < 2 ^ d = omega (arith, c.loop-r-test.true, c.node_count-r-end.ensures) in
-    let has = c.requires.within r below in
     let desk : c.index-desk.result.now ≡ desk_at desks (node_of sub r) =
-    desk-read desks (node_of sub r) c.index-desk.result.now has (subst (λ n. c.index-desk.result.now ≡ get_or desks n c.index-desk.result.now) c.node_at.ensures c.index-desk.ensures) in
+    read-at desks (node_of sub r) _ c.index-desk.result.now (c.requires.within r below) c.node_at.ensures c.index-desk.ensures in
     let waits : List ℕ → List Item = λ nodes. flat_map (λ node. (desk_at desks node).waiting) nodes in
     let step : length (waits (rest_from sub r end)) ≡ length (desk_at desks (node_of sub r)).waiting + length (waits (rest_from sub (r + 1) end)) =
     ap (λ nodes. length (waits nodes)) (rest-more sub r end c.loop-r-test.true) ∙ length-append (desk_at desks (node_of sub r)).waiting (waits (rest_from sub (r + 1) end)) in
@@ -44,7 +41,7 @@ returns-clause-count c =
     let waits : List ℕ → List Item = λ nodes. flat_map (λ node. (desk_at desks node).waiting) nodes in
     let none : length (waits (rest_from sub c.loop-r.r end)) ≡ 0 = ap (λ nodes. length (waits nodes)) (rest-none sub c.loop-r.r end c.loop-r-test.false) in
     let whole : length (waits (rest_from sub 0 end)) ≡ length (waits (map (node_of sub) (range_with_len 0 (2 ^ d)))) =
-    ap (λ nodes. length (waits nodes)) (rest-all sub end ∙ ap (λ n. map (node_of sub) (range_with_len 0 n)) c.node_count-r-end.ensures) in
+    ap (λ nodes. length (waits nodes)) (rest-whole sub end _ c.node_count-r-end.ensures) in
     omega (arith, c.loop-r.invariant.all, none, whole)
 
 pub returns-clause-within : goal.returns-clause-within

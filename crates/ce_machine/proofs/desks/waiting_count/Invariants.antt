@@ -1,5 +1,4 @@
-use Rattle.std.proofs.Common.{◌≡◌, ℕ, ◌+◌, ◌*◌, ◌≤◌, flat_map, length}
-use Rattle.ce_machine.specs.Rooms.{node_room}
+use Rattle.std.proofs.Common.{◌≡◌, ◌+◌, ◌*◌, ◌≤◌, flat_map, length}
 use Rattle.ce_machine.specs.Tables.{desk_at}
 use Rattle.ce_machine.proofs.Loops.{rest_from}
 use Rattle.ce_machine.proofs.desks.waiting_count.Given as goal

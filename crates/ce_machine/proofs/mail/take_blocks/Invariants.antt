@@ -1,4 +1,4 @@
-use Rattle.std.proofs.Common.{◌≡◌, ℕ, ◌+◌, ◌≤◌, ◌++◌, map, length, vec_capacity}
+use Rattle.std.proofs.Common.{◌≡◌, ◌+◌, ◌≤◌, ◌++◌, map, length, vec_capacity}
 use Rattle.ce_model.specs.Parcels.{Parcel, parcels_among}
 use Rattle.ce_machine.proofs.mail.take_blocks.Given as goal
 

@@ -1,4 +1,4 @@
-use Rattle.std.proofs.Common.{◌≡◌, ◌+◌, ◌*◌, ◌%◌, ◌^◌, ℕ, refl, arith}
+use Rattle.std.proofs.Common.{◌≡◌, ◌^◌, refl, arith}
 use Rattle.std.specs.Prelude.{⊤}
 use Rattle.std.proofs.lemmas.Nat.{one_shl}
 use Rattle.ce_model.specs.Limits.{greatest_dim_lem}

@@ -1,4 +1,3 @@
-use Rattle.std.proofs.Common.{ℕ}
 use Rattle.std.specs.Prelude.{⊤}
 use Rattle.ce_daemon.specs.Boxes.{AreBoxes}
 use Rattle.ce_machine.specs.declared.tests.Plain.{Plain}

@@ -1,4 +1,4 @@
-use Rattle.std.proofs.Common.{◌≡◌, ℕ, List, Option, Some, None, map, sym, subst, refl, ◌∙◌}
+use Rattle.std.proofs.Common.{◌≡◌, ℕ, List, Some, None, map, sym, subst, refl, ◌∙◌}
 use Rattle.std.specs.String.{string_bytes}
 use Rattle.ce_io.specs.Whole.{reading, writing}
 use Rattle.ce_words.specs.Line.{line_of}

@@ -1,5 +1,4 @@
 use Rattle.std.proofs.Common.{◌≡◌, []}
-use Rattle.ce_script.specs.declared.script.Script.{Script}
 use Rattle.ce_run.proofs.Further.{empty-run, no-dim}
 use Rattle.ce_run.proofs.serial.run_serial.Goals.{in_default-via-in-Some+else-not-is_empty, in_default-via-in_default}
 use Rattle.ce_run.proofs.serial.run_serial.Goals as goal

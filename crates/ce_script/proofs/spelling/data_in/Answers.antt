@@ -1,6 +1,4 @@
-use Rattle.std.proofs.Common.{◌≡◌, ◌∙◌, sym, ap, arith, Some, ◌≤◌, length}
-use Rattle.ce_model.specs.Limits.{block_room}
-use Rattle.ce_script.specs.Spellings.{digit_bytes}
+use Rattle.std.proofs.Common.{◌∙◌, sym, ap, arith, Some}
 use Rattle.ce_script.proofs.Messages.{data_none, data_long, data_digits, data_other, data_fits}
 use Rattle.ce_script.proofs.spelling.data_in.Goals as goal
 

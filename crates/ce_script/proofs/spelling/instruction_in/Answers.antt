@@ -1,4 +1,4 @@
-use Rattle.std.proofs.Common.{◌≡◌, ◌∙◌, sym, ap, arith}
+use Rattle.std.proofs.Common.{◌∙◌, sym, ap}
 use Rattle.std.specs.Prelude.{option_map}
 use Rattle.std.specs.Int.{w32, to_le_bytes}
 use Rattle.ce_script.proofs.DigitPairs.{instruction_is, instruction_is_not}

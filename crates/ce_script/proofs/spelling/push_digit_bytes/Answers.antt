@@ -1,4 +1,4 @@
-use Rattle.std.proofs.Common.{◌≡◌, ◌∙◌, sym, ap, arith, ◌+◌, ◌*◌, ◌++◌, ◌∷◌, [], append_assoc, append-nil, rules, length, take, drop, ◌-◌, ℕ, List}
+use Rattle.std.proofs.Common.{◌∙◌, sym, ap, arith, ◌++◌, append_assoc, append-nil, rules, length, take, drop, ◌-◌, ℕ, List}
 use Rattle.ce_script.specs.Spellings.{digit_bytes}
 use Rattle.ce_script.proofs.DigitPairs.{all_of_pairs, pair_of, no_pair}
 use Rattle.ce_script.proofs.spelling.push_digit_bytes.Goals as goal

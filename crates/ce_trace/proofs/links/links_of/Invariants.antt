@@ -1,4 +1,4 @@
-use Rattle.std.proofs.Common.{◌≡◌, ℕ, ◌≤◌, drop, length, unwrap_or}
+use Rattle.std.proofs.Common.{◌≡◌, ℕ, drop, length, unwrap_or}
 use Rattle.std.specs.BTreeMap.{get}
 use Rattle.std.specs.Ordering.{nat_cmp}
 use Rattle.ce_trace.specs.Links.{links_of, own_from}

@@ -1,5 +1,5 @@
-use Rattle.std.proofs.Common.{◌≡◌, ◌++◌, ◌+◌, ap, sym, ◌∙◌, arith, length}
-use Rattle.ce_trace.specs.Sections.{cube_of, sections_text}
+use Rattle.std.proofs.Common.{◌++◌, ap, sym, ◌∙◌, arith, length}
+use Rattle.ce_trace.specs.Sections.{cube_of}
 use Rattle.ce_trace.proofs.Ahead.{ahead-none, ahead-some}
 use Rattle.ce_trace.proofs.Lasts.{behind_linked, length-links_of}
 use Rattle.ce_trace.proofs.sections.push_sections.Goals as goal

@@ -1,6 +1,5 @@
 use Rattle.std.proofs.Common.{◌≡◌, [], ◌∷◌, ◌++◌, refl, sym, ◌∙◌, arith}
 use Rattle.ce_model.specs.Renaming.{entry_inward}
-use Rattle.ce_model.specs.Views.{trace_behind}
 use Rattle.ce_trace.specs.Sections.{cube_of}
 use Rattle.ce_trace.proofs.Traces.{at_call, at_pass, at_other, gathered-call}
 use Rattle.ce_trace.proofs.views.trace_behind.Goals as goal

@@ -1,5 +1,5 @@
 use Rattle.std.proofs.Common.{ℕ, ◌++◌, ◌∷◌, length, ap, ◌∙◌, arith}
-use Rattle.ce_model.specs.Limits.{home_blocks_lem}
+use Rattle.ce_model.specs.Limits.{home_blocks_lem, greatest_blocks_lem}
 use Rattle.ce_model.specs.Blocks.{put}
 use Rattle.ce_model.specs.Node.{blocks_of}
 use Rattle.ce_model.specs.Kernel.{with_store}
@@ -7,11 +7,11 @@ use Rattle.ce_solo.proofs.Counting.{hit-le, count, count-nil, count-one}
 use Rattle.xm_block.specs.Stores.{Kept, ids_of}
 use Rattle.rk_node.specs.Boxes.{Box}
 use Rattle.rk_node.proofs.Names.{not_contained}
-use Rattle.rk_node.proofs.Rooms.{greatest_room, blocks-fresh, blocks-scrubbed, blocks-put}
+use Rattle.rk_node.proofs.Rooms.{blocks-fresh, blocks-scrubbed, blocks-put}
 use Rattle.rk_node.proofs.tests.a_block_is_put_home.Goals as goal
 
 pub new-requires : goal.new-requires
-new-requires g c = greatest_room
+new-requires g c = omega (arith, greatest_blocks_lem)
 
 pub scrub-requires-clause-room : goal.scrub-requires-clause-room
 scrub-requires-clause-room g c =

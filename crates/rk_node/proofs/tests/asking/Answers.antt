@@ -1,13 +1,12 @@
 use Rattle.std.proofs.Common.{ap, ◌∙◌, arith}
-use Rattle.ce_model.specs.Limits.{greatest_images_lem}
+use Rattle.ce_model.specs.Limits.{greatest_images_lem, greatest_blocks_lem}
 use Rattle.ce_model.specs.Node.{Node}
 use Rattle.ce_model.specs.Saying.{says}
 use Rattle.rk_node.specs.Boxes.{Box, fresh_at}
-use Rattle.rk_node.proofs.Rooms.{greatest_room}
 use Rattle.rk_node.proofs.tests.asking.Goals as goal
 
 pub new-requires : goal.new-requires
-new-requires c = greatest_room
+new-requires c = omega (arith, greatest_blocks_lem)
 
 pub enter-requires-clause-images : goal.enter-requires-clause-images
 enter-requires-clause-images c = omega (arith, greatest_images_lem)

@@ -1,7 +1,7 @@
 use Rattle.std.proofs.Common.{◌≡◌, length, sym, ap, subst, ◌∙◌, arith, rules}
 use Rattle.rv_model.specs.Image.{ImageParts}
 use Rattle.rv_asm.specs.LaidOut.{laid_out}
-use Rattle.rv_asm.specs.Spelling.{Spells}
+use Rattle.rv_asm.specs.Spelling.{IsSpellingOf}
 use Rattle.rv_asm.specs.Assembly.{entry_of, Assembly}
 use Rattle.rv_asm.proofs.Assembling.{fails_first, fails_second, described, has_no_entry, entry_there, entry_missing}
 use Rattle.rv_asm.proofs.assembly.assemble.Goals as goal
@@ -30,7 +30,7 @@ returns-in-Ok c =
       described c.args.text.now laid parts c.in_ok-layout.ensures c.in_ok-bytes.ensures.parts.1 begins,
       record {
         entry = ap (λ (image : ImageParts). image.entry) same ∙ c.entry_of.ensures;
-        loaded = subst (λ (image : ImageParts). Spells parts image.loaded) (sym same) c.in_ok-bytes.ensures.parts.2;
+        loaded = subst (λ (image : ImageParts). IsSpellingOf parts image.loaded) (sym same) c.in_ok-bytes.ensures.parts.2;
         zero = ap (λ (image : ImageParts). image.zero) same;
       },
     )

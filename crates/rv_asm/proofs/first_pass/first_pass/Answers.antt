@@ -23,7 +23,7 @@ loop-rest-preserved c =
     let parts = rw c.in-Some.bytes-is at c.cut_at.ensures.parts in
     let so_far = rw c.in-Some.is at c.loop-rest.invariant.whole in
     record {
-      whole = lines_more c.loop-rest.number (laid_out c.loop-rest.layout) (laid_out c.line.new.layout) c.in-Some.bytes.now c.cut_at.result.0.now (left c.cut_at.result.1) parts c.in_default-line.ensures ∙ so_far;
+      whole = lines_more c.loop-rest.number (laid_out c.loop-rest.layout) (laid_out c.line.new.self) c.in-Some.bytes.now c.cut_at.result.0.now (left c.cut_at.result.1) parts c.in_default-line.ensures ∙ so_far;
       count =
           let before = rw c.in-Some.is at c.loop-rest.invariant.count in
           let shorter = rw c.in-Some.bytes-is at c.cut_at.ensures.shorter in

@@ -4,7 +4,7 @@ use Rattle.rv_model.specs.Image.{image_start}
 use Rattle.rv_asm.specs.declared.statement.Placed.{Placed}
 use Rattle.rv_asm.specs.Symbols.{names_of}
 use Rattle.rv_asm.specs.Sizes.{size_of}
-use Rattle.rv_asm.specs.Faults.{◌>>=◌, Stops}
+use Rattle.rv_asm.specs.Faults.{◌>>=◌, IsHaltOf}
 use Rattle.rv_asm.specs.FirstPass.{at_line}
 use Rattle.rv_asm.specs.SecondPass.{parts_of, second_pass}
 use Rattle.rv_asm.proofs.Stopping.{stops_all}
@@ -33,7 +33,7 @@ returns-in-Err-clause-parts c =
     let before = c.loop-placed.invariant.put in
     let item = rw c.deref-placed-items.ensures.value at c.placed-item.is in
     let len : length out ≡ vec_len c.loop-placed.out = omega (arith, c.loop-placed.out.ok.0) in
-    let stopped = subst (λ (n : ℕ). Stops c.in-Err.halt (parts_of names (image_start + n) d.statement)) (sym len) c.in-Err.ensures.parts in
+    let stopped = subst (λ (n : ℕ). IsHaltOf c.in-Err.halt (parts_of names (image_start + n) d.statement)) (sym len) c.in-Err.ensures.parts in
     let step = put_step names all i d out (omega arith) before in
     let step_here = subst
     (λ (p : Placed). second_pass names image_start all ≡ (at_line p.line (parts_of names (image_start + length out) p.statement) >>= onward names (image_start + length out + size_of p.statement) (drop (i + 1) all) before.parts))

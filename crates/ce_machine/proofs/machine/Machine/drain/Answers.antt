@@ -1,10 +1,9 @@
-use Rattle.std.proofs.Common.{◌≡◌, false, ℕ, ◌++◌, List, map, length, sym, ap, ◌∙◌, arith}
-use Rattle.ce_model.specs.Parcels.{parcels_among}
+use Rattle.std.proofs.Common.{◌≡◌, false, map, sym, ◌∙◌, arith}
 use Rattle.ce_model.specs.Machine.{HeldCube}
 use Rattle.ce_machine.specs.declared.call.Call.TheVariants.{Drain}
 use Rattle.ce_machine.specs.declared.call.Reply.TheVariants.{Drained}
-use Rattle.ce_machine.specs.Rooms.{mail_room_lem}
-use Rattle.ce_machine.proofs.Steps.{history-is, few-now, fits-inside, answered-outside, is-in, has-grant, grant-is, on-desks, blocks-joined}
+use Rattle.ce_machine.proofs.Callers.{caller-grant, caller-desks}
+use Rattle.ce_machine.proofs.Steps.{history-is, few-now, fits-inside, answered-outside, blocks-joined}
 use Rattle.ce_machine.proofs.HeadSteps.{drained}
 use Rattle.std.proofs.Common.{flat_map, ◌^◌}
 use Rattle.std.specs.List.{range_with_len}
@@ -16,28 +15,20 @@ use Rattle.ce_machine.proofs.machine.Machine.drain.Goals as goal
 pub grant_of-grant-requires : goal.grant_of-grant-requires
 grant_of-grant-requires g c =
     let m = c.self.inside in
-    let home = g.N.Homed.home in
-    let clean = g.N.Homed.clean in
-    let in_cube = is-in m.history.items c.args.who.family (λ (cube : HeldCube). cube.drained ≡ false) (fits-inside home clean _ _ c.self.view_is c.args.who Drain c.requires).fits.1.1 in
-    has-grant _ m.history.items m.daemon m.desks.items m.hosts.items c.self.invariant c.args.who.family in_cube.cube in_cube.holds
+    caller-grant _ m.history.items m.daemon m.desks.items m.hosts.items c.self.invariant c.args.who.family (λ (cube : HeldCube). cube.drained ≡ false)
+    (fits-inside g.N.Homed.home g.N.Homed.clean _ _ c.self.view_is c.args.who Drain c.requires).fits.1.1
 
 pub waiting_count-requires : goal.waiting_count-requires
 waiting_count-requires g c =
     let m = c.self.inside in
-    let home = g.N.Homed.home in
-    let clean = g.N.Homed.clean in
-    let in_cube = is-in m.history.items c.args.who.family (λ (cube : HeldCube). cube.drained ≡ false) (fits-inside home clean _ _ c.self.view_is c.args.who Drain c.requires).fits.1.1 in
-    on-desks _ m.history.items m.daemon m.desks.items m.hosts.items c.self.invariant c.args.who.family in_cube.cube c.grant_of-grant.result in_cube.holds
-    (grant-is _ m.history.items m.daemon m.desks.items m.hosts.items c.self.invariant c.args.who.family in_cube.cube c.grant_of-grant.result in_cube.holds c.grant_of-grant.ensures)
+    caller-desks _ m.history.items m.daemon m.desks.items m.hosts.items c.self.invariant c.args.who.family (λ (cube : HeldCube). cube.drained ≡ false)
+    (fits-inside g.N.Homed.home g.N.Homed.clean _ _ c.self.view_is c.args.who Drain c.requires).fits.1.1 c.grant_of-grant.result c.grant_of-grant.ensures
 
 pub drain_nodes-requires-clause-sub : goal.drain_nodes-requires-clause-sub
 drain_nodes-requires-clause-sub g c =
     let m = c.self.inside in
-    let home = g.N.Homed.home in
-    let clean = g.N.Homed.clean in
-    let in_cube = is-in m.history.items c.args.who.family (λ (cube : HeldCube). cube.drained ≡ false) (fits-inside home clean _ _ c.self.view_is c.args.who Drain c.requires).fits.1.1 in
-    on-desks _ m.history.items m.daemon m.desks.items m.hosts.items c.self.invariant c.args.who.family in_cube.cube c.grant_of-grant.result in_cube.holds
-    (grant-is _ m.history.items m.daemon m.desks.items m.hosts.items c.self.invariant c.args.who.family in_cube.cube c.grant_of-grant.result in_cube.holds c.grant_of-grant.ensures)
+    caller-desks _ m.history.items m.daemon m.desks.items m.hosts.items c.self.invariant c.args.who.family (λ (cube : HeldCube). cube.drained ≡ false)
+    (fits-inside g.N.Homed.home g.N.Homed.clean _ _ c.self.view_is c.args.who Drain c.requires).fits.1.1 c.grant_of-grant.result c.grant_of-grant.ensures
 
 pub drain-requires : goal.drain-requires
 drain-requires g c =

@@ -1,4 +1,4 @@
-use Rattle.std.proofs.Common.{ℕ, sym, ap, subst}
+use Rattle.std.proofs.Common.{sym, ap, subst}
 use Rattle.ce_daemon.specs.Holding.{Holding}
 use Rattle.ce_machine.specs.declared.call.Call.TheVariants.{Getcube}
 use Rattle.ce_machine.specs.declared.call.Reply.TheVariants.{Granted, NoneFree}

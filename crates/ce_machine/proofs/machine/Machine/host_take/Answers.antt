@@ -1,5 +1,4 @@
-use Rattle.std.proofs.Common.{ap, ◌∙◌, ◌∷◌, List}
-use Rattle.ce_model.specs.Parcels.{Item}
+use Rattle.std.proofs.Common.{ap, ◌∙◌, ◌∷◌}
 use Rattle.rk_mail.specs.Items.{item_of}
 use Rattle.ce_machine.specs.declared.call.Call.TheVariants.{HostTake}
 use Rattle.ce_machine.proofs.Steps.{history-is, few-now, fits-inside, answered-outside}

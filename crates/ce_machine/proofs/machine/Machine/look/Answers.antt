@@ -4,26 +4,22 @@ use Rattle.ce_model.specs.Answers.{found_where}
 use Rattle.ce_model.specs.Node.{looks}
 use Rattle.ce_model.specs.Machine.{IsCallOf}
 use Rattle.ce_machine.specs.declared.call.Call.TheVariants.{Look}
-use Rattle.ce_machine.proofs.Steps.{history-is, few-now, fits-inside, answered-outside, is-in, has-grant, grant-is, on-desks}
+use Rattle.ce_machine.proofs.Callers.{caller-grant, caller-desks}
+use Rattle.ce_machine.proofs.Steps.{history-is, few-now, fits-inside, answered-outside}
 use Rattle.ce_machine.proofs.HeadSteps.{looked}
 use Rattle.ce_machine.proofs.machine.Machine.look.Goals as goal
 
 pub grant_of-grant-requires : goal.grant_of-grant-requires
 grant_of-grant-requires g c =
     let m = c.self.inside in
-    let home = g.N.Homed.home in
-    let clean = g.N.Homed.clean in
-    let in_cube = is-in m.history.items c.args.who.family (IsCallOf _ m.history.items c.args.who.actor looks) (fits-inside home clean _ _ c.self.view_is c.args.who Look c.requires).fits.1 in
-    has-grant _ m.history.items m.daemon m.desks.items m.hosts.items c.self.invariant c.args.who.family in_cube.cube in_cube.holds
+    caller-grant _ m.history.items m.daemon m.desks.items m.hosts.items c.self.invariant c.args.who.family (IsCallOf _ m.history.items c.args.who.actor looks)
+    (fits-inside g.N.Homed.home g.N.Homed.clean _ _ c.self.view_is c.args.who Look c.requires).fits.1
 
 pub is_quiet-requires : goal.is_quiet-requires
 is_quiet-requires g c =
     let m = c.self.inside in
-    let home = g.N.Homed.home in
-    let clean = g.N.Homed.clean in
-    let in_cube = is-in m.history.items c.args.who.family (IsCallOf _ m.history.items c.args.who.actor looks) (fits-inside home clean _ _ c.self.view_is c.args.who Look c.requires).fits.1 in
-    on-desks _ m.history.items m.daemon m.desks.items m.hosts.items c.self.invariant c.args.who.family in_cube.cube c.grant_of-grant.result in_cube.holds
-    (grant-is _ m.history.items m.daemon m.desks.items m.hosts.items c.self.invariant c.args.who.family in_cube.cube c.grant_of-grant.result in_cube.holds c.grant_of-grant.ensures)
+    caller-desks _ m.history.items m.daemon m.desks.items m.hosts.items c.self.invariant c.args.who.family (IsCallOf _ m.history.items c.args.who.actor looks)
+    (fits-inside g.N.Homed.home g.N.Homed.clean _ _ c.self.view_is c.args.who Look c.requires).fits.1 c.grant_of-grant.result c.grant_of-grant.ensures
 
 pub invariant_of-self-2 : goal.invariant_of-self-2
 invariant_of-self-2 g c =

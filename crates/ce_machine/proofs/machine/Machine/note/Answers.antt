@@ -1,17 +1,16 @@
 use Rattle.ce_model.specs.Node.{notes}
-use Rattle.ce_model.specs.Machine.{IsCallOf}
 use Rattle.rk_mail.specs.declared.talk.Say.TheVariants.{Note}
 use Rattle.ce_machine.specs.declared.call.Call.TheVariants.{Say}
-use Rattle.ce_machine.proofs.Steps.{history-is, few-now, fits-inside, answered-outside, is-in, actor-known, few-desks}
+use Rattle.ce_machine.proofs.Callers.{caller-known}
+use Rattle.ce_machine.proofs.Steps.{history-is, few-now, fits-inside, answered-outside, few-desks}
 use Rattle.ce_machine.proofs.SaySteps.{noted}
 use Rattle.ce_machine.proofs.machine.Machine.note.Goals as goal
 
 pub mark_busy-requires-clause-actor : goal.mark_busy-requires-clause-actor
 mark_busy-requires-clause-actor g c =
     let m = c.self.inside in
-    let fits = fits-inside g.N.Homed.home g.N.Homed.clean _ _ c.self.view_is c.args.who (Say (Note c.args.pid c.args.word)) c.requires in
-    let in_cube = is-in m.history.items c.args.who.family (IsCallOf _ m.history.items c.args.who.actor (notes c.args.pid c.args.word)) fits.fits.1 in
-    actor-known _ m.history.items m.daemon m.desks.items m.hosts.items c.self.invariant c.args.who.family c.args.who.actor (notes c.args.pid c.args.word) in_cube.cube in_cube.holds in_cube.is
+    caller-known _ m.history.items m.daemon m.desks.items m.hosts.items c.self.invariant c.args.who.family c.args.who.actor (notes c.args.pid c.args.word)
+    (fits-inside g.N.Homed.home g.N.Homed.clean _ _ c.self.view_is c.args.who (Say (Note c.args.pid c.args.word)) c.requires).fits.1
 
 pub mark_busy-requires-clause-few : goal.mark_busy-requires-clause-few
 mark_busy-requires-clause-few g c =

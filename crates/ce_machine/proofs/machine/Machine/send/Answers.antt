@@ -1,4 +1,4 @@
-use Rattle.std.proofs.Common.{ℕ, ◌+◌, ◌<◌, ◌^◌, ◌++◌, [], length, ap, ◌∙◌, subst, sym}
+use Rattle.std.proofs.Common.{◌+◌, ◌<◌, ◌^◌, ◌++◌, length, ap, ◌∙◌, subst, sym}
 use Rattle.ce_model.specs.Node.{sends}
 use Rattle.ce_model.specs.Subcubes.{relative}
 use Rattle.ce_model.specs.declared.topology.TheConstants.{HOST}
@@ -7,31 +7,23 @@ use Rattle.rk_mail.specs.Targets.{targets_of, bytes_of}
 use Rattle.rk_mail.specs.declared.talk.Say.TheVariants.{Send}
 use Rattle.rk_mail.specs.declared.talk.Heard.TheVariants.{Posted}
 use Rattle.ce_machine.specs.declared.call.Call.TheVariants.{Say}
-use Rattle.ce_machine.specs.declared.call.Reply.TheVariants.{Heard}
-use Rattle.ce_machine.specs.Tables.{HostRecord}
-use Rattle.ce_machine.specs.Desks.{AreChanged, with_items, letters, HaveRoom}
-use Rattle.ce_machine.specs.Answering.{HasAnswered}
-use Rattle.ce_machine.proofs.Steps.{history-is, few-now, fits-inside, answered-outside, is-in, has-grant, few-desks, actor-known, grant-is, on-desks, joined-none}
-use Rattle.ce_machine.proofs.SaySteps.{busy-few, still-actor}
+use Rattle.ce_machine.specs.Desks.{AreChanged, with_items, letters, HasMailRoom}
+use Rattle.ce_machine.proofs.Callers.{caller-grant, caller-desks, caller-still, few-still}
+use Rattle.ce_machine.proofs.Steps.{history-is, few-now, fits-inside, answered-outside, joined-none}
 use Rattle.ce_machine.proofs.SendSteps.{sent, send-number, send-places, send-room}
 use Rattle.ce_machine.proofs.machine.Machine.send.Goals as goal
 
 pub grant_of-grant-requires : goal.grant_of-grant-requires
 grant_of-grant-requires g c =
     let m = c.self.inside in
-    let home = g.N.Homed.home in
-    let clean = g.N.Homed.clean in
-    let in_cube = is-in m.history.items c.args.who.family (IsCallOf _ m.history.items c.args.who.actor (sends c.args.pid (targets_of c.args.batch) (bytes_of c.args.batch))) (fits-inside home clean _ _ c.self.view_is c.args.who (Say (Send c.args.pid c.args.batch)) c.requires).fits.1 in
-    has-grant _ m.history.items m.daemon m.desks.items m.hosts.items c.self.invariant c.args.who.family in_cube.cube in_cube.holds
+    caller-grant _ m.history.items m.daemon m.desks.items m.hosts.items c.self.invariant c.args.who.family (IsCallOf _ m.history.items c.args.who.actor (sends c.args.pid (targets_of c.args.batch) (bytes_of c.args.batch)))
+    (fits-inside g.N.Homed.home g.N.Homed.clean _ _ c.self.view_is c.args.who (Say (Send c.args.pid c.args.batch)) c.requires).fits.1
 
 pub relative-requires : goal.relative-requires
 relative-requires g c =
     let m = c.self.inside in
-    let home = g.N.Homed.home in
-    let clean = g.N.Homed.clean in
-    let in_cube = is-in m.history.items c.args.who.family (IsCallOf _ m.history.items c.args.who.actor (sends c.args.pid (targets_of c.args.batch) (bytes_of c.args.batch))) (fits-inside home clean _ _ c.self.view_is c.args.who (Say (Send c.args.pid c.args.batch)) c.requires).fits.1 in
-    (on-desks _ m.history.items m.daemon m.desks.items m.hosts.items c.self.invariant c.args.who.family in_cube.cube c.grant_of-grant.result in_cube.holds
-    (grant-is _ m.history.items m.daemon m.desks.items m.hosts.items c.self.invariant c.args.who.family in_cube.cube c.grant_of-grant.result in_cube.holds c.grant_of-grant.ensures)).sub_is.mask_within
+    (caller-desks _ m.history.items m.daemon m.desks.items m.hosts.items c.self.invariant c.args.who.family (IsCallOf _ m.history.items c.args.who.actor (sends c.args.pid (targets_of c.args.batch) (bytes_of c.args.batch)))
+    (fits-inside g.N.Homed.home g.N.Homed.clean _ _ c.self.view_is c.args.who (Say (Send c.args.pid c.args.batch)) c.requires).fits.1 c.grant_of-grant.result c.grant_of-grant.ensures).sub_is.mask_within
 
 pub add_parcels-first-requires : goal.add_parcels-first-requires
 add_parcels-first-requires g c =
@@ -45,11 +37,8 @@ add_parcels-first-requires g c =
 pub post_all-batch-requires-clause-sub : goal.post_all-batch-requires-clause-sub
 post_all-batch-requires-clause-sub g c =
     let m = c.self.inside in
-    let home = g.N.Homed.home in
-    let clean = g.N.Homed.clean in
-    let in_cube = is-in m.history.items c.args.who.family (IsCallOf _ m.history.items c.args.who.actor (sends c.args.pid (targets_of c.args.batch) (bytes_of c.args.batch))) (fits-inside home clean _ _ c.self.view_is c.args.who (Say (Send c.args.pid c.args.batch)) c.requires).fits.1 in
-    on-desks _ m.history.items m.daemon m.desks.items m.hosts.items c.self.invariant c.args.who.family in_cube.cube c.grant_of-grant.result in_cube.holds
-    (grant-is _ m.history.items m.daemon m.desks.items m.hosts.items c.self.invariant c.args.who.family in_cube.cube c.grant_of-grant.result in_cube.holds c.grant_of-grant.ensures)
+    caller-desks _ m.history.items m.daemon m.desks.items m.hosts.items c.self.invariant c.args.who.family (IsCallOf _ m.history.items c.args.who.actor (sends c.args.pid (targets_of c.args.batch) (bytes_of c.args.batch)))
+    (fits-inside g.N.Homed.home g.N.Homed.clean _ _ c.self.view_is c.args.who (Say (Send c.args.pid c.args.batch)) c.requires).fits.1 c.grant_of-grant.result c.grant_of-grant.ensures
 
 pub post_all-batch-requires-clause-places : goal.post_all-batch-requires-clause-places
 post_all-batch-requires-clause-places g c =
@@ -65,8 +54,8 @@ post_all-batch-requires-clause-room g c =
     let m = c.self.inside in
     let home = g.N.Homed.home in
     let clean = g.N.Homed.clean in
-    subst (λ n. HaveRoom c.grant_of-grant.result.sub (record { node = n; pid = c.args.pid }) c.add_parcels-first.result c.args.batch m.desks.items c.add_parcels-first.new.self) (sym c.relative.ensures)
-    (subst (λ first. HaveRoom c.grant_of-grant.result.sub (record { node = relative c.grant_of-grant.result.sub c.args.who.actor; pid = c.args.pid }) first c.args.batch m.desks.items c.add_parcels-first.new.self) (sym c.add_parcels-first.ensures.first)
+    subst (λ n. HasMailRoom c.grant_of-grant.result.sub (record { node = n; pid = c.args.pid }) c.add_parcels-first.result c.args.batch m.desks.items c.add_parcels-first.new.self) (sym c.relative.ensures)
+    (subst (λ first. HasMailRoom c.grant_of-grant.result.sub (record { node = relative c.grant_of-grant.result.sub c.args.who.actor; pid = c.args.pid }) first c.args.batch m.desks.items c.add_parcels-first.new.self) (sym c.add_parcels-first.ensures.first)
     (send-room home clean _ m.history.items m.daemon m.desks.items m.hosts.items c.self.invariant (few-now _ _ c.make_room.ensures.same c.in-Ok.ensures.few) c.args.who m.history.items
     c.args.pid c.args.batch (fits-inside home clean _ _ c.self.view_is c.args.who (Say (Send c.args.pid c.args.batch)) c.requires) c.in-Ok-room_for.ensures.equal c.in-Ok-room_for.ensures.few
     c.grant_of-grant.result c.grant_of-grant.ensures c.index_mut-host.result.now c.add_parcels-first.new.self c.index_mut-host.ensures.value (c.add_parcels-first.ensures.host ∙ ap (λ n. record c.index_mut-host.result.now { parcel_count = c.index_mut-host.result.now.parcel_count + n }) c.count.ensures.value)))
@@ -83,17 +72,13 @@ post_all-batch-requires-clause-numbers g c =
 pub mark_busy-requires-clause-actor : goal.mark_busy-requires-clause-actor
 mark_busy-requires-clause-actor g c =
     let m = c.self.inside in
-    let home = g.N.Homed.home in
-    let clean = g.N.Homed.clean in
-    let in_cube = is-in m.history.items c.args.who.family (IsCallOf _ m.history.items c.args.who.actor (sends c.args.pid (targets_of c.args.batch) (bytes_of c.args.batch))) (fits-inside home clean _ _ c.self.view_is c.args.who (Say (Send c.args.pid c.args.batch)) c.requires).fits.1 in
-    still-actor m.desks.items c.post_all-batch.new.desks.items _ c.args.who.actor c.post_all-batch.ensures.desks (actor-known _ m.history.items m.daemon m.desks.items m.hosts.items c.self.invariant c.args.who.family c.args.who.actor (sends c.args.pid (targets_of c.args.batch) (bytes_of c.args.batch)) in_cube.cube in_cube.holds in_cube.is)
+    caller-still _ m.history.items m.daemon m.desks.items m.hosts.items c.self.invariant c.args.who.family c.args.who.actor (sends c.args.pid (targets_of c.args.batch) (bytes_of c.args.batch))
+    (fits-inside g.N.Homed.home g.N.Homed.clean _ _ c.self.view_is c.args.who (Say (Send c.args.pid c.args.batch)) c.requires).fits.1 c.post_all-batch.new.desks.items _ c.post_all-batch.ensures.desks
 
 pub mark_busy-requires-clause-few : goal.mark_busy-requires-clause-few
 mark_busy-requires-clause-few g c =
     let m = c.self.inside in
-    let home = g.N.Homed.home in
-    let clean = g.N.Homed.clean in
-    busy-few m.desks.items c.post_all-batch.new.desks.items _ c.post_all-batch.ensures.desks (few-desks _ m.history.items m.daemon m.desks.items m.hosts.items c.self.invariant)
+    few-still _ m.history.items m.daemon m.desks.items m.hosts.items c.self.invariant c.post_all-batch.new.desks.items _ c.post_all-batch.ensures.desks
 
 pub invariant_of-self-2 : goal.invariant_of-self-2
 invariant_of-self-2 g c =

@@ -4,26 +4,22 @@ use Rattle.ce_model.specs.Machine.{IsCallOf}
 use Rattle.rk_mail.specs.declared.talk.Heard.TheVariants as heard
 use Rattle.rk_mail.specs.declared.talk.Say.TheVariants.{Spawn}
 use Rattle.ce_machine.specs.declared.call.Call.TheVariants.{Say}
-use Rattle.ce_machine.proofs.Steps.{history-is, few-now, fits-inside, answered-outside, is-in, has-grant, few-desks, actor-known, grant-is, on-desks}
-use Rattle.ce_machine.proofs.SaySteps.{spawned, spawn-below, spawn-node, spawn-process, spawn-room, busy-few, still-actor}
+use Rattle.ce_machine.proofs.Callers.{caller-grant, caller-desks, caller-still, few-still}
+use Rattle.ce_machine.proofs.Steps.{history-is, few-now, fits-inside, answered-outside}
+use Rattle.ce_machine.proofs.SaySteps.{spawned, spawn-below, spawn-desk, spawn-room}
 use Rattle.ce_machine.proofs.machine.Machine.spawn.Goals as goal
 
 pub grant_of-grant-requires : goal.grant_of-grant-requires
 grant_of-grant-requires g c =
     let m = c.self.inside in
-    let home = g.N.Homed.home in
-    let clean = g.N.Homed.clean in
-    let in_cube = is-in m.history.items c.args.who.family (IsCallOf _ m.history.items c.args.who.actor (spawns c.args.pid c.args.image c.args.to)) (fits-inside home clean _ _ c.self.view_is c.args.who (Say (Spawn c.args.pid c.args.image c.args.to)) c.requires).fits.1 in
-    has-grant _ m.history.items m.daemon m.desks.items m.hosts.items c.self.invariant c.args.who.family in_cube.cube in_cube.holds
+    caller-grant _ m.history.items m.daemon m.desks.items m.hosts.items c.self.invariant c.args.who.family (IsCallOf _ m.history.items c.args.who.actor (spawns c.args.pid c.args.image c.args.to))
+    (fits-inside g.N.Homed.home g.N.Homed.clean _ _ c.self.view_is c.args.who (Say (Spawn c.args.pid c.args.image c.args.to)) c.requires).fits.1
 
 pub outward-place-requires-clause-sub : goal.outward-place-requires-clause-sub
 outward-place-requires-clause-sub g c =
     let m = c.self.inside in
-    let home = g.N.Homed.home in
-    let clean = g.N.Homed.clean in
-    let in_cube = is-in m.history.items c.args.who.family (IsCallOf _ m.history.items c.args.who.actor (spawns c.args.pid c.args.image c.args.to)) (fits-inside home clean _ _ c.self.view_is c.args.who (Say (Spawn c.args.pid c.args.image c.args.to)) c.requires).fits.1 in
-    (on-desks _ m.history.items m.daemon m.desks.items m.hosts.items c.self.invariant c.args.who.family in_cube.cube c.grant_of-grant.result in_cube.holds
-    (grant-is _ m.history.items m.daemon m.desks.items m.hosts.items c.self.invariant c.args.who.family in_cube.cube c.grant_of-grant.result in_cube.holds c.grant_of-grant.ensures)).sub_is
+    (caller-desks _ m.history.items m.daemon m.desks.items m.hosts.items c.self.invariant c.args.who.family (IsCallOf _ m.history.items c.args.who.actor (spawns c.args.pid c.args.image c.args.to))
+    (fits-inside g.N.Homed.home g.N.Homed.clean _ _ c.self.view_is c.args.who (Say (Spawn c.args.pid c.args.image c.args.to)) c.requires).fits.1 c.grant_of-grant.result c.grant_of-grant.ensures).sub_is
 
 pub outward-place-requires-clause-place : goal.outward-place-requires-clause-place
 outward-place-requires-clause-place g c =
@@ -36,18 +32,14 @@ outward-place-requires-clause-place g c =
 pub start-fresh-requires-clause-node : goal.start-fresh-requires-clause-node
 start-fresh-requires-clause-node g c =
     let m = c.self.inside in
-    let home = g.N.Homed.home in
-    let clean = g.N.Homed.clean in
-    spawn-node home clean _ m.history.items m.daemon m.desks.items m.hosts.items c.self.invariant (few-now _ _ c.make_room.ensures.same c.in_ok-make_room.ensures.few) c.args.who m.history.items
-    c.args.pid c.args.image c.args.to (fits-inside home clean _ _ c.self.view_is c.args.who (Say (Spawn c.args.pid c.args.image c.args.to)) c.requires) c.grant_of-grant.result c.outward-place.result c.grant_of-grant.ensures c.outward-place.ensures
+    (spawn-desk g.N.Homed.home g.N.Homed.clean _ m.history.items m.daemon m.desks.items m.hosts.items c.self.invariant (few-now _ _ c.make_room.ensures.same c.in_ok-make_room.ensures.few) c.args.who m.history.items
+    c.args.pid c.args.image c.args.to (fits-inside g.N.Homed.home g.N.Homed.clean _ _ c.self.view_is c.args.who (Say (Spawn c.args.pid c.args.image c.args.to)) c.requires) c.grant_of-grant.result c.outward-place.result c.grant_of-grant.ensures c.outward-place.ensures).node
 
 pub start-fresh-requires-clause-process : goal.start-fresh-requires-clause-process
 start-fresh-requires-clause-process g c =
     let m = c.self.inside in
-    let home = g.N.Homed.home in
-    let clean = g.N.Homed.clean in
-    spawn-process home clean _ m.history.items m.daemon m.desks.items m.hosts.items c.self.invariant (few-now _ _ c.make_room.ensures.same c.in_ok-make_room.ensures.few) c.args.who m.history.items
-    c.args.pid c.args.image c.args.to (fits-inside home clean _ _ c.self.view_is c.args.who (Say (Spawn c.args.pid c.args.image c.args.to)) c.requires) c.grant_of-grant.result c.outward-place.result c.grant_of-grant.ensures c.outward-place.ensures
+    (spawn-desk g.N.Homed.home g.N.Homed.clean _ m.history.items m.daemon m.desks.items m.hosts.items c.self.invariant (few-now _ _ c.make_room.ensures.same c.in_ok-make_room.ensures.few) c.args.who m.history.items
+    c.args.pid c.args.image c.args.to (fits-inside g.N.Homed.home g.N.Homed.clean _ _ c.self.view_is c.args.who (Say (Spawn c.args.pid c.args.image c.args.to)) c.requires) c.grant_of-grant.result c.outward-place.result c.grant_of-grant.ensures c.outward-place.ensures).process
 
 pub start-fresh-requires-clause-room : goal.start-fresh-requires-clause-room
 start-fresh-requires-clause-room g c =
@@ -60,17 +52,13 @@ start-fresh-requires-clause-room g c =
 pub mark_busy-requires-clause-actor : goal.mark_busy-requires-clause-actor
 mark_busy-requires-clause-actor g c =
     let m = c.self.inside in
-    let home = g.N.Homed.home in
-    let clean = g.N.Homed.clean in
-    let in_cube = is-in m.history.items c.args.who.family (IsCallOf _ m.history.items c.args.who.actor (spawns c.args.pid c.args.image c.args.to)) (fits-inside home clean _ _ c.self.view_is c.args.who (Say (Spawn c.args.pid c.args.image c.args.to)) c.requires).fits.1 in
-    still-actor m.desks.items c.start-fresh.new.desks.items _ c.args.who.actor c.start-fresh.ensures.desks (actor-known _ m.history.items m.daemon m.desks.items m.hosts.items c.self.invariant c.args.who.family c.args.who.actor (spawns c.args.pid c.args.image c.args.to) in_cube.cube in_cube.holds in_cube.is)
+    caller-still _ m.history.items m.daemon m.desks.items m.hosts.items c.self.invariant c.args.who.family c.args.who.actor (spawns c.args.pid c.args.image c.args.to)
+    (fits-inside g.N.Homed.home g.N.Homed.clean _ _ c.self.view_is c.args.who (Say (Spawn c.args.pid c.args.image c.args.to)) c.requires).fits.1 c.start-fresh.new.desks.items _ c.start-fresh.ensures.desks
 
 pub mark_busy-requires-clause-few : goal.mark_busy-requires-clause-few
 mark_busy-requires-clause-few g c =
     let m = c.self.inside in
-    let home = g.N.Homed.home in
-    let clean = g.N.Homed.clean in
-    busy-few m.desks.items c.start-fresh.new.desks.items _ c.start-fresh.ensures.desks (few-desks _ m.history.items m.daemon m.desks.items m.hosts.items c.self.invariant)
+    few-still _ m.history.items m.daemon m.desks.items m.hosts.items c.self.invariant c.start-fresh.new.desks.items _ c.start-fresh.ensures.desks
 
 pub invariant_of-self-2 : goal.invariant_of-self-2
 invariant_of-self-2 g c =

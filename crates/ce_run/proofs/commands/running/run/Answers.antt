@@ -1,4 +1,4 @@
-use Rattle.std.proofs.Common.{[], ◌∷◌, refl, ap}
+use Rattle.std.proofs.Common.{[], ◌∷◌, ap}
 use Rattle.ce_model.specs.declared.entry.What.TheVariants.{Arm}
 use Rattle.ce_host.specs.declared.answer.Answer.TheVariants.{Quiet, Spent}
 use Rattle.ce_script.specs.Commands.{by_host, run_reply}

@@ -1,5 +1,4 @@
-use Rattle.std.proofs.Common.{◌≡◌, true, false, ap, sym, ◌∙◌, subst, arith}
-use Rattle.std.specs.List.{AllByRecursion}
+use Rattle.std.proofs.Common.{true, subst, arith}
 use Rattle.ce_cube.specs.Crews.{HasMadeRound}
 use Rattle.ce_cube.proofs.Crewing.{still-sound}
 use Rattle.ce_run.proofs.Going.{images-stay, no-round, one-round-more, rounds-over, left-behind}

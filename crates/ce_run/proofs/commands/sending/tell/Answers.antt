@@ -5,8 +5,8 @@ use Rattle.ce_run.specs.Asking.{IsStartOrEnd}
 use Rattle.ce_run.proofs.Seating.{inner-same, heard-as, heard-told, reply-some, told-done}
 use Rattle.ce_run.proofs.commands.sending.tell.Goals as goal
 
-pub told-requires : goal.told-requires
-told-requires c =
+pub answer_of_heard-requires : goal.answer_of_heard-requires
+answer_of_heard-requires c =
     reply-some c.args.machine.now c.ask_in_cube.new.machine c.args.crew.now c.ask_in_cube.new.crew (call.Say c.args.said) c.in_ok-heard.field-0 c.requires.user.book
     c.requires.crew c.requires.call c.in_ok-heard.ensures c.in-Heard.heard c.in-Heard.is
     (subst IsStartOrEnd (inner-same (call_said c.args.said) c.requires.call.inner c.requires.call.is) c.requires.said)
@@ -22,7 +22,7 @@ pub returns : goal.returns
 returns c command id request =
     let of = subst IsStartOrEnd (inner-same (call_said c.args.said) c.requires.call.inner c.requires.call.is) c.requires.said in
     told-done c.args.machine.now c.ask_in_cube.new.machine c.args.crew.now c.ask_in_cube.new.crew (call.Say c.args.said) c.in_ok-heard.field-0 c.requires.user.book
-    c.requires.crew c.requires.call c.in_ok-heard.ensures c.in-Heard.heard c.told.result of
+    c.requires.crew c.requires.call c.in_ok-heard.ensures c.in-Heard.heard c.answer_of_heard.result of
     (heard-as c.args.machine.now c.ask_in_cube.new.machine c.args.crew.now c.ask_in_cube.new.crew (call.Say c.args.said) c.in_ok-heard.field-0 c.requires.user.book
     c.requires.crew c.requires.call c.in_ok-heard.ensures c.in-Heard.heard c.in-Heard.is of)
-    c.told.ensures command id (request ∙ ap Some c.requires.call.is)
+    c.answer_of_heard.ensures command id (request ∙ ap Some c.requires.call.is)

@@ -1,5 +1,5 @@
-use Rattle.std.proofs.Common.{◌≡◌, ◌∙◌, sym, ap, arith, not, Option, ℕ, ◌+◌}
-use Rattle.std.specs.Prelude.{option_map, find}
+use Rattle.std.proofs.Common.{◌∙◌, sym, ap, arith, not, ◌+◌}
+use Rattle.std.specs.Prelude.{option_map}
 use Rattle.ce_script.specs.Lines.{Line, has_bad_byte}
 use Rattle.ce_script.proofs.BodyLines.{left, left_shorter, found_here, goes_on}
 use Rattle.ce_script.proofs.reader.body.bad_byte_line.Goals as goal

@@ -1,4 +1,4 @@
-use Rattle.std.proofs.Common.{◌≡◌, ◌∙◌, sym, ap, refl, subst, arith, ℕ, List, Option, Some, None, Bor, ◌+◌}
+use Rattle.std.proofs.Common.{◌≡◌, sym, ap, refl, subst, ℕ, List, Option, Some, Bor, ◌+◌}
 use Rattle.std.specs.Prelude.{option_map, IfSome}
 use Rattle.ce_script.specs.declared.reader.rest.Rest.{Rest}
 use Rattle.ce_script.proofs.BodyLines.{left_shorter}

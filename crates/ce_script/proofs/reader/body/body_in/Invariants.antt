@@ -1,10 +1,4 @@
-use Rattle.std.proofs.Common.{◌≡◌, ◌+◌, ◌≤◌, ◌++◌, length, List, ℕ, false}
-use Rattle.std.specs.Prelude.{IfSome}
-use Rattle.std.specs.List.{list_any, slice_split}
-use Rattle.ce_text.specs.Bytes.{is_line_feed}
-use Rattle.ce_script.specs.Statements.{is_end}
-use Rattle.ce_script.specs.ReadLines.{numbered, texts_left, left_of, size_of, reach_of, lines_left}
-use Rattle.ce_script.proofs.BodyLines.{joined}
+use Rattle.ce_script.specs.ReadLines.{left_of, size_of}
 use Rattle.ce_script.proofs.BodyEnds.{IsUpTo}
 use Rattle.ce_script.proofs.reader.body.body_in.Given as goal
 

@@ -1,5 +1,5 @@
-use Rattle.std.proofs.Common.{◌≡◌, ◌∙◌, ◌++◌, sym, ap, arith, not, Option, ℕ, List, ◌+◌, append_assoc, append-nil, refl}
-use Rattle.std.specs.Prelude.{option_map, find}
+use Rattle.std.proofs.Common.{◌∙◌, ◌++◌, sym, ap, arith, Option, ℕ, List, ◌+◌, append_assoc, append-nil, refl}
+use Rattle.std.specs.Prelude.{option_map}
 use Rattle.ce_script.specs.Lines.{Line}
 use Rattle.ce_script.specs.Bodies.{has_bad_word, bytes_of, fault_at}
 use Rattle.ce_script.specs.ReadLines.{numbered, texts_left, lines_shown}

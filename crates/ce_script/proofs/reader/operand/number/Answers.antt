@@ -1,4 +1,4 @@
-use Rattle.std.proofs.Common.{◌≡◌, ◌∙◌, sym, ap, arith, Some}
+use Rattle.std.proofs.Common.{◌∙◌, sym, ap, arith}
 use Rattle.ce_script.specs.declared.script.ScriptKind.TheVariants.{BadNumber}
 use Rattle.ce_script.specs.Spellings.{number_to}
 use Rattle.ce_script.specs.Statements.{operand}

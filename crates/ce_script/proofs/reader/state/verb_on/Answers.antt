@@ -1,9 +1,7 @@
-use Rattle.std.proofs.Common.{◌≡◌, ◌∙◌, sym, ap, refl, not, arith, Some, None, ◌+◌, length, false}
-use Rattle.std.specs.List.{list_all}
-use Rattle.ce_text.specs.Bytes.{is_plain}
-use Rattle.ce_script.specs.Lines.{has_bad_byte}
-use Rattle.ce_script.specs.Verbs.{look_up, verbs}
-use Rattle.ce_script.specs.ReadLines.{line_of, here_of}
+use Rattle.std.proofs.Common.{◌∙◌, sym, ap, not, ◌+◌}
+use Rattle.ce_text.specs.Table.{look_up}
+use Rattle.ce_script.specs.Verbs.{verbs}
+use Rattle.ce_script.specs.ReadLines.{here_of}
 use Rattle.ce_script.proofs.Judging.{verb_found, bad_byte, no_verb, no_form, wrong_count, right_words}
 use Rattle.ce_script.proofs.reader.state.verb_on.Goals as goal
 

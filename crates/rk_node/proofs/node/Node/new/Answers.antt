@@ -7,25 +7,25 @@ use Rattle.rk_node.specs.Standing.{processes_of}
 use Rattle.rk_node.specs.Stocked.{AreRising, AreWithin}
 use Rattle.rk_node.specs.Boxes.{fresh_at}
 use Rattle.rk_node.proofs.Names.{length-ids_of}
-use Rattle.rk_node.proofs.HomeBlocks.{length-blocks_of_home}
+use Rattle.xm_block.proofs.HomeBlocks.{length-blocks_of_home}
 use Rattle.rk_node.proofs.Fresh.{all-unborn}
 use Rattle.rk_node.proofs.node.Node.new.Goals as goal
 
 pub returns : goal.returns
 returns c =
     let owns = c.in_ok-unborn_processes.field-0.items in
-    let store = c.in_ok-home_store.field-0 in
+    let store = c.in_ok-of_home.field-0 in
     let none : c.in_ok-new.field-0.mappings ≡ [] = ap (λ (held : Holding). held.mappings) c.in_ok-new.ensures in
     let spare : c.in_ok-new.field-0.spare ≡ c.args.room = ap (λ (held : Holding). held.spare) c.in_ok-new.ensures in
     let all : owns ≡ replicate process_count unborn_own = c.in_ok-unborn_processes.ensures in
     let processes : processes_of c.in_ok-new.field-0.mappings owns ≡ replicate process_count _ =
     ap (processes_of c.in_ok-new.field-0.mappings) all ∙ all-unborn c.in_ok-new.field-0.mappings 0 process_count in
     let many : length store.blocks ≡ home_blocks =
-    sym (length-ids_of store.blocks) ∙ ap {B = ℕ} length c.in_ok-home_store.ensures.blocks ∙ length-blocks_of_home c.args.home in
-    let room = c.in_ok-home_store.ensures.room in
+    sym (length-ids_of store.blocks) ∙ ap {B = ℕ} length c.in_ok-of_home.ensures.blocks ∙ length-blocks_of_home c.args.home in
+    let room = c.in_ok-of_home.ensures.room in
     let no_mapping : length c.in_ok-new.field-0.mappings ≡ 0 = ap {B = ℕ} length none in
     record {
-      fresh = λ i. record (fresh_at c.args.home 0 0 0) { processes = processes i; store = c.in_ok-home_store.ensures.blocks i; polling = c.in_ok-with_capacity.ensures.items i };
+      fresh = λ i. record (fresh_at c.args.home 0 0 0) { processes = processes i; store = c.in_ok-of_home.ensures.blocks i; polling = c.in_ok-with_capacity.ensures.items i };
       has_room = refl;
       stocked = record {
         processes = ap {B = ℕ} length all ∙ length-replicate process_count unborn_own;

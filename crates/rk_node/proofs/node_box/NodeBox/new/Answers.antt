@@ -1,5 +1,5 @@
-use Rattle.std.proofs.Common.{◌+◌, ◌*◌, ◌^◌, ◌≤◌, IfSome, refl, ap, sym, ◌∙◌, subst, arith}
-use Rattle.ce_model.specs.Limits.{greatest_dim, home_blocks}
+use Rattle.std.proofs.Common.{◌≤◌, IfSome, refl, ap, sym, ◌∙◌, subst, arith}
+use Rattle.ce_model.specs.Limits.{home_blocks_lem, greatest_blocks, greatest_blocks_lem}
 use Rattle.ce_model.specs.Node.{Node}
 use Rattle.ce_model.specs.Sound.{IsSoundTurn}
 use Rattle.ce_solo.proofs.Nodes.{IsWell}
@@ -8,8 +8,7 @@ use Rattle.rk_node.proofs.Sorted.{idle-well, idle-fresh}
 use Rattle.rk_node.proofs.node_box.NodeBox.new.Goals as goal
 
 pub new-requires : goal.new-requires
-unfolding greatest_dim home_blocks
-new-requires c = omega arith
+new-requires c = omega (arith, c.requires, home_blocks_lem, greatest_blocks_lem)
 
 pub returns-clause-clean : goal.returns-clause-clean
 returns-clause-clean c =
@@ -17,7 +16,7 @@ returns-clause-clean c =
     record {
       node = made.fresh ∙ sym (ap (λ (n : Node). fresh_at n.home n.number n.dim n.images) made.fresh);
       out = refl;
-      room = subst (λ room. (2 ^ greatest_dim + 1) * home_blocks ≤ room) (sym made.has_room) c.requires;
+      room = subst (λ room. greatest_blocks ≤ room) (sym made.has_room) c.requires;
     }
 
 pub invariant_of-result : goal.invariant_of-result

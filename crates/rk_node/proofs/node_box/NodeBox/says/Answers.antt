@@ -3,7 +3,7 @@ use Rattle.ce_model.specs.Saying.{says}
 use Rattle.rk_mail.specs.Talk.{call_said}
 use Rattle.rk_node.specs.Boxes.{Box}
 use Rattle.rk_node.specs.Standing.{node_of}
-use Rattle.rk_node.specs.Taken.{TakesOut}
+use Rattle.rk_node.specs.Taken.{HasTakenOut}
 use Rattle.rk_node.specs.Wording.{HasBatch}
 use Rattle.rk_node.proofs.Said.{said-whole, has_said, has_batch}
 use Rattle.rk_node.proofs.node_box.NodeBox.says.Goals as goal
@@ -46,4 +46,4 @@ pub returns-clause-blocks : goal.returns-clause-blocks
 returns-clause-blocks c =
     let said = c.says-said.ensures in
     let after = said-whole _ _ c.says-said.new.self (call_said c.says-said.result) c.self.invariant said.call said.node in
-    subst (λ (b : Box). TakesOut b.node (node_of c.says-said.new.self) (call_said c.says-said.result)) c.self.view_is after.takes_out
+    subst (λ (b : Box). HasTakenOut b.node (node_of c.says-said.new.self) (call_said c.says-said.result)) c.self.view_is after.takes_out

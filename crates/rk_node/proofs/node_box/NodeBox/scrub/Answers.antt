@@ -3,7 +3,7 @@ use Rattle.ce_model.specs.Node.{Node}
 use Rattle.ce_model.specs.Sound.{IsSoundTurn}
 use Rattle.ce_solo.proofs.Nodes.{IsWell}
 use Rattle.rk_node.specs.Standing.{node_of}
-use Rattle.rk_node.specs.Boxes.{scrubbed}
+use Rattle.rk_node.specs.Boxes.{scrubbed_node}
 use Rattle.rk_node.specs.Wording.{HasBatch}
 use Rattle.rk_node.proofs.Sorted.{idle-well, idle-scrubbed}
 use Rattle.rk_node.proofs.node_box.NodeBox.scrub.Goals as goal
@@ -14,7 +14,7 @@ invariant_of-self c =
     let done = c.scrub.ensures in
     record {
       stocked = done.stocked;
-      well = subst (λ (n : Node). IsWell n.turn n) (sym done.node) (idle-well (scrubbed n) (idle-scrubbed n));
+      well = subst (λ (n : Node). IsWell n.turn n) (sym done.node) (idle-well (scrubbed_node n) (idle-scrubbed n));
       sound = subst (λ (n : Node). IfSome n.turn IsSoundTurn) (sym done.node) tt;
       batch = subst (HasBatch c.self.inside.out) (sym done.batch) c.self.invariant.batch;
     }

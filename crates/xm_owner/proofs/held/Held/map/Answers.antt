@@ -3,7 +3,7 @@ use Rattle.std.specs.List.{insert}
 use Rattle.std.proofs.lemmas.List.Edits.{length-insert}
 use Rattle.ce_model.specs.Blocks.{Block}
 use Rattle.xm_block.specs.Rising.{IsRising}
-use Rattle.xm_owner.specs.Holdings.{Mapping, held_at, with_mapping, ChangesOnly}
+use Rattle.xm_owner.specs.Holdings.{Mapping, held_at, with_mapping, HasChangedOnly}
 use Rattle.xm_owner.specs.Tables.{key_before, mappings_of}
 use Rattle.xm_owner.specs.declared.key.Key.{Key}
 use Rattle.xm_owner.proofs.Mappings.{changes-with_mapping}
@@ -64,6 +64,6 @@ returns-clause-after c =
 
 pub returns-clause-change : goal.returns-clause-change
 returns-clause-change c =
-    subst (λ (ms : List Mapping). ChangesOnly ms (mappings_of c.insert.new.self.items c.insert-2.new.self.items) c.args.pid c.args.window (Some c.args.block)) (seen c)
-    (subst (λ (ms : List Mapping). ChangesOnly (mappings_of (keys c) (blocks c)) ms c.args.pid c.args.window (Some c.args.block)) (sym (mapped c))
+    subst (λ (ms : List Mapping). HasChangedOnly ms (mappings_of c.insert.new.self.items c.insert-2.new.self.items) c.args.pid c.args.window (Some c.args.block)) (seen c)
+    (subst (λ (ms : List Mapping). HasChangedOnly (mappings_of (keys c) (blocks c)) ms c.args.pid c.args.window (Some c.args.block)) (sym (mapped c))
     (changes-with_mapping (added c) (mappings_of (keys c) (blocks c)) (vacant c)))

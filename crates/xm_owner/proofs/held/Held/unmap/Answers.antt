@@ -2,7 +2,7 @@ use Rattle.std.proofs.Common.{◌≡◌, ◌<◌, ◌≤◌, length, List, Some,
 use Rattle.std.specs.List.{remove, slice_get}
 use Rattle.std.proofs.lemmas.Option.{slice_get_past, slice_get-get_or}
 use Rattle.ce_model.specs.Blocks.{Block}
-use Rattle.xm_owner.specs.Holdings.{Mapping, held_at, without, ChangesOnly}
+use Rattle.xm_owner.specs.Holdings.{Mapping, held_at, without, HasChangedOnly}
 use Rattle.xm_owner.specs.Tables.{mappings_of}
 use Rattle.xm_owner.specs.declared.key.Key.{Key}
 use Rattle.xm_owner.proofs.Mappings.{changes-without, changes-none, without-vacant}
@@ -66,5 +66,5 @@ returns-clause-after c = removed c
 
 pub returns-clause-change : goal.returns-clause-change
 returns-clause-change c =
-    subst (λ (ms : List Mapping). ChangesOnly c.args.self.now.mappings ms c.args.pid c.args.window None) (sym (removed c))
+    subst (λ (ms : List Mapping). HasChangedOnly c.args.self.now.mappings ms c.args.pid c.args.window None) (sym (removed c))
     (changes-without c.args.pid c.args.window c.args.self.now.mappings)

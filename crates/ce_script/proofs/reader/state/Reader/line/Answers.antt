@@ -1,7 +1,7 @@
 use Rattle.std.proofs.Common.{◌∙◌, ◌∷◌, sym, ap, subst, false}
 use Rattle.ce_script.specs.Lines.{Line}
 use Rattle.ce_script.specs.ReadLines.{line_of, lines_left, statements_from}
-use Rattle.ce_script.specs.Standing.{Stands}
+use Rattle.ce_script.specs.Standing.{HasReadUpTo}
 use Rattle.ce_script.proofs.Further.{words_counted, statements_empty, line_keeps, few_behind}
 use Rattle.ce_script.proofs.reader.state.Reader.line.Goals as goal
 
@@ -10,7 +10,7 @@ returns-then-is_empty-clause-stands c =
     let lines = lines_left c.args.rest in
     let empty = sym (words_counted c.in-Ok.line c.in-Ok.line.split) ∙ sym c.is_empty.ensures ∙ c.if-is_empty.true in
     λ all stands.
-    subst (Stands all c.args.self.now)
+    subst (HasReadUpTo all c.args.self.now)
     (ap (λ (line : Line). statements_from false (line ∷ lines)) (sym c.in-Ok.ensures) ∙ statements_empty (line_of c.in-Ok.line) lines empty)
     stands
 
@@ -19,7 +19,7 @@ returns-clause-stands c =
     let some = sym (words_counted c.in-Ok.line c.in-Ok.line.split) ∙ sym c.is_empty.ensures ∙ c.if-is_empty.false in
     λ all stands.
     line_keeps c.args.self.now c.statement.new.self c.in-Ok.line c.args.rest c.statement.result c.requires.few some c.statement.ensures.said all
-    (subst (λ (line : Line). Stands all c.args.self.now (statements_from false (line ∷ lines_left c.args.rest))) (sym c.in-Ok.ensures) stands)
+    (subst (λ (line : Line). HasReadUpTo all c.args.self.now (statements_from false (line ∷ lines_left c.args.rest))) (sym c.in-Ok.ensures) stands)
 
 pub returns-clause-few : goal.returns-clause-few
 returns-clause-few c = few_behind c.args.self.now c.statement.new.self c.in-Ok.line c.args.rest c.statement.result c.requires.few c.statement.ensures.said

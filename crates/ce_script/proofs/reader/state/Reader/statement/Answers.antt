@@ -1,4 +1,4 @@
-use Rattle.std.proofs.Common.{◌≡◌, ◌∙◌, sym, ap, refl, Some, None}
+use Rattle.std.proofs.Common.{◌≡◌, ◌∙◌, sym, ap, Some}
 use Rattle.ce_script.specs.declared.grammar.Verb.TheVariants.{Image}
 use Rattle.ce_script.specs.Verbs.{form_of, verb_of}
 use Rattle.ce_script.specs.Lines.{words}

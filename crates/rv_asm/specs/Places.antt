@@ -1,0 +1,11 @@
+-- The places of texts among others.
+use Rattle.std.specs.Prelude.{ℕ, ◌+◌, ◌-◌, nat_lt, ◌==◌, List, [], ◌∷◌, Option, Some, None, if◌then◌else◌, bytes_eq}
+
+-- the first place of a text among others, of which the first has this place
+abbrev pub place_of : ℕ → List (List ℕ) → List ℕ → Option ℕ
+place_of place [] text = None
+place_of place (word ∷ words) text = if bytes_eq word text then Some place else place_of (place + 1) words text
+
+-- the number of a register by the place of its name: the names of the calling convention, `fp`, and the numbers
+abbrev pub number_at : ℕ → ℕ
+number_at place = if nat_lt place 32 then place else if place == 32 then 8 else place - 33

@@ -1,0 +1,11 @@
+pub mod Running
+pub mod FirstFaults
+pub mod FirstKinds
+pub mod OperandFaults
+pub mod LineJudged
+pub mod LabelsJudged
+pub mod Comments
+pub mod Labelling
+pub mod Summing
+pub mod Listed
+pub mod Blanks

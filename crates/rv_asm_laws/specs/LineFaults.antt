@@ -1,0 +1,125 @@
+-- The fault of a line: each kind is a test of its own on the line and on what stands before it, and the first kind that the
+-- line has is answered.
+use Rattle.std.specs.Prelude.{ℕ, ◌+◌, ◌%◌, Bool, false, true, not, ◌&&◌, ◌||◌, ◌==◌, nat_lt, if◌then◌else◌, List, [], ◌∷◌, sum_by, Option, Some, None, is_none, Result, Ok, Err, bytes_eq, codes}
+use Rattle.std.specs.List.{list_all, list_any}
+use Rattle.rv_model.specs.Image.{image_start, image_room}
+use Rattle.rv_asm.specs.declared.fault.AsmKind.{AsmKind}
+use Rattle.rv_asm.specs.declared.fault.AsmKind.TheVariants.{BadByte, NameTaken, UnknownWord, Unaligned, TooLarge}
+use Rattle.rv_asm.specs.declared.symbols.Symbol.TheVariants.{Label}
+use Rattle.rv_asm.specs.declared.mnemonic.Mnemonic.{Mnemonic}
+use Rattle.rv_asm.specs.declared.mnemonic.Mnemonic.TheVariants as words
+use Rattle.rv_asm.specs.declared.statement.Statement.{Statement}
+use Rattle.ce_text.specs.Bytes.{is_plain, is_blank}
+use Rattle.ce_text.specs.Line.{cut, trimmed, before_comment}
+use Rattle.rv_asm.specs.Line.{is_colon, is_comma}
+use Rattle.rv_asm.specs.Name.{is_name}
+use Rattle.rv_asm.specs.Names.{Names, with_name, is_taken}
+use Rattle.rv_asm.specs.Words.{mnemonic_of}
+use Rattle.rv_asm.specs.Sizes.{size_of}
+use Rattle.rv_asm.specs.Statements.{statements_of}
+use Rattle.rv_asm_laws.specs.Forms.{a_name, any_number, operand_texts, operands_fault, statement_fault}
+use Rattle.rv_asm.specs.FirstPass.{Laid, operands_of}
+use Rattle.rv_asm_laws.specs.Before.{label_of}
+
+-- ---- the parts of a line
+
+abbrev pub statement_behind : List ℕ × Option (List ℕ) → List ℕ
+statement_behind (front, None) = trimmed front
+statement_behind (front, Some rest) = trimmed rest
+
+-- what a line has behind its label
+abbrev pub statement_in : List ℕ → List ℕ
+statement_in line = statement_behind (cut is_colon (before_comment line))
+
+-- the word of a statement
+abbrev pub word_in : List ℕ → List ℕ
+word_in statement = (cut is_blank statement).0
+
+-- what stands behind the word
+abbrev pub operands_in : List ℕ → List ℕ
+operands_in statement = operands_of (cut is_blank statement).1
+
+abbrev pub is_equ : List ℕ → Bool
+is_equ statement = bytes_eq (word_in statement) (codes ".equ")
+
+-- what names mean once a line's label is defined
+abbrev pub names_with : Laid → Option (List ℕ) → Names
+names_with laid None = laid.names
+names_with laid (Some label) = with_name laid.names label (Label (image_start + laid.size))
+
+-- what a statement other than `.equ` lays
+abbrev pub laid_list : Result (List Statement) AsmKind → List Statement
+laid_list (Ok statements) = statements
+laid_list (Err kind) = []
+
+-- `.byte` and `.zero` lay bytes, and the others words
+abbrev pub is_of_words : Mnemonic → Bool
+is_of_words words.Byte = false
+is_of_words words.Zero = false
+is_of_words mnemonic = true
+
+-- ---- a statement
+
+-- `.equ` gives a name that means something already
+abbrev pub takes_name : Names → List ℕ → Bool
+takes_name names statement = is_equ statement && is_taken names (trimmed (cut is_comma (operands_in statement)).0)
+
+-- a second colon, or a word that begins nothing
+abbrev pub is_strange : List ℕ → Bool
+is_strange [] = false
+is_strange (byte ∷ bytes) = not (is_equ (byte ∷ bytes)) && is_none (mnemonic_of (word_in (byte ∷ bytes)))
+
+-- the fault of the operands
+abbrev pub operand_kind : Names → Bool → Option Mnemonic → List ℕ → Option AsmKind
+operand_kind names true mnemonic operands = operands_fault names (a_name ∷ any_number ∷ []) (operand_texts operands)
+operand_kind names false None operands = None
+operand_kind names false (Some mnemonic) operands = statement_fault names mnemonic operands
+
+-- a word of the image at an address that is no multiple of 4, or more bytes than an image has room for
+abbrev pub room_kind : ℕ → Bool → ℕ → Option AsmKind
+room_kind size of_words more =
+    if of_words && not (size % 4 == 0) then Some Unaligned else (if nat_lt image_room (size + more) then Some TooLarge else None)
+
+abbrev pub place_kind : Names → ℕ → Bool → Option Mnemonic → List ℕ → Option AsmKind
+place_kind names size true mnemonic operands = None
+place_kind names size false None operands = None
+place_kind names size false (Some mnemonic) operands = room_kind size (is_of_words mnemonic) (sum_by size_of (laid_list (statements_of mnemonic names operands)))
+
+-- the first of two kinds that is there
+abbrev pub or_then : Option AsmKind → Option AsmKind → Option AsmKind
+or_then None second = second
+or_then (Some kind) second = Some kind
+
+-- the fault of a statement whose word is known
+abbrev pub statement_kind : Names → ℕ → List ℕ → Option AsmKind
+statement_kind names size [] = None
+statement_kind names size (byte ∷ bytes) =
+    let statement = byte ∷ bytes in
+    or_then (operand_kind names (is_equ statement) (mnemonic_of (word_in statement)) (operands_in statement))
+    (place_kind names size (is_equ statement) (mnemonic_of (word_in statement)) (operands_in statement))
+
+-- ---- a line
+
+-- what stands before a colon is no name
+abbrev pub is_bad_label : Option (List ℕ) → Bool
+is_bad_label None = false
+is_bad_label (Some label) = not (is_name label)
+
+abbrev pub is_taken_label : Names → Option (List ℕ) → Bool
+is_taken_label names None = false
+is_taken_label names (Some label) = is_taken names label
+
+abbrev pub has_colon : List ℕ → Bool
+has_colon statement = list_any is_colon statement
+
+-- the fault of a line, from its label and what stands behind it
+abbrev pub fault_behind : Laid → Option (List ℕ) → List ℕ → Option AsmKind
+fault_behind laid label statement =
+    let names = names_with laid label in
+    if not (is_bad_label label) && (is_taken_label laid.names label || (not (has_colon statement) && takes_name names statement)) then Some NameTaken
+    else (if is_bad_label label || (has_colon statement || is_strange statement) then Some UnknownWord else statement_kind names laid.size statement)
+
+-- the fault of a line, once this is laid
+unfoldable pub line_fault : Laid → List ℕ → Option AsmKind
+line_fault laid line =
+    if not (list_all is_plain (before_comment line)) then Some BadByte else fault_behind laid (label_of line) (statement_in line)

@@ -1,0 +1,98 @@
+-- What a listing of instructions is: each line has the mnemonic that the table gives its instruction, and texts of the
+-- instruction's registers and numbers in the places of the operands. A listing has no labels and no jumps to them.
+use Rattle.std.specs.Prelude.{◌≡◌, ◌⊎◌, ℕ, ◌*◌, true, false, List, [], ◌∷◌, Some, None, ℤ, pos}
+use Rattle.std.specs.List.{list_all}
+use Rattle.rv_model.specs.declared.inst.Inst.{Inst}
+use Rattle.rv_model.specs.declared.inst.Inst.TheVariants as insts
+use Rattle.rv_inst.specs.Valid.{IsValid}
+use Rattle.ce_text.specs.Bytes.{is_plain}
+use Rattle.ce_text.specs.Line.{cut, before_comment}
+use Rattle.rv_asm.specs.declared.mnemonic.Mnemonic.{Mnemonic}
+use Rattle.rv_asm.specs.declared.mnemonic.Mnemonic.TheVariants as words
+use Rattle.rv_asm.specs.Line.{is_token, is_opening}
+use Rattle.rv_asm.specs.Name.{is_name}
+use Rattle.rv_asm.specs.Register.{register_of}
+use Rattle.rv_asm.specs.Literal.{literal_of}
+use Rattle.rv_asm.specs.Words.{mnemonic_of}
+use Rattle.rv_asm_laws.specs.Forms.{is_bracketed, offset_text, base_text, operand_texts}
+use Rattle.rv_asm_laws.specs.Before.{label_of}
+use Rattle.rv_asm_laws.specs.LineFaults.{statement_in, word_in, operands_in}
+
+-- a name of the register
+abbrev pub IsRegisterText : ℕ → List ℕ → Type 0
+IsRegisterText n text = register_of text ≡ Some n
+
+-- a token that is no name and writes the number
+pub record IsNumberText (n : ℤ) (text : List ℕ) : Type 0 where
+  pub token : is_token text ≡ true
+  pub unnamed : is_name text ≡ false
+  pub number : literal_of text ≡ Some n
+
+-- bits 31..12 of a word, as a number
+abbrev pub IsUpperText : ℕ → List ℕ → Type 0
+IsUpperText word text = (n : ℕ) × (word ≡ n * 4096) × IsNumberText (pos n) text
+
+-- `n(rs1)`
+pub record IsMemoryText (n : ℤ) (rs1 : ℕ) (text : List ℕ) : Type 0 where
+  pub closed : is_bracketed (cut is_opening text).1 ≡ true
+  pub offset : IsNumberText n (offset_text text)
+  pub base : IsRegisterText rs1 (base_text text)
+
+abbrev pub AreTwo : (List ℕ → Type 0) → (List ℕ → Type 0) → List (List ℕ) → Type 0
+AreTwo First Second (a ∷ b ∷ []) = First a × Second b
+AreTwo First Second texts = ⊥
+
+abbrev pub AreThree : (List ℕ → Type 0) → (List ℕ → Type 0) → (List ℕ → Type 0) → List (List ℕ) → Type 0
+AreThree First Second Third (a ∷ b ∷ c ∷ []) = First a × Second b × Third c
+AreThree First Second Third texts = ⊥
+
+-- texts of an instruction's operands, in the order in which the table has them
+abbrev pub AreOperandsOf : Inst → List (List ℕ) → Type 0
+AreOperandsOf (insts.Lui rd imm) texts = AreTwo (IsRegisterText rd) (IsUpperText imm) texts
+AreOperandsOf (insts.Auipc rd imm) texts = AreTwo (IsRegisterText rd) (IsUpperText imm) texts
+AreOperandsOf (insts.Jal rd offset) texts = ⊥
+AreOperandsOf (insts.Jalr rd rs1 imm) texts = AreTwo (IsRegisterText rd) (IsMemoryText imm rs1) texts
+AreOperandsOf (insts.Branch op rs1 rs2 offset) texts = ⊥
+AreOperandsOf (insts.Load op rd rs1 imm) texts = AreTwo (IsRegisterText rd) (IsMemoryText imm rs1) texts
+AreOperandsOf (insts.Store op rs1 rs2 imm) texts = AreTwo (IsRegisterText rs2) (IsMemoryText imm rs1) texts
+AreOperandsOf (insts.OpImm op rd rs1 imm) texts = AreThree (IsRegisterText rd) (IsRegisterText rs1) (IsNumberText imm) texts
+AreOperandsOf (insts.Op op rd rs1 rs2) texts = AreThree (IsRegisterText rd) (IsRegisterText rs1) (IsRegisterText rs2) texts
+AreOperandsOf (insts.Fence word) texts = texts ≡ []
+AreOperandsOf insts.Ecall texts = texts ≡ []
+AreOperandsOf insts.Ebreak texts = texts ≡ []
+
+-- what the table says of an instruction's mnemonic
+abbrev pub mnemonic_for : Inst → Mnemonic
+mnemonic_for (insts.Lui rd imm) = words.Lui
+mnemonic_for (insts.Auipc rd imm) = words.Auipc
+mnemonic_for (insts.Jal rd offset) = words.Jal
+mnemonic_for (insts.Jalr rd rs1 imm) = words.Jalr
+mnemonic_for (insts.Branch op rs1 rs2 offset) = words.Branch op
+mnemonic_for (insts.Load op rd rs1 imm) = words.Load op
+mnemonic_for (insts.Store op rs1 rs2 imm) = words.Store op
+mnemonic_for (insts.OpImm op rd rs1 imm) = words.OpImm op
+mnemonic_for (insts.Op op rd rs1 rs2) = words.Op op
+mnemonic_for (insts.Fence word) = words.Plain (insts.Fence word)
+mnemonic_for insts.Ecall = words.Plain insts.Ecall
+mnemonic_for insts.Ebreak = words.Plain insts.Ebreak
+
+-- the line writes the instruction, which is a valid one
+pub record IsWrittenAs (inst : Inst) (line : List ℕ) : Type 0 where
+  pub valid : IsValid inst
+  pub plain : list_all is_plain (before_comment line) ≡ true
+  pub unlabelled : label_of line ≡ None
+  pub mnemonic : mnemonic_of (word_in (statement_in line)) ≡ Some (mnemonic_for inst)
+  pub operands : AreOperandsOf inst (operand_texts (operands_in (statement_in line)))
+
+-- a line of blanks, or of a comment
+pub record IsEmptyLine (line : List ℕ) : Type 0 where
+  pub plain : list_all is_plain (before_comment line) ≡ true
+  pub unlabelled : label_of line ≡ None
+  pub nothing : statement_in line ≡ []
+
+-- the lines write these instructions, one after the other; empty lines may stand between them
+abbrev pub IsListing : List (List ℕ) → List Inst → Type 0
+IsListing [] [] = Unit {0}
+IsListing [] (inst ∷ insts) = ⊥
+IsListing (line ∷ lines) [] = IsEmptyLine line × IsListing lines []
+IsListing (line ∷ lines) (inst ∷ insts) = (IsWrittenAs inst line × IsListing lines insts) ⊎ (IsEmptyLine line × IsListing lines (inst ∷ insts))
