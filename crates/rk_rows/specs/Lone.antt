@@ -1,0 +1,76 @@
+-- A node that is alone, and what waits for it.
+use Rattle.std.specs.Prelude.{◌≡◌, ℕ, ◌+◌, ◌≤◌, List, [], ◌∷◌, length, map, IfSome}
+use Rattle.rv_model.specs.Image.{ImageParts}
+use Rattle.ce_model.specs.declared.topology.Place.{Place}
+use Rattle.ce_model.specs.declared.topology.BlockId.{BlockId}
+use Rattle.ce_model.specs.Limits.{greatest_blocks}
+use Rattle.ce_model.specs.Blocks.{Block, blocks_of_home}
+use Rattle.ce_model.specs.Parcels.{Item, mail}
+use Rattle.ce_model.specs.Node.{Node, Call, blocks_of}
+use Rattle.ce_model.specs.Saying.{says}
+use Rattle.ce_model.specs.Hearing.{hears}
+use Rattle.ce_model.specs.Sound.{IsSoundTurn}
+use Rattle.ce_solo.proofs.Counting.{count}
+use Rattle.ce_solo.proofs.Nodes.{IsWell}
+use Rattle.ce_solo.proofs.Items.{parcel_ids}
+use Rattle.ce_solo.proofs.Words.{call_ids}
+use Rattle.rk_mail.specs.declared.talk.Heard.{Heard}
+use Rattle.rk_mail.specs.declared.talk.Heard.TheVariants.{Mail}
+use Rattle.rk_mail.specs.Queue.{Queue}
+use Rattle.rk_mail.specs.Talk.{heard_as}
+use Rattle.rk_mail.specs.Targets.{targets_of}
+use Rattle.rk_node.specs.declared.out.Out.TheVariants.{Nothing}
+use Rattle.rk_node.specs.Boxes.{Box}
+use Rattle.rk_node.specs.Answering.{HasSaid, IsForBox, IsAbleToHear}
+
+-- the names of the blocks of a message
+abbrev pub batch_ids : List (Place × Block) → List BlockId
+batch_ids batch = map (λ (target : Place × BlockId). target.1) (targets_of batch)
+
+-- the names of the blocks that come with an answer
+abbrev pub heard_ids : Heard → List BlockId
+heard_ids (Mail parcel) = parcel.block.id ∷ []
+heard_ids other = []
+
+-- each block that the node has, that is away with a call or an answer, or that waits in a parcel, is one of the node's own, at one place
+pub record AreAtOnePlace (node : Node) (away : List BlockId) (items : List Item) : Type 0 where
+  pub places : (id : BlockId) → count id (blocks_of node) + count id away + count id (parcel_ids items) ≤ count id (blocks_of_home 0)
+
+-- no more blocks than these wait that didn't wait before
+pub record HasQueued (ids : List BlockId) (before after : List Item) : Type 0 where
+  pub counts : (id : BlockId) → count id (parcel_ids after) ≤ count id (parcel_ids before) + count id ids
+
+-- an item can be given to the box
+abbrev pub IsFor : Box → Item → Type 0
+IsFor box (mail parcel) = IsForBox box parcel
+IsFor box other = Unit {0}
+
+-- the box waits for the answer to a call, while these items wait for it
+pub record IsAnswerable (box : Box) (call : Call) (items : List Item) : Type 0 where
+  pub said : HasSaid box call
+  pub room : greatest_blocks ≤ box.room
+  pub places : AreAtOnePlace box.node (call_ids call) items
+
+-- the box can hear this answer, while these items wait for it
+pub record IsAnswered (images : List ImageParts) (box : Box) (heard : Heard) (items : List Item) : Type 0 where
+  pub can : IsAbleToHear images box heard
+  pub places : AreAtOnePlace box.node (heard_ids heard) items
+
+-- no call of the box but a Take is out, and each of its blocks is at one place
+pub record IsAtRest (box : Box) (list : List ImageParts) (queue : Queue) (room_left : ℕ) : Type 0 where
+  pub idle : box.out ≡ Nothing
+  pub well : IsWell box.node.turn box.node
+  pub sound : IfSome box.node.turn IsSoundTurn
+  pub images : length list ≡ box.node.images
+  pub room : greatest_blocks ≤ box.room
+  pub places : AreAtOnePlace box.node [] queue.items
+  pub spare : room_left ≤ queue.spare
+
+-- the box has said what it says, and has heard an answer that it could hear
+pub record HasExchanged (before after : Box) : Type 0 where
+  pub images : List ImageParts
+  pub said : Box
+  pub heard : Heard
+  pub said_is : said.node ≡ (says before.node).node
+  pub can : IsAbleToHear images said heard
+  pub heard_is : after.node ≡ hears images said.node (heard_as heard)

@@ -1,0 +1,301 @@
+ghost use Rattle.std.specs.Prelude.{◌≡◌, ◌<◌, ◌≤◌, IfOk, IsTrue, [], ◌∷◌, map};
+ghost use Rattle.ce_model.specs.Limits.{process_count};
+ghost use Rattle.ce_model.specs.Parcels.{item_id};
+ghost use Rattle.ce_model.specs.Node.{takes};
+ghost use Rattle.ce_solo.proofs.Items.{parcel_ids};
+ghost use Rattle.rk_mail.specs.Items.{item_of};
+ghost use Rattle.rk_mail.specs.Talk.{call_said, is_of_take};
+ghost use Rattle.rk_node.specs.Answering.{IsWork};
+ghost use Rattle.rk_rows.specs.Lone.{heard_ids, batch_ids, HasQueued, IsFor, IsAnswerable, IsAnswered};
+
+use crate::fault::Fault;
+use crate::transcript::Transcript;
+use ce_model::{HOST, KillFound, PROCESS_COUNT, Place, Status};
+use rk_mail::{Batch, Heard, Item, Mailbox, Parcel, Say};
+use rk_node::NodeBox;
+use rv_image::Image;
+use std::alloc::Global;
+use xm_block::Block;
+
+/// How many items can wait: a start and a kill for each process id, and a parcel for each block of the node.
+const QUEUE_ROOM: u32 = 48;
+
+/// What became of a process id.
+#[derive(Clone, Copy, Debug, PartialEq, Eq)]
+pub(crate) enum Life {
+    /// No process was spawned.
+    Unused,
+    /// A process was spawned.
+    Used,
+    /// A process was spawned, and a kill of it was accepted.
+    Killed,
+}
+
+/// What answers a node that is alone: the items that wait for it, for how many more there is room at least, what became of each
+/// process id, how many parcels there were, and what was said so far.
+#[derive(Drop)]
+pub(crate) struct Desk {
+    pub mailbox: Mailbox,
+    pub spare: u32,
+    pub lives: Vec<Life>,
+    pub parcels: u64,
+    pub transcript: Transcript,
+}
+
+impl Desk {
+    /// Nothing waits, and no process id was used.
+    pub fn new(alloc: Global, is_told: bool) -> Result<Desk, Fault>
+        ensures empty { IfOk result (λ desk. desk.mailbox.items ≡ []) }
+        ensures spare { IfOk result (λ desk. desk.spare ≤ desk.mailbox.spare) }
+    {
+        let mut lives = Vec::with_capacity(alloc, PROCESS_COUNT as usize)?;
+        for _ in 0..PROCESS_COUNT {
+            lives.push(Life::Unused)?;
+        }
+        Ok(Desk {
+            mailbox: Mailbox::new(alloc, QUEUE_ROOM)?,
+            spare: QUEUE_ROOM,
+            lives,
+            parcels: 0,
+            transcript: Transcript {
+                text: if is_told {
+                    Some(String::new(alloc))
+                } else {
+                    None
+                },
+            },
+        })
+    }
+
+    /// An item waits from now on.
+    fn queues(&mut self, item: Item) -> Result<(), Fault>
+        requires process { item_id (item_of item) < process_count }
+        requires spare { self.old.spare ≤ self.old.mailbox.spare }
+        ensures queued { IfOk result (λ _. HasQueued (parcel_ids (item_of item ∷ []))
+            self.old.mailbox.items self.new.mailbox.items) }
+        ensures spare { IfOk result (λ _. self.new.spare ≤ self.new.mailbox.spare) }
+    {
+        if self.spare == 0 {
+            return Err(Fault::Full);
+        }
+        self.spare -= 1;
+        self.mailbox.post(item);
+        Ok(())
+    }
+
+    /// The start of an image as a process waits, unless the process id was used: whether it was fresh.
+    pub fn spawns(&mut self, image: u32, pid: u32) -> Result<bool, Fault>
+        requires { self.old.spare ≤ self.old.mailbox.spare }
+        ensures queued { IfOk result (λ _. HasQueued []
+            self.old.mailbox.items self.new.mailbox.items) }
+        ensures spare { IfOk result (λ _. self.new.spare ≤ self.new.mailbox.spare) }
+    {
+        match life_at(&self.lives, pid)? {
+            Life::Unused => {
+                set_life(&mut self.lives, pid, Life::Used);
+                self.queues(Item::Start { pid, image })?;
+                Ok(true)
+            }
+            Life::Used | Life::Killed => Ok(false),
+        }
+    }
+
+    /// The end of a process waits, unless the process id wasn't used or a kill was accepted before.
+    pub fn kills(&mut self, pid: u32) -> Result<KillFound, Fault>
+        requires { self.old.spare ≤ self.old.mailbox.spare }
+        ensures queued { IfOk result (λ _. HasQueued []
+            self.old.mailbox.items self.new.mailbox.items) }
+        ensures spare { IfOk result (λ _. self.new.spare ≤ self.new.mailbox.spare) }
+    {
+        match life_at(&self.lives, pid)? {
+            Life::Used => {
+                set_life(&mut self.lives, pid, Life::Killed);
+                self.queues(Item::Kill { pid })?;
+                Ok(KillFound::Killed)
+            }
+            Life::Unused => Ok(KillFound::Unused),
+            Life::Killed => Ok(KillFound::Already),
+        }
+    }
+
+    /// A block goes its way: a parcel for a process of the node waits, and what is for the host is gone.
+    fn delivers(&mut self, from: Place, to: Place, block: Block) -> Result<(), Fault>
+        requires { self.old.spare ≤ self.old.mailbox.spare }
+        ensures queued { IfOk result (λ _. HasQueued (block.id ∷ [])
+            self.old.mailbox.items self.new.mailbox.items) }
+        ensures spare { IfOk result (λ _. self.new.spare ≤ self.new.mailbox.spare) }
+    {
+        self.transcript.target(to, block.id())?;
+        let number = self.parcels;
+        self.parcels = number.checked_add(1).ok_or(Fault::Full)?;
+        if to.node == HOST {
+            return Ok(());
+        }
+        if to.node != 0 || to.pid >= PROCESS_COUNT {
+            return Err(Fault::Place);
+        }
+        self.queues(Item::Mail(Parcel {
+            from,
+            to,
+            number,
+            block,
+        }))
+    }
+
+    /// The blocks of a message go their ways; its batch is empty then.
+    fn sends(&mut self, pid: u32, mut batch: Batch) -> Result<Batch, Fault>
+        requires { self.old.spare ≤ self.old.mailbox.spare }
+        ensures emptied { IfOk result (λ rest. rest ≡ []) }
+        ensures queued { IfOk result (λ _. HasQueued (batch_ids batch)
+            self.old.mailbox.items self.new.mailbox.items) }
+        ensures spare { IfOk result (λ _. self.new.spare ≤ self.new.mailbox.spare) }
+    {
+        if batch.count() == 0 {
+            return Err(Fault::Place);
+        }
+        self.transcript.message(pid, self.parcels, batch.bytes())?;
+        let from = Place { node: 0, pid };
+        while let Some((to, block)) = batch.take_first() {
+            self.delivers(from, to, block)?;
+        }
+        self.transcript.end()?;
+        Ok(batch)
+    }
+
+    /// The answer to a Take: the first item that can be given, else a poll, else nothing.
+    fn takes(
+        &mut self,
+        node: &NodeBox,
+        images: &[Image],
+        asking: u32,
+        dead: u32,
+        poller: Option<u32>,
+    ) -> Result<Heard, Fault>
+        requires spare { self.old.spare ≤ self.old.mailbox.spare }
+        requires said { IsAnswerable node.now (takes asking dead poller) self.old.mailbox.items }
+        ensures heard { IfOk result (λ heard. IsAnswered images.now node.now heard
+            self.new.mailbox.items) }
+        ensures spare { IfOk result (λ _. self.new.spare ≤ self.new.mailbox.spare) }
+    {
+        let heard = match self.mailbox.next(asking, dead) {
+            Some(item) => {
+                self.spare = self.spare.saturating_add(1);
+                given(node, images, item)?
+            }
+            None => match poller {
+                Some(pid) => Heard::Poll { pid },
+                None => Heard::Idle,
+            },
+        };
+        self.transcript.take(asking, dead, poller, &heard)?;
+        Ok(heard)
+    }
+
+    /// The answer to what the node has said.
+    pub fn answers(&mut self, node: &NodeBox, images: &[Image], said: Say) -> Result<Heard, Fault>
+        requires spare { self.old.spare ≤ self.old.mailbox.spare }
+        requires said { IsAnswerable node.now (call_said said) self.old.mailbox.items }
+        ensures heard { IfOk result (λ heard. IsAnswered images.now node.now heard
+            self.new.mailbox.items) }
+        ensures spare { IfOk result (λ _. self.new.spare ≤ self.new.mailbox.spare) }
+    {
+        match said {
+            Say::Take {
+                asking,
+                dead,
+                poller,
+            } => self.takes(node, images, asking, dead, poller),
+            Say::Send { pid, batch } => Ok(Heard::Posted(self.sends(pid, batch)?)),
+            Say::Spawn { pid, image, to } => {
+                let is_fresh = self.spawns(image, to.pid)?;
+                self.transcript.spawn(pid, image, to, is_fresh)?;
+                Ok(if is_fresh {
+                    Heard::Spawned
+                } else {
+                    Heard::Used
+                })
+            }
+            Say::Kill { pid, to } => {
+                let found = self.kills(to.pid)?;
+                self.transcript.kill(pid, to, found)?;
+                Ok(heard_of_kill(found))
+            }
+            Say::Note { pid, word } => {
+                self.transcript.note(pid, word)?;
+                Ok(Heard::Noted)
+            }
+        }
+    }
+}
+
+/// What a node hears of a kill.
+fn heard_of_kill(found: KillFound) -> Heard
+    ensures { result ≡ heard_of_kill found }
+{
+    match found {
+        KillFound::Killed => Heard::Killed,
+        KillFound::Unused => Heard::Unused,
+        KillFound::Already => Heard::Already,
+    }
+}
+
+ghost use Rattle.rk_mail.specs.Talk.{heard_of_kill};
+
+/// What became of a process id, which is below 8.
+#[tactic(auto, using(ce_model::specs::Limits::process_count_lem))]
+fn life_at(lives: &Vec<Life>, pid: u32) -> Result<Life, Fault>
+    ensures { IfOk result (λ _. pid < process_count) }
+{
+    if pid >= PROCESS_COUNT {
+        return Err(Fault::Place);
+    }
+    lives.get(pid as usize).copied().ok_or(Fault::Place)
+}
+
+/// Says what becomes of a process id.
+fn set_life(lives: &mut Vec<Life>, pid: u32, life: Life) {
+    if let Some(place) = lives.get_mut(pid as usize) {
+        *place = life;
+    }
+}
+
+/// What a node hears that is given an item.
+fn given(node: &NodeBox, images: &[Image], item: Item) -> Result<Heard, Fault>
+    requires { IsFor node.now (item_of item) }
+    ensures work { IfOk result (λ heard. IsWork images.now node.now heard) }
+    ensures take { IfOk result (λ heard. IsTrue (is_of_take heard)) }
+    ensures blocks { IfOk result (λ heard. heard_ids heard ≡ parcel_ids (item_of item ∷ [])) }
+{
+    match item {
+        Item::Start { pid, image } => {
+            if pid < PROCESS_COUNT
+                && (image as usize) < images.len()
+                && is_unborn(node.status(pid))
+            {
+                Ok(Heard::Start { pid, image })
+            } else {
+                Err(Fault::Unfit)
+            }
+        }
+        Item::Mail(parcel) => Ok(Heard::Mail(parcel)),
+        Item::Kill { pid } => {
+            if pid < PROCESS_COUNT && !is_unborn(node.status(pid)) {
+                Ok(Heard::Kill { pid })
+            } else {
+                Err(Fault::Unfit)
+            }
+        }
+    }
+}
+
+ghost use Rattle.ce_model.specs.Sound.{is_unborn};
+
+/// It wasn't started yet.
+fn is_unborn(status: Status) -> bool
+    ensures { result ≡ is_unborn status }
+{
+    match status {
+        Status::Unborn => true,
+        Status::Running | Status::Asking | Status::Polling | Status::Stopped(_) => false,
+    }
+}
