@@ -1,0 +1,7 @@
+pub mod Stepping
+pub mod NextOwner
+pub mod Replies
+pub mod Told
+pub mod Drained
+pub mod Rows
+pub mod Opening

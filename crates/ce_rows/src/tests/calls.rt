@@ -1,0 +1,328 @@
+ghost use Rattle.std.specs.Prelude.{◌≡◌, [], ◌∷◌, IfOk};
+ghost use Rattle.ce_model.specs.declared.topology.TheConstants.{HOST};
+ghost use Rattle.ce_model.specs.Node.{sends, host_place};
+ghost use Rattle.ce_model.specs.Machine.{in_cube};
+ghost use Rattle.ce_machine.specs.Requests.{request_of};
+ghost use Rattle.ce_rows.specs.Steps.{IsWithoutBoxes};
+ghost use Rattle.ce_rows.specs.Rows.{IsCallAt, block, aa};
+
+use crate::WorkedRow;
+use ce_daemon::Homed;
+use ce_lock::Who;
+use ce_machine::Call;
+use ce_model::{BlockId, HOST, NoMemory, Place};
+use rk_mail::{Batch, Say};
+use std::alloc::Global;
+use std::test::Fail;
+use xm_block::Block;
+
+// A user's host.
+fn host(user: u32) -> Who
+    ensures { result ≡ record { family = user; actor = HOST } }
+{
+    Who {
+        family: user,
+        actor: HOST,
+    }
+}
+
+// A node that a user holds.
+fn node(user: u32, node: u32) -> Who
+    ensures { result ≡ record { family = user; actor = node } }
+{
+    Who {
+        family: user,
+        actor: node,
+    }
+}
+
+// A message of one block of this home to a place.
+#[tactic(auto, using(ce_model::specs::Limits::block_room_lem))]
+fn message(alloc: Global, to: Place, id: BlockId, byte: u8) -> Result<Batch, NoMemory>
+    ensures { IfOk result (λ batch. batch ≡ (to, record { id = id; bytes = byte ∷ [] }) ∷ []) }
+{
+    let mut block = Block::new(alloc, id)?;
+    block.fill(&[byte]);
+    let mut batch = Batch::new(alloc)?;
+    batch.first(to, block);
+    Ok(batch)
+}
+
+// A message of a host or of process 0.
+fn send<N: Homed>(alloc: Global, to: Place, id: BlockId, byte: u8) -> Result<Call<N>, NoMemory>
+    ensures asks { IfOk result (λ call.
+        request_of call ≡ in_cube (sends 0 ((to, id) ∷ []) (byte ∷ []))) }
+    ensures boxes { IfOk result (λ call. IsWithoutBoxes call) }
+{
+    let batch = message(alloc, to, id, byte)?;
+    Ok(Call::Say(Say::Send { pid: 0, batch }))
+}
+
+// A message of the host, of a block of its own.
+fn host_sends<N: Homed>(alloc: Global, to: Place, index: u32) -> Result<Call<N>, NoMemory>
+    ensures asks { IfOk result (λ call.
+        request_of call ≡ in_cube (sends 0 ((to, block 256 index) ∷ []) aa)) }
+    ensures boxes { IfOk result (λ call. IsWithoutBoxes call) }
+{
+    send(alloc, to, BlockId { home: 256, index }, 0xAA)
+}
+
+// A message of a process to its host, of its node's first block.
+fn node_sends<N: Homed>(alloc: Global, home: u32) -> Result<Call<N>, NoMemory>
+    ensures asks { IfOk result (λ call. request_of call
+        ≡ in_cube (sends 0 ((host_place, block home 0) ∷ []) (0 ∷ []))) }
+    ensures boxes { IfOk result (λ call. IsWithoutBoxes call) }
+{
+    send(
+        alloc,
+        Place { node: HOST, pid: 0 },
+        BlockId { home, index: 0 },
+        0,
+    )
+}
+
+// A node asks for work.
+fn take<N: Homed>(asking: u32, dead: u32, poller: Option<u32>) -> Call<N>
+    ensures { result ≡ Call.Say (Say.Take asking dead poller) }
+{
+    Call::Say(Say::Take {
+        asking,
+        dead,
+        poller,
+    })
+}
+
+// The host has the rows' image started as process 0 of a node.
+fn spawn<N: Homed>(node: u32) -> Call<N>
+    ensures { result ≡ Call.Say (Say.Spawn 0 0 (record { node = node; pid = 0 })) }
+{
+    Call::Say(Say::Spawn {
+        pid: 0,
+        image: 0,
+        to: Place { node, pid: 0 },
+    })
+}
+
+// The host has process 0 of node 0 ended.
+fn kill<N: Homed>() -> Call<N>
+    ensures { result ≡ Call.Say (Say.Kill 0 (record { node = 0; pid = 0 })) }
+{
+    Call::Say(Say::Kill {
+        pid: 0,
+        to: Place { node: 0, pid: 0 },
+    })
+}
+
+// The process of the rows' image notes its word.
+fn note<N: Homed>() -> Call<N>
+    ensures { result ≡ Call.Say (Say.Note 0 42) }
+{
+    Call::Say(Say::Note { pid: 0, word: 42 })
+}
+
+// Who makes a call, and the call.
+#[derive(Drop)]
+pub(crate) struct Made<N: Homed> {
+    pub(crate) who: Who,
+    pub(crate) call: Call<N>,
+}
+
+// A call of the row of the next owner, but the one that brings boxes.
+fn next_owner_call<N: Homed>(alloc: Global, count: usize) -> Result<Made<N>, Fail>
+    ensures { IfOk result (λ made. IsCallAt WorkedRow.NextOwner count made.who made.call) }
+{
+    match count {
+        0 => Ok(Made {
+            who: host(0),
+            call: Call::Getcube { dim: 0 },
+        }),
+        1 => Ok(Made {
+            who: host(0),
+            call: host_sends(alloc, Place { node: 0, pid: 0 }, 0)?,
+        }),
+        2 => Ok(Made {
+            who: host(0),
+            call: Call::Drain,
+        }),
+        4 => Ok(Made {
+            who: host(1),
+            call: Call::Getcube { dim: 0 },
+        }),
+        5 => Ok(Made {
+            who: node(1, 0),
+            call: take(0, 0, None),
+        }),
+        _ => Err(Fail::from("no such call")),
+    }
+}
+
+// A call of the row of the replies.
+fn replies_call<N: Homed>(alloc: Global, count: usize) -> Result<Made<N>, Fail>
+    ensures { IfOk result (λ made. IsCallAt WorkedRow.Replies count made.who made.call) }
+{
+    match count {
+        0 => Ok(Made {
+            who: host(1),
+            call: Call::Peek,
+        }),
+        1 => Ok(Made {
+            who: host(0),
+            call: Call::Getcube { dim: 0 },
+        }),
+        2 => Ok(Made {
+            who: host(1),
+            call: Call::Getcube { dim: 0 },
+        }),
+        3 | 7 | 10 => Ok(Made {
+            who: host(0),
+            call: Call::Look,
+        }),
+        4 | 11 | 12 => Ok(Made {
+            who: host(0),
+            call: kill(),
+        }),
+        5 | 6 => Ok(Made {
+            who: host(0),
+            call: spawn(0),
+        }),
+        8 | 15 => Ok(Made {
+            who: node(0, 0),
+            call: take(0, 0, None),
+        }),
+        9 => Ok(Made {
+            who: host(0),
+            call: Call::Arm { count: 3 },
+        }),
+        13 => Ok(Made {
+            who: host(0),
+            call: host_sends(alloc, Place { node: 0, pid: 0 }, 0)?,
+        }),
+        14 => Ok(Made {
+            who: host(0),
+            call: Call::HostTake,
+        }),
+        16 => Ok(Made {
+            who: host(0),
+            call: Call::Drain,
+        }),
+        _ => Err(Fail::from("no such call")),
+    }
+}
+
+// A call of the row of what a process is told.
+fn told_call<N: Homed>(alloc: Global, count: usize) -> Result<Made<N>, Fail>
+    ensures { IfOk result (λ made. IsCallAt WorkedRow.Told count made.who made.call) }
+{
+    match count {
+        0 => Ok(Made {
+            who: host(0),
+            call: Call::Getcube { dim: 0 },
+        }),
+        1 => Ok(Made {
+            who: host(0),
+            call: spawn(0),
+        }),
+        2 => Ok(Made {
+            who: host(0),
+            call: Call::Arm { count: 10 },
+        }),
+        3 => Ok(Made {
+            who: node(0, 0),
+            call: take(0, 0, None),
+        }),
+        4 => Ok(Made {
+            who: node(0, 0),
+            call: note(),
+        }),
+        5 => Ok(Made {
+            who: node(0, 0),
+            call: node_sends(alloc, 0)?,
+        }),
+        6 | 8 | 11 => Ok(Made {
+            who: node(0, 0),
+            call: take(1, 0, Some(0)),
+        }),
+        7 => Ok(Made {
+            who: host(0),
+            call: host_sends(alloc, Place { node: 0, pid: 0 }, 0)?,
+        }),
+        9 => Ok(Made {
+            who: host(0),
+            call: Call::HostTake,
+        }),
+        10 => Ok(Made {
+            who: host(0),
+            call: kill(),
+        }),
+        12 => Ok(Made {
+            who: node(0, 0),
+            call: take(0, 1, None),
+        }),
+        _ => Err(Fail::from("no such call")),
+    }
+}
+
+// A call of the row of the drain.
+fn drained_call<N: Homed>(alloc: Global, count: usize) -> Result<Made<N>, Fail>
+    ensures { IfOk result (λ made. IsCallAt WorkedRow.Drained count made.who made.call) }
+{
+    match count {
+        0 => Ok(Made {
+            who: host(0),
+            call: Call::Getcube { dim: 2 },
+        }),
+        1 => Ok(Made {
+            who: host(0),
+            call: spawn(1),
+        }),
+        2 => Ok(Made {
+            who: host(0),
+            call: Call::Arm { count: 10 },
+        }),
+        3 => Ok(Made {
+            who: node(0, 1),
+            call: take(0, 0, None),
+        }),
+        4 => Ok(Made {
+            who: node(0, 1),
+            call: note(),
+        }),
+        5 => Ok(Made {
+            who: node(0, 1),
+            call: node_sends(alloc, 1)?,
+        }),
+        6 => Ok(Made {
+            who: host(0),
+            call: host_sends(alloc, Place { node: 2, pid: 0 }, 0)?,
+        }),
+        7 => Ok(Made {
+            who: host(0),
+            call: host_sends(alloc, Place { node: 0, pid: 0 }, 1)?,
+        }),
+        8 => Ok(Made {
+            who: host(0),
+            call: host_sends(alloc, Place { node: 3, pid: 1 }, 2)?,
+        }),
+        9 => Ok(Made {
+            who: host(0),
+            call: Call::Drain,
+        }),
+        _ => Err(Fail::from("no such call")),
+    }
+}
+
+// The call of a row behind its first `count` ones.
+pub(crate) fn call_at<N: Homed>(
+    alloc: Global,
+    row: WorkedRow,
+    count: usize,
+) -> Result<Made<N>, Fail>
+    ensures { IfOk result (λ made. IsCallAt row count made.who made.call) }
+{
+    match row {
+        WorkedRow::NextOwner => next_owner_call(alloc, count),
+        WorkedRow::Replies => replies_call(alloc, count),
+        WorkedRow::Told => told_call(alloc, count),
+        WorkedRow::Drained => drained_call(alloc, count),
+    }
+}

@@ -1,0 +1,86 @@
+ghost use Rattle.std.specs.Prelude.{◌≡◌, ◌^◌, [], ◌∷◌, IfOk};
+ghost use Rattle.rv_model.specs.Image.{image_parts};
+ghost use Rattle.ce_daemon.specs.Boxes.{AreBoxes};
+ghost use Rattle.ce_rows.specs.Steps.{IsAt};
+ghost use Rattle.ce_rows.specs.Rows.{row_of, program};
+
+use crate::WorkedRow;
+use ce_daemon::Homed;
+use ce_machine::Machine;
+use rv_image::Image;
+use std::alloc::Global;
+use std::test::Fail;
+
+// The bytes of the rows' image, four for each instruction.
+const PROGRAM: [u8; 52] = [
+    0x93, 0x08, 0xE0, 0x00, // a7 = 14: note
+    0x13, 0x05, 0xA0, 0x02, // a0 = 42
+    0x73, 0x00, 0x00, 0x00, // ecall
+    0x93, 0x08, 0x10, 0x00, // a7 = 1: xmalloc
+    0x13, 0x05, 0x10, 0x00, // a0 = 1
+    0x73, 0x00, 0x00, 0x00, // ecall
+    0x93, 0x08, 0x40, 0x00, // a7 = 4: xsend
+    0x93, 0x05, 0xF0, 0xFF, // a1 = HOST
+    0x73, 0x00, 0x00, 0x00, // ecall
+    0x93, 0x08, 0x60, 0x00, // a7 = 6: xrecv
+    0x73, 0x00, 0x00, 0x00, // ecall
+    0x73, 0x00, 0x00, 0x00, // ecall
+    0x73, 0x00, 0x00, 0x00, // ecall
+];
+
+// The rows' image.
+fn image(alloc: Global) -> Result<Image, Fail>
+    ensures { IfOk result (λ image. image ≡ image_parts 0x0001_0000 program 0) }
+{
+    let mut bytes = Vec::new(alloc);
+    bytes.extend_from_slice(&PROGRAM)?;
+    match Image::of_parts(0x0001_0000, bytes, 0) {
+        Ok(image) => Ok(image),
+        Err(_) => Err(Fail::from("no image")),
+    }
+}
+
+// The images of a machine.
+fn images_of_rows(alloc: Global) -> Result<Vec<Image>, Fail>
+    ensures { IfOk result (λ images. images.items ≡ image_parts 0x0001_0000 program 0 ∷ []) }
+{
+    let mut images = Vec::new(alloc);
+    images.push(image(alloc)?)?;
+    Ok(images)
+}
+
+// The dimension of a row's machine.
+fn dim_of(row: WorkedRow) -> u32
+    ensures { result ≡ (row_of row).parts.dim }
+{
+    match row {
+        WorkedRow::NextOwner | WorkedRow::Replies | WorkedRow::Told => 0,
+        WorkedRow::Drained => 2,
+    }
+}
+
+// How many users a row's machine has.
+fn users_of(row: WorkedRow) -> u32
+    ensures { result ≡ (row_of row).parts.users }
+{
+    match row {
+        WorkedRow::NextOwner | WorkedRow::Replies => 2,
+        WorkedRow::Told | WorkedRow::Drained => 1,
+    }
+}
+
+// A row's machine, of which nothing was asked yet.
+pub(crate) fn open<N: Homed>(
+    alloc: Global,
+    row: WorkedRow,
+    boxes: Vec<N>,
+) -> Result<Machine<N>, Fail>
+    requires { AreBoxes N.home N.clean (2 ^ (row_of row).parts.dim) (λ node. node) boxes.items }
+    ensures { IfOk result (λ machine. IsAt (row_of row) 0 machine) }
+{
+    let dim = dim_of(row);
+    let users = users_of(row);
+    let kept = images_of_rows(alloc)?;
+    let machine = Machine::new(alloc, dim, users, kept, boxes)?;
+    Ok(machine)
+}

@@ -1,0 +1,12 @@
+/// A worked row of the machine: calls that its actors make one after another.
+#[derive(Clone, Copy, Debug, PartialEq, Eq)]
+pub enum WorkedRow {
+    /// A message waits in a node when its cube is given back, and the next owner of the node finds nothing.
+    NextOwner,
+    /// Each reply that a machine gives whose nodes run no process.
+    Replies,
+    /// What a process hears, and its host.
+    Told,
+    /// Messages for three nodes and the host wait when the cube is drained.
+    Drained,
+}
