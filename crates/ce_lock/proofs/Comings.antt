@@ -15,13 +15,13 @@ use Rattle.ce_lock.specs.declared.view.Last.{Last}
 use Rattle.ce_lock.specs.declared.view.View.{View}
 use Rattle.ce_lock.specs.Entries.{longer, Every, AtEach, IsIn}
 use Rattle.ce_lock.specs.Meanings.{Meanings}
-use Rattle.ce_lock.specs.OneOrder.{IsQueue, IsFair, IsHeaded, IsSeated, IsGone, IsMissable, IsLast, IsTold}
-use Rattle.ce_lock.specs.Telling.{nowhere, nobody, copy, making, next_head, sending, sent, met, taking, last_of, closing, spent, first_view, IsLeft}
+use Rattle.ce_lock.specs.OneOrder.{IsQueue, IsFair, IsHeaded, IsSeated, IsGone, IsMissable, IsLast, IsTold, IsInOrder}
+use Rattle.ce_lock.specs.Telling.{nowhere, nobody, copy, view_after_making, next_head, view_with_out, actor_view, view_after_meeting, view_after_joining, last_of, view_after_closing, spent_view, first_view, IsLeft}
 use Rattle.ce_lock.proofs.Seats.{at_same, at_other, at_one, at_added, map_added, map_kept, each_kept, each_added, each_unset}
 use Rattle.ce_lock.proofs.Tickets.{come}
 use Rattle.ce_lock.proofs.Fair.{used, still_in, copy_comes, copy_gone, sends, sent_gone, makes, made_gone, spent_gone, copy_goes, head_goes, head_gone, takes_back, back_gone}
 use Rattle.ce_lock.proofs.Histories.{every_map, every_both, every_back, told_copy, told_fresh, told_sent, told_sender, told_joins, told_last, longer_is}
-use Rattle.ce_lock.proofs.Moves.{is_true_or_false, Rule, right_at, place_at, not_spent}
+use Rattle.ce_lock.proofs.Moves.{is_true_or_false, right_at, place_at, not_spent}
 
 clash : {P : Type 0} → false ≡ true → P
 clash e = absurd (cc)
@@ -44,8 +44,8 @@ whole_second xs a ys b h p q is = ⊎_elim
     (longer_is xs a ys b h p q)
 
 module _ {O E F : Type 0} (m : Meanings O E F) (o : O) (families : ℕ) where
-  abbrev R : State O (View O E) → Type 0
-  R = Rule m o families
+  abbrev IsRuled : State O (View O E) → Type 0
+  IsRuled = IsInOrder m o families
 
   abbrev rights : List (View O E) → List Right
   rights vs = map (λ w. w.right) vs
@@ -54,11 +54,11 @@ module _ {O E F : Type 0} (m : Meanings O E F) (o : O) (families : ℕ) where
   places vs = map (λ w. w.place) vs
 
   -- a seat comes, and the one that it comes from has another right, and all else as before
-  comes : (s : State O (View O E)) (r : R s) (id : ℕ) (v : View O E) (right : Right) (u : View O E) → get_elem? s.views id ≡ some v → u.place ≡ nowhere → right.draws ≡ v.right.draws → right.spent ≡ v.right.spent
+  comes : (s : State O (View O E)) (r : IsRuled s) (id : ℕ) (v : View O E) (right : Right) (u : View O E) → get_elem? s.views id ≡ some v → u.place ≡ nowhere → right.draws ≡ v.right.draws → right.spent ≡ v.right.spent
       → IsFair families (set (rights s.views) id right ++ u.right ∷ []) → ((family : ℕ) → IsGone (rights s.views) family → IsGone (set (rights s.views) id right ++ u.right ∷ []) family)
       → (right.spent ≡ false → IsTold m o r.history right v.page) → (u.right.spent ≡ false → IsTold m o r.history u.right u.page) → u.page.lasts ≡ []
       → (0 < right.heads → Every (λ e. (m.whose e).family < right.heads) r.history) → (0 < u.right.heads → Every (λ e. (m.whose e).family < u.right.heads) r.history)
-      → R record { words = s.words; homes = s.homes; views = set s.views id (record v { right = right }) ++ u ∷ [] }
+      → IsRuled record { words = s.words; homes = s.homes; views = set s.views id (record v { right = right }) ++ u ∷ [] }
   comes s r id v right u at idle draws live fair gone told told_u lasts_u made made_u = let w : View O E = record v { right = right } in let vs : List (View O E) = set s.views id w in
       let rights_are : rights (vs ++ u ∷ []) ≡ set (rights s.views) id right ++ u.right ∷ [] = map_added (λ x. x.right) vs u ∙ ap (λ (l : List Right). l ++ u.right ∷ []) (map-set (λ x. x.right) s.views id w) in
       let places_are : places (vs ++ u ∷ []) ≡ places s.views ++ nowhere ∷ [] = map_added (λ x. x.place) vs u
@@ -99,13 +99,13 @@ module _ {O E F : Type 0} (m : Meanings O E F) (o : O) (families : ℕ) where
   same_rights : (s : State O (View O E)) (id : ℕ) (v : View O E) → get_elem? s.views id ≡ some v → set (rights s.views) id v.right ≡ rights s.views
   same_rights s id v at = set_again (rights s.views) id v.right (at_map (λ (w : View O E). w.right) s.views id v at)
 
-  pub copies : (id : ℕ) (v : View O E) → v.right.spent ≡ false → Splits R id v v (copy v)
+  pub copies : (id : ℕ) (v : View O E) → v.right.spent ≡ false → Splits IsRuled id v v (copy v)
   copies id v live s r at = comes s r id v v.right (copy v) at refl refl refl
       (subst (λ (l : List Right). IsFair families (l ++ nobody ∷ [])) (sym (same_rights s id v at)) (copy_comes families (rights s.views) r.fair))
       (λ family g. subst (λ (l : List Right). IsGone (l ++ nobody ∷ []) family) (sym (same_rights s id v at)) (copy_gone families (rights s.views) r.fair family g))
       (r.told id v at) (λ _. told_copy m o r.history v.right nobody v.page [] (r.told id v at live) refl) refl (r.made id v at) (λ z. absurd (omega arith))
 
-  pub makes_head : (id : ℕ) (v : View O E) → v.right.spent ≡ false → 0 < v.right.heads → v.right.heads < families → Splits R id v (making v) (next_head v)
+  pub makes_head : (id : ℕ) (v : View O E) → v.right.spent ≡ false → 0 < v.right.heads → v.right.heads < families → Splits IsRuled id v (view_after_making v) (next_head v)
   makes_head id v live some_heads room s r at = let family_below = r.made id v at some_heads in let at' = at_map (λ (w : View O E). w.right) s.views id v at in
       let told = r.told id v at live in comes s r id v (record v.right { heads = 0 }) (next_head v) at refl refl refl
       (makes families (rights s.views) r.fair id v.right at' some_heads room)
@@ -115,26 +115,26 @@ module _ {O E F : Type 0} (m : Meanings O E F) (o : O) (families : ℕ) where
       (every_map (λ e. (m.whose e).family < v.right.heads) (λ e. (m.whose e).family ≢ v.right.heads) (λ e l is. absurd (omega arith)) r.history family_below)) refl
       (λ z. absurd (omega arith)) (λ _. every_map (λ e. (m.whose e).family < v.right.heads) (λ e. (m.whose e).family < v.right.heads + 1) (λ e l. omega arith) r.history family_below)
 
-  pub sends_out : (id a : ℕ) (v : View O E) → v.right.draws ≡ true → v.right.actor ≡ HOST → a ≢ HOST → a < 2 ^ 32 → ¬ IsIn a v.right.away → Splits R id v (sending a v) (sent m.whose a v)
+  pub sends_out : (id a : ℕ) (v : View O E) → v.right.draws ≡ true → v.right.actor ≡ HOST → a ≢ HOST → a < 2 ^ 32 → ¬ IsIn a v.right.away → Splits IsRuled id v (view_with_out a v) (actor_view m.whose a v)
   sends_out id a v d host other small free s r at = let at' = at_map (λ (w : View O E). w.right) s.views id v at in let told = r.told id v at (not_spent m o families s r id v at d) in
-      comes s r id v (record v.right { away = a ∷ v.right.away }) (sent m.whose a v) at refl refl refl
+      comes s r id v (record v.right { away = a ∷ v.right.away }) (actor_view m.whose a v) at refl refl refl
       (sends families (rights s.views) r.fair id a v.right at' d host other small free)
       (sent_gone families (rights s.views) r.fair id a v.right at' d host other small free)
       (λ _. told_sender m o r.history v.right v.page a told) (λ _. told_sent m o r.history v.right v.page a told d host other free) refl (r.made id v at) (λ z. absurd (omega arith))
 
   -- a seat goes into another, which keeps its place
-  goes : (s : State O (View O E)) (r : R s) (id other : ℕ) (v w both : View O E) → get_elem? s.views id ≡ some v → ¬ (other ≡ id) → get_elem? s.views other ≡ some w
+  goes : (s : State O (View O E)) (r : IsRuled s) (id other : ℕ) (v w both : View O E) → get_elem? s.views id ≡ some v → ¬ (other ≡ id) → get_elem? s.views other ≡ some w
       → v.place ≡ nowhere → w.place ≡ nowhere → both.place ≡ nowhere → both.right.spent ≡ false
       → IsFair families (set (set (rights s.views) id both.right) other used) → ((family : ℕ) → IsGone (rights s.views) family → IsGone (set (set (rights s.views) id both.right) other used) family)
       → Every (λ l. IsGone (set (set (rights s.views) id both.right) other used) l.family) both.page.lasts
       → IsTold m o r.history both.right both.page → (0 < both.right.heads → Every (λ e. (m.whose e).family < both.right.heads) r.history)
       → (v.page.seen ≡ r.history → both.page.seen ≡ r.history) → (w.page.seen ≡ r.history → both.page.seen ≡ r.history)
-      → R record { words = s.words; homes = s.homes; views = set (set s.views id both) other spent }
-  goes s r id other v w both at ne at_w idle idle_w idle_both live fair gone lasts told made seen_v seen_w = let vs : List (View O E) = set s.views id both in let us : List (View O E) = set vs other spent in
+      → IsRuled record { words = s.words; homes = s.homes; views = set (set s.views id both) other spent_view }
+  goes s r id other v w both at ne at_w idle idle_w idle_both live fair gone lasts told made seen_v seen_w = let vs : List (View O E) = set s.views id both in let us : List (View O E) = set vs other spent_view in
       let there : get_elem? vs other ≡ some w = at_other s.views id other w both ne at_w in
-      let rights_are : rights us ≡ set (set (rights s.views) id both.right) other used = map-set (λ x. x.right) vs other spent ∙ ap (λ (l : List Right). set l other used) (map-set (λ x. x.right) s.views id both) in
-      let places_are : places us ≡ places s.views = map_kept (λ (x : View O E). x.place) vs other w spent there (sym idle_w) ∙ map_kept (λ (x : View O E). x.place) s.views id v both at (idle_both ∙ sym idle) in
-      let still : get_elem? us id ≡ some both = at_other vs other id both spent (λ e. ne (sym e)) (at_same s.views id v both at) in
+      let rights_are : rights us ≡ set (set (rights s.views) id both.right) other used = map-set (λ x. x.right) vs other spent_view ∙ ap (λ (l : List Right). set l other used) (map-set (λ x. x.right) s.views id both) in
+      let places_are : places us ≡ places s.views = map_kept (λ (x : View O E). x.place) vs other w spent_view there (sym idle_w) ∙ map_kept (λ (x : View O E). x.place) s.views id v both at (idle_both ∙ sym idle) in
+      let still : get_elem? us id ≡ some both = at_other vs other id both spent_view (λ e. ne (sym e)) (at_same s.views id v both at) in
       record {
         now = r.now;
         next = r.next;
@@ -144,25 +144,25 @@ module _ {O E F : Type 0} (m : Meanings O E F) (o : O) (families : ℕ) where
         short = r.short;
         queue = subst (IsQueue r.now r.next) (sym places_are) r.queue;
         fair = subst (IsFair families) (sym rights_are) fair;
-        entitled = each_kept (λ (x : View O E). x.place.drawn ≡ true → x.right.draws ≡ true) vs other spent (λ e. clash e)
+        entitled = each_kept (λ (x : View O E). x.place.drawn ≡ true → x.right.draws ≡ true) vs other spent_view (λ e. clash e)
             (each_kept (λ (x : View O E). x.place.drawn ≡ true → x.right.draws ≡ true) s.views id both (λ e. clash (sym (ap (λ (p : Place). p.drawn) idle_both) ∙ e)) r.entitled);
         home = λ all. r.home (each_unset (λ (x : View O E). x.place.out ≡ false) s.views id v both at (ap (λ (p : Place). p.out) idle)
-            (each_unset (λ (x : View O E). x.place.out ≡ false) vs other w spent there (ap (λ (p : Place). p.out) idle_w) all));
-        informed = each_kept (λ (x : View O E). x.place.out ≡ true → x.page.seen ≡ r.history) vs other spent (λ e. clash e)
+            (each_unset (λ (x : View O E). x.place.out ≡ false) vs other w spent_view there (ap (λ (p : Place). p.out) idle_w) all));
+        informed = each_kept (λ (x : View O E). x.place.out ≡ true → x.page.seen ≡ r.history) vs other spent_view (λ e. clash e)
             (each_kept (λ (x : View O E). x.place.out ≡ true → x.page.seen ≡ r.history) s.views id both (λ e. clash (sym (ap (λ (p : Place). p.out) idle_both) ∙ e)) r.informed);
-        told = each_kept (λ (x : View O E). x.right.spent ≡ false → IsTold m o r.history x.right x.page) vs other spent (λ e. clash (sym e))
+        told = each_kept (λ (x : View O E). x.right.spent ≡ false → IsTold m o r.history x.right x.page) vs other spent_view (λ e. clash (sym e))
             (each_kept (λ (x : View O E). x.right.spent ≡ false → IsTold m o r.history x.right x.page) s.views id both (λ _. told) r.told);
         gone = subst (λ (rs : List Right). AtEach us (λ x. Every (λ l. IsGone rs l.family) x.page.lasts)) (sym rights_are)
-            (each_kept (λ (x : View O E). Every (λ l. IsGone (set (set (rights s.views) id both.right) other used) l.family) x.page.lasts) vs other spent tt
+            (each_kept (λ (x : View O E). Every (λ l. IsGone (set (set (rights s.views) id both.right) other used) l.family) x.page.lasts) vs other spent_view tt
             (each_kept (λ (x : View O E). Every (λ l. IsGone (set (set (rights s.views) id both.right) other used) l.family) x.page.lasts) s.views id both lasts
             (λ j x e. every_map (λ (l : Last E). IsGone (rights s.views) l.family) (λ l. IsGone (set (set (rights s.views) id both.right) other used) l.family) (λ l h. gone l.family h) x.page.lasts (r.gone j x e))));
-        made = each_kept (λ (x : View O E). 0 < x.right.heads → Every (λ e. (m.whose e).family < x.right.heads) r.history) vs other spent (λ z. absurd (omega arith))
+        made = each_kept (λ (x : View O E). 0 < x.right.heads → Every (λ e. (m.whose e).family < x.right.heads) r.history) vs other spent_view (λ z. absurd (omega arith))
             (each_kept (λ (x : View O E). 0 < x.right.heads → Every (λ e. (m.whose e).family < x.right.heads) r.history) s.views id both made r.made);
         longest = let l = r.longest in dite (ℕ_discrete l.0 id)
             (λ is. (id, both, still, live, seen_v (ap (λ (z : View O E). z.page.seen) (at_one s.views id v l.1 at (ap (get_elem? s.views) (sym is) ∙ l.2)) ∙ l.4)))
             (λ not_id. dite (ℕ_discrete l.0 other)
             (λ is. (id, both, still, live, seen_w (ap (λ (z : View O E). z.page.seen) (at_one s.views other w l.1 at_w (ap (get_elem? s.views) (sym is) ∙ l.2)) ∙ l.4)))
-            (λ not_other. (l.0, l.1, at_other vs other l.0 l.1 spent not_other (at_other s.views id l.0 l.1 both not_id l.2), l.3, l.4)));
+            (λ not_other. (l.0, l.1, at_other vs other l.0 l.1 spent_view not_other (at_other s.views id l.0 l.1 both not_id l.2), l.3, l.4)));
       }
 
   -- what is at another place than the one that was set
@@ -170,13 +170,13 @@ module _ {O E F : Type 0} (m : Meanings O E F) (o : O) (families : ℕ) where
   was_there vs id other w both ne e = sym (set_else vs id other both ne) ∙ e
 
   -- a copy goes into a view
-  pub meets : (id other : ℕ) (v w : View O E) → v.place ≡ nowhere → v.right.spent ≡ false → w.place ≡ nowhere → w.right ≡ nobody → Joins R id v other w (met v w) spent
-  meets id other v w idle live idle_w copied s r at ne there = let at_w = was_there s.views id other w (met v w) ne there in let told = r.told id v at live in
+  pub meets : (id other : ℕ) (v w : View O E) → v.place ≡ nowhere → v.right.spent ≡ false → w.place ≡ nowhere → w.right ≡ nobody → Joins IsRuled id v other w (view_after_meeting v w) spent_view
+  meets id other v w idle live idle_w copied s r at ne there = let at_w = was_there s.views id other w (view_after_meeting v w) ne there in let told = r.told id v at live in
       let told_w = r.told other w at_w (ap (λ (x : Right). x.spent) copied) in
       let at_r : get_elem? (rights s.views) other ≡ some w.right = at_map (λ (x : View O E). x.right) s.views other w at_w in
       let back : set (set (rights s.views) id v.right) other used ≡ set (rights s.views) other used = ap (λ (l : List Right). set l other used) (same_rights s id v at) in
       let gone : (family : ℕ) → IsGone (rights s.views) family → IsGone (set (set (rights s.views) id v.right) other used) family = λ family g. subst (λ (l : List Right). IsGone l family) (sym back) (spent_gone families (rights s.views) r.fair other family g) in
-      goes s r id other v w (met v w) at ne at_w idle idle_w idle live
+      goes s r id other v w (view_after_meeting v w) at ne at_w idle idle_w idle live
       (subst (IsFair families) (sym back) (copy_goes families (rights s.views) r.fair other w.right at_r (ap (λ (x : Right). x.draws) copied)))
       gone
       (every_map (λ (l : Last E). IsGone (rights s.views) l.family) (λ l. IsGone (set (set (rights s.views) id v.right) other used) l.family) (λ l h. gone l.family h) v.page.lasts (r.gone id v at))
@@ -187,24 +187,24 @@ module _ {O E F : Type 0} (m : Meanings O E F) (o : O) (families : ℕ) where
 
   -- a worker goes into the head of its family
   pub takes_in : (id other : ℕ) (v w : View O E) → v.place ≡ nowhere → v.right.draws ≡ true → v.right.actor ≡ HOST → w.place ≡ nowhere → w.right.draws ≡ true → w.right.family ≡ v.right.family → IsIn w.right.actor v.right.away
-      → Joins R id v other w (taking v w) spent
-  takes_in id other v w idle d host idle_w dw family within s r at ne there = let at_w = was_there s.views id other w (taking v w) ne there in
+      → Joins IsRuled id v other w (view_after_joining v w) spent_view
+  takes_in id other v w idle d host idle_w dw family within s r at ne there = let at_w = was_there s.views id other w (view_after_joining v w) ne there in
       let live = not_spent m o families s r id v at d in let told = r.told id v at live in let told_w = r.told other w at_w (not_spent m o families s r other w at_w dw) in
       let at_r = right_at m o families s.views id v at in let at_rw = right_at m o families s.views other w at_w in
       let worker : w.right.actor ≢ HOST = (r.fair.seated id v.right at_r d host w.right.actor within).0 in
-      let gone : (f : ℕ) → IsGone (rights s.views) f → IsGone (set (set (rights s.views) id (taking v w).right) other used) f = back_gone families (rights s.views) r.fair id other v.right w.right at_r d host at_rw dw family worker in
-      goes s r id other v w (taking v w) at ne at_w idle idle_w idle live
+      let gone : (f : ℕ) → IsGone (rights s.views) f → IsGone (set (set (rights s.views) id (view_after_joining v w).right) other used) f = back_gone families (rights s.views) r.fair id other v.right w.right at_r d host at_rw dw family worker in
+      goes s r id other v w (view_after_joining v w) at ne at_w idle idle_w idle live
       (takes_back families (rights s.views) r.fair id other v.right w.right at_r d host at_rw dw family worker)
       gone
-      (every_map (λ (l : Last E). IsGone (rights s.views) l.family) (λ l. IsGone (set (set (rights s.views) id (taking v w).right) other used) l.family) (λ l h. gone l.family h) v.page.lasts (r.gone id v at))
-      (told_joins m o r.history v.right (taking v w).right v.page w.page.seen told_w.missed v.page.lasts told told_w.whole refl refl told.lasts
-      (λ _ es h mid e. every_both (IsMissable m v.right) (IsMissable m w.right) (IsMissable m (taking v w).right) (both_miss v w family) es h
+      (every_map (λ (l : Last E). IsGone (rights s.views) l.family) (λ l. IsGone (set (set (rights s.views) id (view_after_joining v w).right) other used) l.family) (λ l h. gone l.family h) v.page.lasts (r.gone id v at))
+      (told_joins m o r.history v.right (view_after_joining v w).right v.page w.page.seen told_w.missed v.page.lasts told told_w.whole refl refl told.lasts
+      (λ _ es h mid e. every_both (IsMissable m v.right) (IsMissable m w.right) (IsMissable m (view_after_joining v w).right) (both_miss v w family) es h
       (every_back (IsMissable m w.right) mid es (subst (Every (IsMissable m w.right)) (sym e) (told_w.missable dw)))))
       (r.made id v at)
       (λ is. whole_first v.page.seen told.missed w.page.seen told_w.missed r.history told.whole told_w.whole is)
       (λ is. whole_second v.page.seen told.missed w.page.seen told_w.missed r.history told.whole told_w.whole is)
     where
-      both_miss : (v w : View O E) → w.right.family ≡ v.right.family → (e : E) → IsMissable m v.right e → IsMissable m w.right e → IsMissable m (taking v w).right e
+      both_miss : (v w : View O E) → w.right.family ≡ v.right.family → (e : E) → IsMissable m v.right e → IsMissable m w.right e → IsMissable m (view_after_joining v w).right e
       both_miss v w family e x y = (
         x.0,
         λ host same. still_in w.right.actor (m.whose e).actor v.right.away
@@ -214,12 +214,12 @@ module _ {O E F : Type 0} (m : Meanings O E F) (o : O) (families : ℕ) where
 
   -- a head with nobody out goes, and a copy keeps what it knows
   pub closes : (id other : ℕ) (v w : View O E) → v.place ≡ nowhere → v.right ≡ nobody → w.place ≡ nowhere → w.right.draws ≡ true → w.right.actor ≡ HOST → w.right.away ≡ [] → w.page.earlier ≡ []
-      → Joins R id v other w (closing v w) spent
-  closes id other v w idle copied idle_w dw host alone fresh s r at ne there = let at_w = was_there s.views id other w (closing v w) ne there in let live : v.right.spent ≡ false = ap (λ (x : Right). x.spent) copied in
+      → Joins IsRuled id v other w (view_after_closing v w) spent_view
+  closes id other v w idle copied idle_w dw host alone fresh s r at ne there = let at_w = was_there s.views id other w (view_after_closing v w) ne there in let live : v.right.spent ≡ false = ap (λ (x : Right). x.spent) copied in
       let told = r.told id v at live in let told_w = r.told other w at_w (not_spent m o families s r other w at_w dw) in let at_rw = right_at m o families s.views other w at_w in
       let back : set (set (rights s.views) id v.right) other used ≡ set (rights s.views) other used = ap (λ (l : List Right). set l other used) (same_rights s id v at) in
       let gone : (f : ℕ) → IsGone (rights s.views) f → IsGone (set (set (rights s.views) id v.right) other used) f = λ f g. subst (λ (l : List Right). IsGone l f) (sym back) (spent_gone families (rights s.views) r.fair other f g) in
-      goes s r id other v w (closing v w) at ne at_w idle idle_w idle live
+      goes s r id other v w (view_after_closing v w) at ne at_w idle idle_w idle live
       (subst (IsFair families) (sym back) (head_goes families (rights s.views) r.fair other w.right at_rw dw host alone))
       gone (
         subst (λ (l : List Right). IsGone l w.right.family) (sym back) (head_gone families (rights s.views) r.fair other w.right at_rw dw host alone),
@@ -239,7 +239,7 @@ module _ {O E F : Type 0} (m : Meanings O E F) (o : O) (families : ℕ) where
   only_place a i x e = ⊎_elim (λ (t : get_elem? [] i ≡ some x). absurd (some-ne-none x (sym t))) (λ (t : (i ≡ 0) × (a ≡ x)). t.0) (at_added [] a i x e)
 
   -- a book begins with its rule
-  pub starts : m.history o ≡ [] → m.lawful (m.fixed o) [] → 0 < families → families < 2 ^ 32 → R (opening (0 ∷ 0 ∷ 0 ∷ []) (o ∷ []) (first_view o))
+  pub starts : m.history o ≡ [] → m.lawful (m.fixed o) [] → 0 < families → families < 2 ^ 32 → IsRuled (opening (0 ∷ 0 ∷ 0 ∷ []) (o ∷ []) (first_view o))
   starts empty lawful some_families few = let v : View O E = first_view o in record {
     now = 0;
     next = 0;
@@ -283,7 +283,7 @@ module _ {O E F : Type 0} (m : Meanings O E F) (o : O) (families : ℕ) where
   gone_in rs (l ∷ ls) f g h = ⊎_elim (λ (t : f ≡ l.family). subst (IsGone rs) (sym t) g.0) (λ (t : IsIn f (map (λ (l : Last E). l.family) ls)). gone_in rs ls f g.1 t) h
 
   -- where the heads of all families went, the object is home, with the history that each of them saw
-  pub ends : (ws : List ℕ) (xs : List O) (id : ℕ) (v : View O E) → Final (Seen R id v) ws xs → v.right.spent ≡ false → ((f : ℕ) → f < families → IsIn f (map (λ l. l.family) v.page.lasts))
+  pub ends : (ws : List ℕ) (xs : List O) (id : ℕ) (v : View O E) → Final (Seen IsRuled id v) ws xs → v.right.spent ≡ false → ((f : ℕ) → f < families → IsIn f (map (λ l. l.family) v.page.lasts))
       → (y : O) → get_elem? xs 0 ≡ some y → IsLeft m o v.page.lasts y
   ends ws xs id v final live all y is = let s = final.0 in let r = final.1.0 in let at = final.1.1 in
       let told = r.told id v at live in let home = r.home (λ j u e. nobody_out s r id v at all j u e) in
@@ -295,7 +295,7 @@ module _ {O E F : Type 0} (m : Meanings O E F) (o : O) (families : ℕ) where
         each = subst (λ (h : List E). Every (IsLast m h) v.page.lasts) history told.lasts;
       }
     where
-      nobody_out : (s : State O (View O E)) (r : R s) (id : ℕ) (v : View O E) → get_elem? s.views id ≡ some v → ((f : ℕ) → f < families → IsIn f (map (λ l. l.family) v.page.lasts))
+      nobody_out : (s : State O (View O E)) (r : IsRuled s) (id : ℕ) (v : View O E) → get_elem? s.views id ≡ some v → ((f : ℕ) → f < families → IsIn f (map (λ l. l.family) v.page.lasts))
           → (j : ℕ) (u : View O E) → get_elem? s.views j ≡ some u → u.place.out ≡ false
       nobody_out s r id v at all j u e = ⊎_elim
           (λ (out : u.place.out ≡ true). let there = place_at m o families s.views j u e in let turn = r.queue.out j u.place there out in let draws = r.entitled j u e (r.queue.turn j u.place there turn).0 in

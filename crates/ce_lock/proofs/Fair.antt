@@ -57,6 +57,19 @@ module _ (families : ℕ) (rs : List Right) (f : IsFair families rs) where
       let here : h.at ≡ id = one_head h.at id h.head r h.there at h.draws d h.host host (h.family ∙ same) in
       subst (λ (z : Right). IsIn x.actor z.away) (at_one rs id h.head r (ap (get_elem? rs) (sym here) ∙ h.there) at) (h.away other)
 
+  -- where a right was headed, one alike is headed by a head alike that has its actor out
+  headed_alike : (rs' : List Right) (x y k : Right) (h : IsHeaded rs y) → IsAlike x y → get_elem? rs' h.at ≡ some k → IsAlike k h.head
+      → (IsIn y.actor h.head.away → IsIn y.actor k.away) → IsHeaded rs' x
+  headed_alike rs' x y k h like there same still_out = record {
+    at = h.at;
+    head = k;
+    there = there;
+    draws = same.draws ∙ h.draws;
+    host = same.actor ∙ h.host;
+    family = same.family ∙ (h.family ∙ sym like.family);
+    away = λ ne. subst (λ (z : ℕ). IsIn z k.away) (sym like.actor) (still_out (h.away (λ is. ne (like.actor ∙ is))));
+  }
+
   -- a copy comes
   pub copy_comes : IsFair families (rs ++ nobody ∷ [])
   copy_comes = record {
@@ -153,11 +166,13 @@ module _ (families : ℕ) (rs : List Right) (f : IsFair families rs) where
     at_more : get_elem? sent_rights id ≡ some more
     at_more = at_longer (set rs id more) (worker ∷ []) id more (at_same rs id r more at)
 
-    -- an old right is there, or one alike
-    still : (i : ℕ) (x : Right) → get_elem? rs i ≡ some x → (y : Right) × (get_elem? sent_rights i ≡ some y) × IsAlike y x
+    -- an old right is there, or one alike that has no fewer out
+    still : (i : ℕ) (x : Right) → get_elem? rs i ≡ some x
+        → (y : Right) × (get_elem? sent_rights i ≡ some y) × IsAlike y x × ((b : ℕ) → IsIn b x.away → IsIn b y.away)
     still i x e = dite (ℕ_discrete i id)
-        (λ is. (more, ap (get_elem? sent_rights) is ∙ at_more, subst (IsAlike more) (at_one rs id r x at (ap (get_elem? rs) (sym is) ∙ e)) record { spent = refl; draws = refl; family = refl; actor = refl }))
-        (λ ne. (x, at_longer (set rs id more) (worker ∷ []) i x (at_other rs id i x more ne e), alike_self x))
+        (λ is. let same : r ≡ x = at_one rs id r x at (ap (get_elem? rs) (sym is) ∙ e) in
+        (more, ap (get_elem? sent_rights) is ∙ at_more, subst (IsAlike more) same record { spent = refl; draws = refl; family = refl; actor = refl }, λ b was. inr (subst (λ (z : Right). IsIn b z.away) (sym same) was)))
+        (λ ne. (x, at_longer (set rs id more) (worker ∷ []) i x (at_other rs id i x more ne e), alike_self x, λ _ was. was))
 
     -- what is there was, or one alike, or is the worker's
     was : (i : ℕ) (x : Right) → get_elem? sent_rights i ≡ some x → ((y : Right) × (get_elem? rs i ≡ some y) × IsAlike x y × (x.heads ≡ y.heads)) ⊎ ((i ≡ length (set rs id more)) × (worker ≡ x))
@@ -172,27 +187,7 @@ module _ (families : ℕ) (rs : List Right) (f : IsFair families rs) where
     was_free i x e dx same is = in_ (subst (λ (z : ℕ). IsIn z r.away) is (its_head id i r x at d host e dx same (λ h. other (sym is ∙ h))))
 
     headed_still : (x y : Right) → IsHeaded rs y → IsAlike x y → IsHeaded sent_rights x
-    headed_still x y h like = dite (ℕ_discrete h.at id)
-        (λ is. let same : h.head ≡ r = at_one rs id h.head r (ap (get_elem? rs) (sym is) ∙ h.there) at in
-        record {
-          at = id;
-          head = more;
-          there = at_more;
-          draws = d;
-          host = host;
-          family = ap (λ (z : Right). z.family) (sym same) ∙ (h.family ∙ sym like.family);
-          away = λ ne. let was : IsIn y.actor h.head.away = h.away (λ e. ne (like.actor ∙ e)) in
-              inr (subst (λ (z : ℕ). IsIn z r.away) (sym like.actor) (subst (λ (z : Right). IsIn y.actor z.away) same was));
-        })
-        (λ ne. record {
-          at = h.at;
-          head = h.head;
-          there = at_longer (set rs id more) (worker ∷ []) h.at h.head (at_other rs id h.at h.head more ne h.there);
-          draws = h.draws;
-          host = h.host;
-          family = h.family ∙ sym like.family;
-          away = λ ne'. subst (λ (z : ℕ). IsIn z h.head.away) (sym like.actor) (h.away (λ e. ne' (like.actor ∙ e)));
-        })
+    headed_still x y h like = let k = still h.at h.head h.there in headed_alike sent_rights x y k.0 h like k.1 k.2 (k.3 y.actor)
 
     seated_still : (family b : ℕ) → IsSeated rs family b → IsSeated sent_rights family b
     seated_still family b s = let y = still s.at s.right s.there in
@@ -307,15 +302,7 @@ module _ (families : ℕ) (rs : List Right) (f : IsFair families rs) where
           (had i p ei);
       headed = λ i x e dx. ⊎_elim
           (λ (t : (y : Right) × (get_elem? rs i ≡ some y) × IsAlike x y × (x.away ≡ y.away) × (¬ (0 < x.heads))). let h = f.headed i t.0 t.1 (sym t.2.draws ∙ dx) in let k = keeps_at h.at h.head h.there in
-          record {
-            at = h.at;
-            head = k.0;
-            there = k.1;
-            draws = k.2.draws ∙ h.draws;
-            host = k.2.actor ∙ h.host;
-            family = k.2.family ∙ (h.family ∙ sym t.2.family);
-            away = λ ne. let was : IsIn t.0.actor h.head.away = h.away (λ is. ne (t.2.actor ∙ is)) in subst (λ (z : ℕ). IsIn z k.0.away) (sym t.2.actor) (subst (IsIn t.0.actor) k.3 was);
-          })
+          headed_alike made_rights x t.0 k.0 h t.2 k.1 k.2 (subst (IsIn t.0.actor) k.3))
           (λ (t : (i ≡ length (set rs id maker_now)) × (head_now ≡ x)). subst (IsHeaded made_rights) t.1
           record { at = length (set rs id maker_now); head = head_now; there = at_end (set rs id maker_now) head_now; draws = refl; host = refl; family = refl; away = λ ne. absurd (ne refl) })
           (had i x e);
@@ -375,34 +362,23 @@ module _ (families : ℕ) (rs : List Right) (f : IsFair families rs) where
         (λ (s : get_elem? rs i ≡ some x). inr (t.0, x, s, alike_self x, refl)) t.1)
         (old i x e)
 
-    keeps_but : (i : ℕ) (x : Right) → i ≢ o → get_elem? rs i ≡ some x → (y : Right) × (get_elem? back_rights i ≡ some y) × IsAlike y x
+    -- an old right is there, or one alike that has no fewer out, but for the worker
+    keeps_but : (i : ℕ) (x : Right) → i ≢ o → get_elem? rs i ≡ some x
+        → (y : Right) × (get_elem? back_rights i ≡ some y) × IsAlike y x × ((b : ℕ) → (x ≡ r → b ≢ w.actor) → IsIn b x.away → IsIn b y.away)
     keeps_but i x ne e = dite (ℕ_discrete i id)
-        (λ is. (less, ap (get_elem? back_rights) is ∙ at_less, subst (IsAlike less) (at_one rs id r x at (ap (get_elem? rs) (sym is) ∙ e)) record { spent = refl; draws = refl; family = refl; actor = refl }))
-        (λ other_id. (x, at_other (set rs id less) o i x used ne (at_other rs id i x less other_id e), alike_self x))
+        (λ is. let same : r ≡ x = at_one rs id r x at (ap (get_elem? rs) (sym is) ∙ e) in (
+          less,
+          ap (get_elem? back_rights) is ∙ at_less,
+          subst (IsAlike less) same record { spent = refl; draws = refl; family = refl; actor = refl },
+          λ b apart was. still_in w.actor b r.away (apart (sym same)) (subst (λ (z : Right). IsIn b z.away) (sym same) was),
+        ))
+        (λ other_id. (x, at_other (set rs id less) o i x used ne (at_other rs id i x less other_id e), alike_self x, λ _ _ was. was))
 
     headed_back : (i : ℕ) (x y : Right) → i ≢ o → get_elem? rs i ≡ some y → y.draws ≡ true → IsAlike x y → IsHeaded back_rights x
-    headed_back i x y ne e dy like = let h = f.headed i y e dy in dite (ℕ_discrete h.at id)
-        (λ is. let same : h.head ≡ r = at_one rs id h.head r (ap (get_elem? rs) (sym is) ∙ h.there) at in
-        record {
-          at = id;
-          head = less;
-          there = at_less;
-          draws = d;
-          host = host;
-          family = ap (λ (z : Right). z.family) (sym same) ∙ (h.family ∙ sym like.family);
-          away = λ not_host. let was : IsIn y.actor r.away = subst (λ (z : Right). IsIn y.actor z.away) same (h.away (λ is. not_host (like.actor ∙ is))) in
-              subst (λ (z : ℕ). IsIn z (without w.actor r.away)) (sym like.actor) (still_in w.actor y.actor r.away
-              (λ is. ne (f.apart i o y w e there dy dw (sym h.family ∙ (ap (λ (z : Right). z.family) same ∙ sym family)) is)) was);
-        })
-        (λ other_id. record {
-          at = h.at;
-          head = h.head;
-          there = at_other (set rs id less) o h.at h.head used (λ is. other (ap (λ (z : Right). z.actor) (sym (at_one rs o h.head w (ap (get_elem? rs) (sym is) ∙ h.there) there)) ∙ h.host)) (at_other rs id h.at h.head less other_id h.there);
-          draws = h.draws;
-          host = h.host;
-          family = h.family ∙ sym like.family;
-          away = λ not_host. subst (λ (z : ℕ). IsIn z h.head.away) (sym like.actor) (h.away (λ is. not_host (like.actor ∙ is)));
-        })
+    headed_back i x y ne e dy like = let h = f.headed i y e dy in
+        let k = keeps_but h.at h.head (λ is. other (ap (λ (z : Right). z.actor) (sym (at_one rs o h.head w (ap (get_elem? rs) (sym is) ∙ h.there) there)) ∙ h.host)) h.there in
+        headed_alike back_rights x y k.0 h like k.1 k.2
+        (k.3 y.actor (λ same is. ne (f.apart i o y w e there dy dw (sym h.family ∙ (ap (λ (z : Right). z.family) same ∙ sym family)) is)))
 
     seated_back : (i : ℕ) (x : Right) (b : ℕ) → get_elem? rs i ≡ some x → x.draws ≡ true → x.actor ≡ HOST → IsIn b x.away → (i ≡ id → b ≢ w.actor) → (b ≢ HOST) × IsSeated back_rights x.family b
     seated_back i x b e dx hx within apart = let s = f.seated i x e dx hx b within in

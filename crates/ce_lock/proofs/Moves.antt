@@ -18,7 +18,7 @@ use Rattle.ce_lock.specs.declared.view.View.{View}
 use Rattle.ce_lock.specs.Entries.{IsPrefix, Every, AtEach, IsIn, entries_of}
 use Rattle.ce_lock.specs.Meanings.{Meanings}
 use Rattle.ce_lock.specs.OneOrder.{IsQueue, IsFair, IsGone, who_of, IsMissable, IsTold, IsInOrder}
-use Rattle.ce_lock.specs.Telling.{nowhere, waiting, called, holding, moved, reading, wrote, settled, HasDrawn, HasLooked, HasGiven, HasLeft, HasTaken, HasCommitted, IsSettled}
+use Rattle.ce_lock.specs.Telling.{nowhere, place_waiting, place_called, place_holding, view_at, view_with_seen, view_after_entry, settled_view, HasDrawn, HasLooked, HasGiven, HasLeft, HasTaken, HasCommitted, IsSettled}
 use Rattle.ce_lock.proofs.Seats.{at_same, at_other, at_one, at_unmap, map_kept, each_kept, each_set, each_unset}
 use Rattle.ce_lock.proofs.Tickets.{retell, draw, leave, one_at_turn, served}
 use Rattle.ce_lock.proofs.Fair.{its_head}
@@ -68,8 +68,8 @@ module _ {O E F : Type 0} (m : Meanings O E F) (opening : O) (families : ℕ) wh
   abbrev pub M : Type 0
   M = Me O V
 
-  abbrev pub Rule : St → Type 0
-  Rule = IsInOrder m opening families
+  abbrev pub IsRuled : St → Type 0
+  IsRuled = IsInOrder m opening families
 
   abbrev pub place_of : V → Place
   place_of v = v.place
@@ -77,13 +77,13 @@ module _ {O E F : Type 0} (m : Meanings O E F) (opening : O) (families : ℕ) wh
   abbrev pub right_of : V → Right
   right_of v = v.right
 
-  abbrev pub Home : List (Option O) → List E → Type 0
-  Home homes history = (y : O) × (get_elem? homes 0 ≡ some (some y)) × (m.fixed y ≡ m.fixed opening) × (m.history y ≡ history)
+  abbrev pub IsHome : List (Option O) → List E → Type 0
+  IsHome homes history = (y : O) × (get_elem? homes 0 ≡ some (some y)) × (m.fixed y ≡ m.fixed opening) × (m.history y ≡ history)
 
-  abbrev pub Longest : List V → List E → Type 0
-  Longest views history = (i : ℕ) × (v : V) × (get_elem? views i ≡ some v) × (v.right.spent ≡ false) × (v.page.seen ≡ history)
+  abbrev pub HasLongest : List V → List E → Type 0
+  HasLongest views history = (i : ℕ) × (v : V) × (get_elem? views i ≡ some v) × (v.right.spent ≡ false) × (v.page.seen ≡ history)
 
-  longest_kept : (vs : List V) (h : List E) (id : ℕ) (v w : V) → get_elem? vs id ≡ some v → w.right.spent ≡ v.right.spent → (v.page.seen ≡ h → w.page.seen ≡ h) → Longest vs h → Longest (set vs id w) h
+  longest_kept : (vs : List V) (h : List E) (id : ℕ) (v w : V) → get_elem? vs id ≡ some v → w.right.spent ≡ v.right.spent → (v.page.seen ≡ h → w.page.seen ≡ h) → HasLongest vs h → HasLongest (set vs id w) h
   longest_kept vs h id v w at same seen l = dite (ℕ_discrete l.0 id)
       (λ is. let here : v ≡ l.1 = at_one vs id v l.1 at (ap (get_elem? vs) (sym is) ∙ l.2) in
       (id, w, at_same vs id v w at, same ∙ (ap (λ (z : V). z.right.spent) here ∙ l.3), seen (ap (λ (z : V). z.page.seen) here ∙ l.4)))
@@ -97,15 +97,15 @@ module _ {O E F : Type 0} (m : Meanings O E F) (opening : O) (families : ℕ) wh
   place_at vs i v e = at_map place_of vs i v e
 
   -- whoever may draw isn't spent
-  pub not_spent : (s : St) (r : Rule s) (i : ℕ) (v : V) → get_elem? s.views i ≡ some v → v.right.draws ≡ true → v.right.spent ≡ false
+  pub not_spent : (s : St) (r : IsRuled s) (i : ℕ) (v : V) → get_elem? s.views i ≡ some v → v.right.draws ≡ true → v.right.spent ≡ false
   not_spent s r i v e d = (r.fair.plain i v.right (right_at s.views i v e) d).0
 
   -- a step that makes no entry, of a view that keeps its right
-  turns : (s : St) (r : Rule s) (id : ℕ) (v w : V) → get_elem? s.views id ≡ some v → w.right ≡ v.right → w.page.lasts ≡ v.page.lasts
+  turns : (s : St) (r : IsRuled s) (id : ℕ) (v w : V) → get_elem? s.views id ≡ some v → w.right ≡ v.right → w.page.lasts ≡ v.page.lasts
       → (w.right.spent ≡ false → IsTold m opening r.history w.right w.page) → (v.page.seen ≡ r.history → w.page.seen ≡ r.history)
       → (now next : ℕ) (words : List ℕ) → words ≡ next % 2 ^ 64 ∷ now % 2 ^ 64 ∷ length r.history ∷ [] → IsQueue now next (set (map place_of s.views) id w.place)
-      → (w.place.drawn ≡ true → w.right.draws ≡ true) → (homes : List (Option O)) → (AtEach (set s.views id w) (λ u. u.place.out ≡ false) → Home homes r.history)
-      → (w.place.out ≡ true → w.page.seen ≡ r.history) → Rule record { words = words; homes = homes; views = set s.views id w }
+      → (w.place.drawn ≡ true → w.right.draws ≡ true) → (homes : List (Option O)) → (AtEach (set s.views id w) (λ u. u.place.out ≡ false) → IsHome homes r.history)
+      → (w.place.out ≡ true → w.page.seen ≡ r.history) → IsRuled record { words = words; homes = homes; views = set s.views id w }
   turns s r id v w at right lasts told seen now next words words_are queue entitled homes home informed =
       let rights : map right_of (set s.views id w) ≡ map right_of s.views = map_kept right_of s.views id v w at right in record {
         now = now;
@@ -129,22 +129,22 @@ module _ {O E F : Type 0} (m : Meanings O E F) (opening : O) (families : ℕ) wh
       }
 
   -- the same, where only the place changes and the object stays where it is
-  stays : (s : St) (r : Rule s) (id : ℕ) (v : V) (p : Place) → get_elem? s.views id ≡ some v → v.place.out ≡ false → p.out ≡ false
+  stays : (s : St) (r : IsRuled s) (id : ℕ) (v : V) (p : Place) → get_elem? s.views id ≡ some v → v.place.out ≡ false → p.out ≡ false
       → (now next : ℕ) (words : List ℕ) → words ≡ next % 2 ^ 64 ∷ now % 2 ^ 64 ∷ length r.history ∷ [] → IsQueue now next (set (map place_of s.views) id p)
-      → (p.drawn ≡ true → v.right.draws ≡ true) → Rule record { words = words; homes = s.homes; views = set s.views id (moved v p) }
-  stays s r id v p at in_ out now next words words_are queue entitled = turns s r id v (moved v p) at refl refl (λ live. r.told id v at live) (λ e. e) now next words words_are queue entitled s.homes
-      (λ all. r.home (each_unset (λ (u : V). u.place.out ≡ false) s.views id v (moved v p) at in_ all)) (λ e. clash (sym out ∙ e))
+      → (p.drawn ≡ true → v.right.draws ≡ true) → IsRuled record { words = words; homes = s.homes; views = set s.views id (view_at v p) }
+  stays s r id v p at in_ out now next words words_are queue entitled = turns s r id v (view_at v p) at refl refl (λ live. r.told id v at live) (λ e. e) now next words words_are queue entitled s.homes
+      (λ all. r.home (each_unset (λ (u : V). u.place.out ≡ false) s.views id v (view_at v p) at in_ all)) (λ e. clash (sym out ∙ e))
 
   -- nothing changes
-  same_state : (s : St) (i id : ℕ) (v : V) → get_elem? s.views id ≡ some v → Rule s → Rule record { words = set s.words i (get_or s.words i 0); homes = s.homes; views = set s.views id v }
-  same_state s i id v at r = subst (λ (z : List ℕ × List V). Rule record { words = z.0; homes = s.homes; views = z.1 }) (λ k. (sym (set-get_or s.words i 0) k, sym (set_again s.views id v at) k)) r
+  same_state : (s : St) (i id : ℕ) (v : V) → get_elem? s.views id ≡ some v → IsRuled s → IsRuled record { words = set s.words i (get_or s.words i 0); homes = s.homes; views = set s.views id v }
+  same_state s i id v at r = subst (λ (z : List ℕ × List V). IsRuled record { words = z.0; homes = s.homes; views = z.1 }) (λ k. (sym (set-get_or s.words i 0) k, sym (set_again s.views id v at) k)) r
 
   -- a look leaves the words as they are
-  same_words : (s : St) (r : Rule s) (i : ℕ) → set s.words i (get_or s.words i 0) ≡ r.next % 2 ^ 64 ∷ r.now % 2 ^ 64 ∷ length r.history ∷ []
+  same_words : (s : St) (r : IsRuled s) (i : ℕ) → set s.words i (get_or s.words i 0) ≡ r.next % 2 ^ 64 ∷ r.now % 2 ^ 64 ∷ length r.history ∷ []
   same_words s r i = set-get_or s.words i 0 ∙ r.words
 
   -- fewer than 2^64 tickets are out, and one more may be
-  few_out : (s : St) (r : Rule s) (id : ℕ) (v : V) → get_elem? s.views id ≡ some v → v.place.drawn ≡ false → v.right.draws ≡ true → suc r.next < r.now + 2 ^ 64
+  few_out : (s : St) (r : IsRuled s) (id : ℕ) (v : V) → get_elem? s.views id ≡ some v → v.place.drawn ≡ false → v.right.draws ≡ true → suc r.next < r.now + 2 ^ 64
   few_out s r id v at idle d = let up : r.now ≤ r.next = r.queue.up in
       let Has : ℕ → ℕ → V → Type 0 = λ k i w. ((w.place.drawn ≡ true) × (w.place.ticket ≡ r.now + k)) ⊎ ((r.now + k ≡ r.next) × (i ≡ id)) in
       let R : ℕ → ℕ → Type 0 = λ k c. (i : ℕ) × (w : V) × (get_elem? s.views i ≡ some w) × (w.right.draws ≡ true) × (w.right.family * 4294967296 + w.right.actor ≡ c) × Has k i w in
@@ -171,32 +171,32 @@ module _ {O E F : Type 0} (m : Meanings O E F) (opening : O) (families : ℕ) wh
       (λ (b : (r.now + j ≡ r.next) × (y.0 ≡ id)). let e : r.now + i ≡ r.now + j = a.0 ∙ sym b.0 in omega arith) y.5) x.5) in
       omega arith
 
-  pub draws : (slots id : ℕ) (me : M) → me.0.place ≡ nowhere → me.0.right.draws ≡ true → Allows Rule slots id me 0 (λ n. (n + 1) % 2 ^ 64) (HasDrawn me)
+  pub draws : (slots id : ℕ) (me : M) → me.0.place ≡ nowhere → me.0.right.draws ≡ true → Allows IsRuled slots id me 0 (λ n. (n + 1) % 2 ^ 64) (HasDrawn me)
   draws slots id me idle d s r _ at _ =
       let word : get_or s.words 0 0 ≡ r.next % 2 ^ 64 = ap (λ (l : List ℕ). get_or l 0 0) r.words in
       let not_drawn : me.0.place.drawn ≡ false = ap (λ (p : Place). p.drawn) idle in (
-        moved me.0 (waiting r.next),
+        view_at me.0 (place_waiting r.next),
         keeps,
         tt,
-        stays s r id me.0 (waiting r.next) at (ap (λ (p : Place). p.out) idle) refl r.now (suc r.next) (set s.words 0 ((get_or s.words 0 0 + 1) % 2 ^ 64))
+        stays s r id me.0 (place_waiting r.next) at (ap (λ (p : Place). p.out) idle) refl r.now (suc r.next) (set s.words 0 ((get_or s.words 0 0 + 1) % 2 ^ 64))
             (ap (λ (z : ℕ). set s.words 0 ((z + 1) % 2 ^ 64)) word ∙ (ap (set s.words 0) (next_word r.next) ∙ first_word s.words (r.next % 2 ^ 64) (r.now % 2 ^ 64) (length r.history) (suc r.next % 2 ^ 64) r.words))
             (draw r.now r.next (map place_of s.views) r.queue id me.0.place (place_at s.views id me.0 at) not_drawn (few_out s r id me.0 at not_drawn d)) (λ _. d),
         record { ticket = r.next; found_is = sym word; after_is = refl },
       )
 
-  pub looks : (slots id : ℕ) (me : M) (t : ℕ) → me.0.place ≡ waiting t → Allows Rule slots id me 1 (λ n. n) (HasLooked me)
+  pub looks : (slots id : ℕ) (me : M) (t : ℕ) → me.0.place ≡ place_waiting t → Allows IsRuled slots id me 1 (λ n. n) (HasLooked me)
   looks slots id me t is s r _ at _ =
       let word : get_or s.words 1 0 ≡ r.now % 2 ^ 64 = ap (λ (l : List ℕ). get_or l 1 0) r.words in
       let drawn : me.0.place.drawn ≡ true = ap (λ (p : Place). p.drawn) is in let ticket : me.0.place.ticket ≡ t = ap (λ (p : Place). p.ticket) is in
       dite (ℕ_discrete (get_or s.words 1 0) (t % 2 ^ 64))
       (λ here. let now : t ≡ r.now = sym ticket ∙ served r.now r.next (map place_of s.views) r.queue id me.0.place (place_at s.views id me.0 at) drawn (sym word ∙ (here ∙ ap (λ (z : ℕ). z % 2 ^ 64) (sym ticket))) in (
-        moved me.0 (called t),
+        view_at me.0 (place_called t),
         keeps,
         tt,
-        stays s r id me.0 (called t) at (ap (λ (p : Place). p.out) is) refl r.now r.next (set s.words 1 (get_or s.words 1 0)) (same_words s r 1)
-            (retell r.now r.next (map place_of s.views) r.queue id me.0.place (called t) (place_at s.views id me.0 at) drawn refl (sym ticket) (λ _. now) (λ e. clash e)) (λ _. r.entitled id me.0 at drawn),
+        stays s r id me.0 (place_called t) at (ap (λ (p : Place). p.out) is) refl r.now r.next (set s.words 1 (get_or s.words 1 0)) (same_words s r 1)
+            (retell r.now r.next (map place_of s.views) r.queue id me.0.place (place_called t) (place_at s.views id me.0 at) drawn refl (sym ticket) (λ _. now) (λ e. clash e)) (λ _. r.entitled id me.0 at drawn),
         record {
-          yes = λ t' is' _. let same : t ≡ t' = sym ticket ∙ ap (λ (p : Place). p.ticket) is' in ap (λ (z : ℕ). (moved me.0 (called z), me.1)) same;
+          yes = λ t' is' _. let same : t ≡ t' = sym ticket ∙ ap (λ (p : Place). p.ticket) is' in ap (λ (z : ℕ). (view_at me.0 (place_called z), me.1)) same;
           no = λ t' is' ne. absurd (ne (here ∙ ap (λ (z : ℕ). z % 2 ^ 64) (sym ticket ∙ ap (λ (p : Place). p.ticket) is')));
         },
       ))
@@ -209,24 +209,24 @@ module _ {O E F : Type 0} (m : Meanings O E F) (opening : O) (families : ℕ) wh
       ))
 
   -- one at most has the object out, so at the turn of a view that hasn't, nobody has
-  all_in : (s : St) (r : Rule s) (id : ℕ) (v : V) → get_elem? s.views id ≡ some v → v.place.turn ≡ true → v.place.out ≡ false → AtEach s.views (λ u. u.place.out ≡ false)
+  all_in : (s : St) (r : IsRuled s) (id : ℕ) (v : V) → get_elem? s.views id ≡ some v → v.place.turn ≡ true → v.place.out ≡ false → AtEach s.views (λ u. u.place.out ≡ false)
   all_in s r id v at turn in_ j u e = ⊎_elim
       (λ (out : u.place.out ≡ true). let same = one_at_turn r.now r.next (map place_of s.views) r.queue id j v.place u.place (place_at s.views id v at) (place_at s.views j u e) turn (r.queue.out j u.place (place_at s.views j u e) out) in
       ap (λ (z : V). z.place.out) (sym (at_one s.views id v u at (ap (get_elem? s.views) same ∙ e))) ∙ in_)
       (λ (i : u.place.out ≡ false). i) (is_true_or_false u.place.out)
 
-  pub takes_out : (slots id : ℕ) (me : M) (t : ℕ) → me.0.place ≡ called t → Allows Rule slots id me 2 (λ n. n) (λ _ m'. HasTaken m me m')
+  pub takes_out : (slots id : ℕ) (me : M) (t : ℕ) → me.0.place ≡ place_called t → Allows IsRuled slots id me 2 (λ n. n) (λ _ m'. HasTaken m me m')
   takes_out slots id me t is s r _ at _ =
       let drawn : me.0.place.drawn ≡ true = ap (λ (p : Place). p.drawn) is in let draws : me.0.right.draws ≡ true = r.entitled id me.0 at drawn in
       let ticket : me.0.place.ticket ≡ t = ap (λ (p : Place). p.ticket) is in let turn : me.0.place.turn ≡ true = ap (λ (p : Place). p.turn) is in
       let told = r.told id me.0 at (not_spent s r id me.0 at draws) in let y = r.home (all_in s r id me.0 at turn (ap (λ (p : Place). p.out) is)) in
-      let w : V = moved (reading me.0 (me.0.page.seen ++ told.missed)) (holding t) in (
+      let w : V = view_at (view_with_seen me.0 (me.0.page.seen ++ told.missed)) (place_holding t) in (
         w,
         takes 0 y.0,
         y.1,
         turns s r id me.0 w at refl refl (λ _. subst (λ (l : List E). IsTold m opening r.history me.0.right (record me.0.page { seen = l })) (sym told.whole) (told_reads m opening r.history me.0.right me.0.page told)) (λ _. told.whole)
             r.now r.next (set s.words 2 (get_or s.words 2 0)) (same_words s r 2)
-            (retell r.now r.next (map place_of s.views) r.queue id me.0.place (holding t) (place_at s.views id me.0 at) drawn refl (sym ticket) (λ _. sym ticket ∙ (r.queue.turn id me.0.place (place_at s.views id me.0 at) turn).1) (λ _. refl))
+            (retell r.now r.next (map place_of s.views) r.queue id me.0.place (place_holding t) (place_at s.views id me.0 at) drawn refl (sym ticket) (λ _. sym ticket ∙ (r.queue.turn id me.0.place (place_at s.views id me.0 at) turn).1) (λ _. refl))
             (λ _. draws) (set s.homes 0 none) (λ all. clash (sym (all id w (at_same s.views id me.0 w at)))) (λ _. told.whole),
         record {
           opening = opening;
@@ -237,32 +237,32 @@ module _ {O E F : Type 0} (m : Meanings O E F) (opening : O) (families : ℕ) wh
           history = y.3 ∙ sym told.whole;
           lawful = subst (m.lawful (m.fixed opening)) (sym told.whole) r.lawful;
           short = subst (λ (l : List E). length l < 2 ^ 63) (sym told.whole) r.short;
-          foreign = foreign_missed m opening me.0.right told.missed (told.missable draws);
-          after_is = λ t' is'. let same : t ≡ t' = sym ticket ∙ ap (λ (p : Place). p.ticket) is' in ap (λ (z : ℕ). (moved (reading me.0 (me.0.page.seen ++ told.missed)) (holding z), (0, y.0) ∷ me.1)) same;
+          missable = told.missable draws;
+          after_is = λ t' is'. let same : t ≡ t' = sym ticket ∙ ap (λ (p : Place). p.ticket) is' in ap (λ (z : ℕ). (view_at (view_with_seen me.0 (me.0.page.seen ++ told.missed)) (place_holding z), (0, y.0) ∷ me.1)) same;
         },
       )
 
-  pub gives_back : (slots id : ℕ) (me : M) (t : ℕ) (y o : O) → slots ≡ 1 → me.0.place ≡ holding t → me.1 ≡ (0, y) ∷ [] → me.0.page.opening ≡ Some o → m.fixed y ≡ m.fixed o → m.history y ≡ me.0.page.seen
-      → Allows Rule slots id me 2 (λ n. n) (λ _ m'. HasGiven me m')
+  pub gives_back : (slots id : ℕ) (me : M) (t : ℕ) (y o : O) → slots ≡ 1 → me.0.place ≡ place_holding t → me.1 ≡ (0, y) ∷ [] → me.0.page.opening ≡ Some o → m.fixed y ≡ m.fixed o → m.history y ≡ me.0.page.seen
+      → Allows IsRuled slots id me 2 (λ n. n) (λ _ m'. HasGiven me m')
   gives_back slots id me t y o one is hand opened fixed history s r count at _ =
       let drawn : me.0.place.drawn ≡ true = ap (λ (p : Place). p.drawn) is in let draws : me.0.right.draws ≡ true = r.entitled id me.0 at drawn in
       let ticket : me.0.place.ticket ≡ t = ap (λ (p : Place). p.ticket) is in let turn : me.0.place.turn ≡ true = ap (λ (p : Place). p.turn) is in
       let told = r.told id me.0 at (not_spent s r id me.0 at draws) in let same : o ≡ opening = cc (opened, told.opening_is) in
       let all : me.0.page.seen ≡ r.history = r.informed id me.0 at (ap (λ (p : Place). p.out) is) in (
-        moved me.0 (called t),
+        view_at me.0 (place_called t),
         gives,
         tt,
-        turns s r id me.0 (moved me.0 (called t)) at refl refl (λ live. r.told id me.0 at live) (λ e. e) r.now r.next (set s.words 2 (get_or s.words 2 0)) (same_words s r 2)
-            (retell r.now r.next (map place_of s.views) r.queue id me.0.place (called t) (place_at s.views id me.0 at) drawn refl (sym ticket) (λ _. sym ticket ∙ (r.queue.turn id me.0.place (place_at s.views id me.0 at) turn).1) (λ e. clash e))
+        turns s r id me.0 (view_at me.0 (place_called t)) at refl refl (λ live. r.told id me.0 at live) (λ e. e) r.now r.next (set s.words 2 (get_or s.words 2 0)) (same_words s r 2)
+            (retell r.now r.next (map place_of s.views) r.queue id me.0.place (place_called t) (place_at s.views id me.0 at) drawn refl (sym ticket) (λ _. sym ticket ∙ (r.queue.turn id me.0.place (place_at s.views id me.0 at) turn).1) (λ e. clash e))
             (λ _. draws) (put_back s.homes me.1)
             (λ _. (y, subst (λ (l : List (ℕ × O)). get_elem? (put_back s.homes l) 0 ≡ some (some y)) (sym hand) (set_here s.homes 0 (some y) (omega arith)), fixed ∙ ap m.fixed same, history ∙ all)) (λ e. clash e),
-        λ t' is'. let same_ticket : t ≡ t' = sym ticket ∙ ap (λ (p : Place). p.ticket) is' in ap (λ (z : ℕ). (moved me.0 (called z), rest me.1)) same_ticket,
+        λ t' is'. let same_ticket : t ≡ t' = sym ticket ∙ ap (λ (p : Place). p.ticket) is' in ap (λ (z : ℕ). (view_at me.0 (place_called z), rest me.1)) same_ticket,
       )
 
-  pub leaves : (slots id : ℕ) (me : M) (t : ℕ) → me.0.place ≡ called t → Allows Rule slots id me 1 (λ n. (n + 1) % 2 ^ 64) (λ _ m'. HasLeft me m')
+  pub leaves : (slots id : ℕ) (me : M) (t : ℕ) → me.0.place ≡ place_called t → Allows IsRuled slots id me 1 (λ n. (n + 1) % 2 ^ 64) (λ _ m'. HasLeft me m')
   leaves slots id me t is s r _ at _ =
       let word : get_or s.words 1 0 ≡ r.now % 2 ^ 64 = ap (λ (l : List ℕ). get_or l 1 0) r.words in (
-        moved me.0 nowhere,
+        view_at me.0 nowhere,
         keeps,
         tt,
         stays s r id me.0 nowhere at (ap (λ (p : Place). p.out) is) refl (suc r.now) r.next (set s.words 1 ((get_or s.words 1 0 + 1) % 2 ^ 64))
@@ -272,16 +272,16 @@ module _ {O E F : Type 0} (m : Meanings O E F) (opening : O) (families : ℕ) wh
       )
 
   pub settles : (slots id : ℕ) (me : M) → ((f : F) (xs ys : List E) → m.lawful f (xs ++ ys) → m.lawful f xs) → me.0.place ≡ nowhere → me.0.right.spent ≡ false
-      → Allows Rule slots id me 2 (λ n. n) (λ _ m'. IsSettled m me m')
+      → Allows IsRuled slots id me 2 (λ n. n) (λ _ m'. IsSettled m me m')
   settles slots id me fronts is live s r _ at _ =
       let told = r.told id me.0 at live in let seen : List E = me.0.page.seen in let missed : List E = told.missed in
       let count : length seen ≤ length r.history = omega (arith, ap length told.whole, length-append seen missed) in (
-        settled me.0,
+        settled_view me.0,
         keeps,
         tt,
-        turns s r id me.0 (settled me.0) at refl refl (λ _. told_settles m opening r.history me.0.right me.0.page told) (λ e. e) r.now r.next (set s.words 2 (get_or s.words 2 0)) (same_words s r 2)
+        turns s r id me.0 (settled_view me.0) at refl refl (λ _. told_settles m opening r.history me.0.right me.0.page told) (λ e. e) r.now r.next (set s.words 2 (get_or s.words 2 0)) (same_words s r 2)
             (subst (IsQueue r.now r.next) (sym (set_again (map place_of s.views) id me.0.place (place_at s.views id me.0 at))) r.queue)
-            (r.entitled id me.0 at) s.homes (λ all. r.home (each_unset (λ (u : V). u.place.out ≡ false) s.views id me.0 (settled me.0) at (ap (λ (p : Place). p.out) is) all)) (r.informed id me.0 at),
+            (r.entitled id me.0 at) s.homes (λ all. r.home (each_unset (λ (u : V). u.place.out ≡ false) s.views id me.0 (settled_view me.0) at (ap (λ (p : Place). p.out) is) all)) (r.informed id me.0 at),
         record {
           opening = opening;
           opening_is = told.opening_is;
@@ -295,7 +295,7 @@ module _ {O E F : Type 0} (m : Meanings O E F) (opening : O) (families : ℕ) wh
       )
 
   -- the entry of the one who has the object out is one that each other view may miss
-  module _ (s : St) (r : Rule s) (id : ℕ) (v : V) (at : get_elem? s.views id ≡ some v) (d : v.right.draws ≡ true) (e : E) (mine : m.whose e ≡ who_of v.right)
+  module _ (s : St) (r : IsRuled s) (id : ℕ) (v : V) (at : get_elem? s.views id ≡ some v) (d : v.right.draws ≡ true) (e : E) (mine : m.whose e ≡ who_of v.right)
       (alone : m.alone e ≡ true → (v.right.actor ≡ HOST) × (v.right.away ≡ [])) where
     family_is : (m.whose e).family ≡ v.right.family
     family_is = ap (λ (w : Who). w.family) mine
@@ -327,15 +327,15 @@ module _ {O E F : Type 0} (m : Meanings O E F) (opening : O) (families : ℕ) wh
     apart_from_gone j u at' = every_map (λ l. IsGone (map right_of s.views) l.family) (λ l. (m.whose e).family ≢ l.family)
         (λ l g is. (g id v.right (right_at s.views id v at)).0 d (sym family_is ∙ is)) u.page.lasts (r.gone j u at')
 
-  pub commits : (slots id : ℕ) (me : M) (t : ℕ) (y o : O) (e : E) → me.0.place ≡ holding t → me.1 ≡ (0, y) ∷ [] → me.0.page.opening ≡ Some o → m.history y ≡ me.0.page.seen ++ e ∷ []
+  pub commits : (slots id : ℕ) (me : M) (t : ℕ) (y o : O) (e : E) → me.0.place ≡ place_holding t → me.1 ≡ (0, y) ∷ [] → me.0.page.opening ≡ Some o → m.history y ≡ me.0.page.seen ++ e ∷ []
       → m.lawful (m.fixed o) (me.0.page.seen ++ e ∷ []) → length (me.0.page.seen ++ e ∷ []) < 2 ^ 63 → m.whose e ≡ who_of me.0.right
-      → (m.alone e ≡ true → (me.0.right.actor ≡ HOST) × (me.0.right.away ≡ [])) → Allows Rule slots id me 2 (λ n. (n + 1) % 2 ^ 64) (λ _ m'. HasCommitted m me m')
+      → (m.alone e ≡ true → (me.0.right.actor ≡ HOST) × (me.0.right.away ≡ [])) → Allows IsRuled slots id me 2 (λ n. (n + 1) % 2 ^ 64) (λ _ m'. HasCommitted m me m')
   commits slots id me t y o e is hand opened history lawful short mine alone s r _ at _ =
       let drawn : me.0.place.drawn ≡ true = ap (λ (p : Place). p.drawn) is in let d : me.0.right.draws ≡ true = r.entitled id me.0 at drawn in
       let told = r.told id me.0 at (not_spent s r id me.0 at d) in let same : o ≡ opening = cc (opened, told.opening_is) in
       let all : me.0.page.seen ≡ r.history = r.informed id me.0 at (ap (λ (p : Place). p.out) is) in
       let h' : List E = r.history ++ e ∷ [] in let longer_is : me.0.page.seen ++ e ∷ [] ≡ h' = ap (λ (l : List E). l ++ e ∷ []) all in
-      let w : V = wrote me.0 e in let turn : me.0.place.turn ≡ true = ap (λ (p : Place). p.turn) is in
+      let w : V = view_after_entry me.0 e in let turn : me.0.place.turn ≡ true = ap (λ (p : Place). p.turn) is in
       let few : length r.history + 1 < 2 ^ 63 = omega (arith, length_push r.history e, ap length longer_is) in
       let count : (length r.history + 1) % 2 ^ 64 ≡ length h' = mod-eq_of_lt (omega arith) ∙ sym (length_push r.history e) in
       let word : get_or s.words 2 0 ≡ length r.history = ap (λ (l : List ℕ). get_or l 2 0) r.words in
@@ -367,10 +367,10 @@ module _ {O E F : Type 0} (m : Meanings O E F) (opening : O) (families : ℕ) wh
           longest = (id, w, at_same s.views id me.0 w at, not_spent s r id me.0 at d, longer_is);
         },
         λ y' e' hand' history'. let same_y : y ≡ y' = ap (object_or y) (sym hand ∙ hand') in let lists : me.0.page.seen ++ e ∷ [] ≡ me.0.page.seen ++ e' ∷ [] = sym history ∙ (ap m.history same_y ∙ history') in
-            let tails : e ∷ [] ≡ e' ∷ [] = append_cancel_left me.0.page.seen (e ∷ []) (e' ∷ []) lists in let same_e : e ≡ e' = cc tails in ap (λ (z : E). (wrote me.0 z, me.1)) same_e,
+            let tails : e ∷ [] ≡ e' ∷ [] = append_cancel_left me.0.page.seen (e ∷ []) (e' ∷ []) lists in let same_e : e ≡ e' = cc tails in ap (λ (z : E). (view_after_entry me.0 z, me.1)) same_e,
       )
     where
-      maker_knows : (s : St) (r : Rule s) (id : ℕ) (v : V) → get_elem? s.views id ≡ some v → v.right.draws ≡ true → (e : E) → m.whose e ≡ who_of v.right → (j : ℕ) (u : V) → get_elem? s.views j ≡ some u
+      maker_knows : (s : St) (r : IsRuled s) (id : ℕ) (v : V) → get_elem? s.views id ≡ some v → v.right.draws ≡ true → (e : E) → m.whose e ≡ who_of v.right → (j : ℕ) (u : V) → get_elem? s.views j ≡ some u
           → 0 < u.right.heads → Every (λ x. (m.whose x).family < u.right.heads) (r.history ++ e ∷ [])
       maker_knows s r id v at d e mine j u at' some_heads = every_append (λ x. (m.whose x).family < u.right.heads) r.history (e ∷ []) (r.made j u at' some_heads)
           (subst (λ (z : ℕ). z < u.right.heads) (sym (ap (λ (w : Who). w.family) mine)) (r.fair.made j id u.right v.right (right_at s.views j u at') (right_at s.views id v at) some_heads d), tt)

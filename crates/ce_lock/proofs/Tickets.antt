@@ -7,7 +7,7 @@ use lib.ListN.{get_elem?}
 use Rattle.atomic_table.proofs.Lists.{at_set, at_longer, one_turn}
 use Rattle.ce_lock.specs.declared.view.Place.{Place}
 use Rattle.ce_lock.specs.OneOrder.{IsQueue}
-use Rattle.ce_lock.specs.Telling.{nowhere, waiting}
+use Rattle.ce_lock.specs.Telling.{nowhere, place_waiting}
 use Rattle.ce_lock.proofs.Seats.{at_same, at_other, at_one, each_kept, each_set, each_added, at_added}
 
 false_true : {P : Type 0} → false ≡ true → P
@@ -40,27 +40,27 @@ module _ (now next : ℕ) (ps : List Place) (q : IsQueue now next ps) where
   }
 
   -- one more ticket is drawn
-  pub draw : (id : ℕ) (p : Place) → get_elem? ps id ≡ some p → p.drawn ≡ false → suc next < now + 2 ^ 64 → IsQueue now (suc next) (set ps id (waiting next))
+  pub draw : (id : ℕ) (p : Place) → get_elem? ps id ≡ some p → p.drawn ≡ false → suc next < now + 2 ^ 64 → IsQueue now (suc next) (set ps id (place_waiting next))
   draw id p at d room = let up : now ≤ next = q.up in record {
     up = omega arith;
     few = room;
     each = λ t low high. dite (ℕ_discrete t next)
-        (λ e. (id, waiting next, at_same ps id p (waiting next) at, refl, sym e))
-        (λ ne. let h = q.each t low (omega arith) in (h.0, h.1, at_other ps id h.0 h.1 (waiting next) (λ e. false_true (sym d ∙ (ap (λ (z : Place). z.drawn) (at_one ps id p h.1 at (ap (get_elem? ps) (sym e) ∙ h.2)) ∙ h.3))) h.2, h.3, h.4));
+        (λ e. (id, place_waiting next, at_same ps id p (place_waiting next) at, refl, sym e))
+        (λ ne. let h = q.each t low (omega arith) in (h.0, h.1, at_other ps id h.0 h.1 (place_waiting next) (λ e. false_true (sym d ∙ (ap (λ (z : Place). z.drawn) (at_one ps id p h.1 at (ap (get_elem? ps) (sym e) ∙ h.2)) ∙ h.3))) h.2, h.3, h.4));
     once = λ i j a b ea eb da db same. ⊎_elim
-        (λ (x : (i ≡ id) × (waiting next ≡ a)). ⊎_elim
-        (λ (y : (j ≡ id) × (waiting next ≡ b)). x.0 ∙ sym y.0)
+        (λ (x : (i ≡ id) × (place_waiting next ≡ a)). ⊎_elim
+        (λ (y : (j ≡ id) × (place_waiting next ≡ b)). x.0 ∙ sym y.0)
         (λ (y : (j ≢ id) × (get_elem? ps j ≡ some b)). let h = q.drawn j b y.1 db in let n : next ≡ b.ticket = ap (λ (z : Place). z.ticket) x.1 ∙ same in absurd (omega (arith, h.1)))
-        (at_set ps id j (waiting next) b eb))
+        (at_set ps id j (place_waiting next) b eb))
         (λ (x : (i ≢ id) × (get_elem? ps i ≡ some a)). ⊎_elim
-        (λ (y : (j ≡ id) × (waiting next ≡ b)). let h = q.drawn i a x.1 da in let n : next ≡ a.ticket = ap (λ (z : Place). z.ticket) y.1 ∙ sym same in absurd (omega (arith, h.1)))
+        (λ (y : (j ≡ id) × (place_waiting next ≡ b)). let h = q.drawn i a x.1 da in let n : next ≡ a.ticket = ap (λ (z : Place). z.ticket) y.1 ∙ sym same in absurd (omega (arith, h.1)))
         (λ (y : (j ≢ id) × (get_elem? ps j ≡ some b)). q.once i j a b x.1 y.1 da db same)
-        (at_set ps id j (waiting next) b eb))
-        (at_set ps id i (waiting next) a ea);
-    drawn = each_set (λ (z : Place). z.drawn ≡ true → (now ≤ z.ticket) × (z.ticket < suc next)) ps id (waiting next) (λ _. (up, omega arith))
+        (at_set ps id j (place_waiting next) b eb))
+        (at_set ps id i (place_waiting next) a ea);
+    drawn = each_set (λ (z : Place). z.drawn ≡ true → (now ≤ z.ticket) × (z.ticket < suc next)) ps id (place_waiting next) (λ _. (up, omega arith))
         (λ j x _ e d'. let h = q.drawn j x e d' in (h.0, omega (arith, h.1)));
-    turn = each_kept (λ (z : Place). z.turn ≡ true → (z.drawn ≡ true) × (z.ticket ≡ now)) ps id (waiting next) (λ e. false_true e) q.turn;
-    out = each_kept (λ (z : Place). z.out ≡ true → z.turn ≡ true) ps id (waiting next) (λ e. false_true e) q.out;
+    turn = each_kept (λ (z : Place). z.turn ≡ true → (z.drawn ≡ true) × (z.ticket ≡ now)) ps id (place_waiting next) (λ e. false_true e) q.turn;
+    out = each_kept (λ (z : Place). z.out ≡ true → z.turn ≡ true) ps id (place_waiting next) (λ e. false_true e) q.out;
   }
 
   -- whoever is at its turn is the one whose ticket is served

@@ -1,5 +1,5 @@
 -- A turn: what the caller sees and makes of the history while it has the object.
-use Rattle.std.proofs.Common.{◌≡◌, ℕ, ◌^◌, ◌<◌, Bool, true, List, [], ◌∷◌, ◌++◌, length, sym, ap, ◌∙◌, subst, Some, Ok, Err, Result, append_assoc}
+use Rattle.std.proofs.Common.{◌≡◌, ℕ, ◌^◌, ◌<◌, Bool, true, List, [], ◌∷◌, ◌++◌, length, refl, sym, ap, ◌∙◌, subst, Some, Ok, Err, Result, append_assoc}
 use Rattle.std.proofs.lemmas.List.{append-nil}
 use Rattle.atomic_table.specs.Table.{Me, rest}
 use Rattle.ce_model.specs.declared.topology.TheConstants.{HOST}
@@ -7,11 +7,11 @@ use Rattle.ce_lock.specs.declared.who.Who.{Who}
 use Rattle.ce_lock.specs.declared.view.View.{View}
 use Rattle.ce_lock.specs.Entries.{Every, IsForeign, entries_of}
 use Rattle.ce_lock.specs.Meanings.{Meanings}
-use Rattle.ce_lock.specs.OneOrder.{who_of}
-use Rattle.ce_lock.specs.Telling.{called, holding, moved, reading, wrote, HasTaken, HasCommitted, HasGiven}
+use Rattle.ce_lock.specs.OneOrder.{who_of, IsMissable}
+use Rattle.ce_lock.specs.Telling.{place_called, place_holding, view_at, view_with_seen, view_after_entry, HasTaken, HasCommitted, HasGiven}
 use Rattle.atomic_table.specs.Seated.{TableId}
 use Rattle.ce_lock.specs.Sitting.{IsTurn, IsSound, IsKnown}
-use Rattle.ce_lock.proofs.Histories.{own_missed, own_mine, of_actor}
+use Rattle.ce_lock.proofs.Histories.{own_missed, own_mine, of_actor, foreign_missed}
 use Rattle.ce_lock.proofs.Moves.{object_or}
 
 -- what fits at what was seen fits at the whole history, since what was missed is foreign
@@ -24,10 +24,10 @@ carries lawful fits whose alone fronts still f who call (e ∷ es) before l h fi
     let l' = subst (lawful f) (sym same) l in
     subst (λ x. fits f x who call) same (carries lawful fits whose alone fronts still f who call es (before ++ e ∷ []) l' h.1 (still f before e who call (fronts f (before ++ e ∷ []) es l') fit h.0))
 
-module _ {O E F : Type 0} (m : Meanings O E F) (me me' : Me O (View O E)) (t : ℕ) (at : me.0.place ≡ called t) (took : HasTaken m me me') where
+module _ {O E F : Type 0} (m : Meanings O E F) (me me' : Me O (View O E)) (t : ℕ) (at : me.0.place ≡ place_called t) (took : HasTaken m me me') where
   -- the view while the object is out
   abbrev pub base : View O E
-  base = moved (reading me.0 (me.0.page.seen ++ took.missed)) (holding t)
+  base = view_at (view_with_seen me.0 (me.0.page.seen ++ took.missed)) (place_holding t)
 
   pub taken : me' ≡ (base, (0, took.object) ∷ me.1)
   taken = took.after_is t at
@@ -51,7 +51,7 @@ module _ {O E F : Type 0} (m : Meanings O E F) (me me' : Me O (View O E)) (t : �
     pub acted_hand : me''.1 ≡ (0, z) ∷ []
     acted_hand = ap (λ (x : Me O (View O E)). x.1) acted
 
-    pub acted_place : (n : ℕ) × (me''.0.place ≡ holding n)
+    pub acted_place : (n : ℕ) × (me''.0.place ≡ place_holding n)
     acted_place = (t, ap (λ (v : View O E). v.place) acted_view)
 
     pub acted_opening : me''.0.page.opening ≡ Some took.opening
@@ -84,100 +84,97 @@ module _ {O E F : Type 0} (m : Meanings O E F) (me me' : Me O (View O E)) (t : �
       -- what a turn with an entry makes of the view
       pub turn_made : {C R : Type 0} (X : Type 0) (stands : F → List E → E → Who → C → R → Type 0) (who : Who) (call : C) (reply : R) → who_of me.0.right ≡ who
           → (m.lawful (m.fixed y) (m.history y) → m.lawful (m.fixed y) (m.history z)) → length (m.history z) < 2 ^ 63 → m.whose e ≡ who → stands (m.fixed y) (m.history y) e who call reply
-          → (last : View O E) → last ≡ wrote (reading me.0 (me.0.page.seen ++ took.missed)) e → (result : Result R (C × X)) → result ≡ Ok reply → IsTurn m stands me.0 last call result
+          → (last : View O E) → last ≡ view_after_entry (view_with_seen me.0 (me.0.page.seen ++ took.missed)) e → (result : Result R (C × X)) → result ≡ Ok reply → IsTurn m stands me.0 last call result
       turn_made X stands who call reply actor lawful short mine stand last is result result_is =
           let all : m.history z ≡ last.page.seen = grown_is ∙ (ap (λ (l : List E). l ++ e ∷ []) acted_seen ∙ ap (λ (v : View O E). v.page.seen) (sym is)) in
           subst (IsTurn m stands me.0 last call) (sym result_is) record {
             opening = took.opening;
             missed = took.missed;
             opening_is = took.opening_is;
-            foreign = took.foreign;
+            missable = took.missable;
             lawful = subst (λ (x : F × List E). m.lawful x.0 x.1) (λ k. (fixed_is k, all k)) (lawful (subst (λ (x : F × List E). m.lawful x.0 x.1) (λ k. (sym fixed_is k, sym history_is k)) took.lawful));
             short = subst (λ (l : List E). length l < 2 ^ 63) all short;
             answered = (e, is, mine ∙ sym actor, subst (λ (x : F × (List E × Who)). stands x.0 x.1.0 e x.1.1 call reply) (λ k. (fixed_is k, (history_is k, sym actor k))) stand);
           }
 
       module _ (after : Me O (View O E)) (committed : HasCommitted m me'' after) where
-        pub committed_is : after ≡ (wrote me''.0 e, me''.1)
+        pub committed_is : after ≡ (view_after_entry me''.0 e, me''.1)
         committed_is = committed z e acted_hand grown_is
 
-        committed_view : after.0 ≡ wrote base e
-        committed_view = ap (λ (x : Me O (View O E)). x.0) committed_is ∙ ap (λ (v : View O E). wrote v e) acted_view
+        committed_view : after.0 ≡ view_after_entry base e
+        committed_view = ap (λ (x : Me O (View O E)). x.0) committed_is ∙ ap (λ (v : View O E). view_after_entry v e) acted_view
 
         pub committed_hand : after.1 ≡ (0, z) ∷ []
         committed_hand = ap (λ (x : Me O (View O E)). x.1) committed_is ∙ acted_hand
 
-        pub committed_place : (n : ℕ) × (after.0.place ≡ holding n)
+        pub committed_place : (n : ℕ) × (after.0.place ≡ place_holding n)
         committed_place = (t, ap (λ (v : View O E). v.place) committed_view)
 
         -- what the give asks
         pub committed_back : m.fixed z ≡ m.fixed y → (after.0.page.opening ≡ Some took.opening) × (m.fixed z ≡ m.fixed took.opening) × (m.history z ≡ after.0.page.seen)
         committed_back fixed = (ap (λ (v : View O E). v.page.opening) committed_view ∙ took.opening_is, fixed ∙ fixed_is, grown_is ∙ ap (λ (x : Me O (View O E)). x.0.page.seen) (sym committed_is))
 
-        pub given : (last : Me O (View O E)) → HasGiven after last → (last.0 ≡ wrote (reading me.0 (me.0.page.seen ++ took.missed)) e) × (last.1 ≡ [])
+        pub given : (last : Me O (View O E)) → HasGiven after last → (last.0 ≡ view_after_entry (view_with_seen me.0 (me.0.page.seen ++ took.missed)) e) × (last.1 ≡ [])
         given last gave = let is = gave t (ap (λ (v : View O E). v.place) committed_view) in (
-          ap (λ (x : Me O (View O E)). x.0) is ∙ (ap (λ (v : View O E). moved v (called t)) committed_view ∙ ap (moved (wrote (reading me.0 (me.0.page.seen ++ took.missed)) e)) (sym at)),
+          ap (λ (x : Me O (View O E)). x.0) is ∙ (ap (λ (v : View O E). view_at v (place_called t)) committed_view ∙ ap (view_at (view_after_entry (view_with_seen me.0 (me.0.page.seen ++ took.missed)) e)) (sym at)),
           ap (λ (x : Me O (View O E)). x.1) is ∙ ap rest committed_hand,
         )
 
     -- after a refusal
-    pub refused : (last : Me O (View O E)) → HasGiven me'' last → (last.0 ≡ reading me.0 (me.0.page.seen ++ took.missed)) × (last.1 ≡ [])
+    pub refused : (last : Me O (View O E)) → HasGiven me'' last → (last.0 ≡ view_with_seen me.0 (me.0.page.seen ++ took.missed)) × (last.1 ≡ [])
     refused last gave = let is = gave t (ap (λ (v : View O E). v.place) acted_view) in (
-      ap (λ (x : Me O (View O E)). x.0) is ∙ (ap (λ (v : View O E). moved v (called t)) acted_view ∙ ap (moved (reading me.0 (me.0.page.seen ++ took.missed))) (sym at)),
+      ap (λ (x : Me O (View O E)). x.0) is ∙ (ap (λ (v : View O E). view_at v (place_called t)) acted_view ∙ ap (view_at (view_with_seen me.0 (me.0.page.seen ++ took.missed))) (sym at)),
       ap (λ (x : Me O (View O E)). x.1) is ∙ ap rest acted_hand,
     )
 
   -- what a refused turn makes of the view
   pub turn_refused : {C R X : Type 0} (stands : F → List E → E → Who → C → R → Type 0) (call : C) (back : C × X) → length (me.0.page.seen ++ took.missed) < 2 ^ 63 → back.0 ≡ call
-      → (last : View O E) → last ≡ reading me.0 (me.0.page.seen ++ took.missed) → (result : Result R (C × X)) → result ≡ Err back → IsTurn m stands me.0 last call result
+      → (last : View O E) → last ≡ view_with_seen me.0 (me.0.page.seen ++ took.missed) → (result : Result R (C × X)) → result ≡ Err back → IsTurn m stands me.0 last call result
   turn_refused stands call back short same last is result result_is = let all : me.0.page.seen ++ took.missed ≡ last.page.seen = ap (λ (v : View O E). v.page.seen) (sym is) in
       subst (IsTurn m stands me.0 last call) (sym result_is) record {
         opening = took.opening;
         missed = took.missed;
         opening_is = took.opening_is;
-        foreign = took.foreign;
+        missable = took.missable;
         lawful = subst (m.lawful (m.fixed took.opening)) all took.lawful;
         short = subst (λ (l : List E). length l < 2 ^ 63) all short;
         answered = (is, same);
       }
 
+module _ {O E F : Type 0} (m : Meanings O E F) where
+  -- what a sound seat missed has none of its actor's entries
+  own_still : (who : Who) (me : Me O (View O E)) (missed : List E) → IsSound m who me → Every (IsMissable m me.0.right) missed
+      → entries_of m.whose (who_of me.0.right) (me.0.page.seen ++ missed) ≡ me.0.page.earlier ++ me.0.page.mine
+  own_still who me missed s missable = own_missed m.whose m.alone (who_of me.0.right) me.0.page.seen missed (foreign_missed m s.opening me.0.right missed missable) ∙ s.own
+
 module _ {O E F : Type 0} (m : Meanings O E F) {C R X : Type 0} (stands : F → List E → E → Who → C → R → Type 0) where
+  -- a seat stays sound where no more of its view is another than what it has seen and made
+  sound_after : (result : Result R (C × X)) (who : Who) (me me' : Me O (View O E)) (call : C) (seen mine : List E)
+      → IsSound m who me → IsTurn m stands me.0 me'.0 call result → me'.1 ≡ []
+      → me'.0 ≡ record me.0 { page = record me.0.page { seen = seen; mine = mine } } → entries_of m.whose (who_of me.0.right) seen ≡ me.0.page.earlier ++ mine → IsSound m who me'
+  sound_after result who me me' call seen mine s t hand is own = let same : t.opening ≡ s.opening = cc (t.opening_is, s.opening_is) in
+      subst (IsSound m who) (λ k. (sym is k, sym hand k)) record {
+        opening = s.opening;
+        opening_is = s.opening_is;
+        place = s.place;
+        hand = refl;
+        who_is = s.who_is;
+        live = s.live;
+        draws = s.draws;
+        olds = s.olds;
+        lasts = s.lasts;
+        lawful = subst (λ (x : O × View O E). m.lawful (m.fixed x.0) x.1.page.seen) (λ k. (same k, is k)) t.lawful;
+        short = subst (λ (w : View O E). length w.page.seen < 2 ^ 63) is t.short;
+        own = own;
+        fresh = s.fresh;
+      }
+
   -- a turn of a sound seat leaves it sound
   pub sound_turn : (result : Result R (C × X)) (who : Who) (me me' : Me O (View O E)) (call : C) → IsSound m who me → IsTurn m stands me.0 me'.0 call result → me'.1 ≡ [] → IsSound m who me'
-  sound_turn (Ok reply) who me me' call s t hand = let a = t.answered in let v = sym a.1 in let same : t.opening ≡ s.opening = cc (t.opening_is, s.opening_is) in
-      let missed = own_missed m.whose m.alone (who_of me.0.right) me.0.page.seen t.missed t.foreign in record {
-        opening = s.opening;
-        opening_is = ap (λ (w : View O E). w.page.opening) a.1 ∙ s.opening_is;
-        place = ap (λ (w : View O E). w.place) a.1 ∙ s.place;
-        hand = hand;
-        who_is = ap (λ (w : View O E). who_of w.right) a.1 ∙ s.who_is;
-        live = ap (λ (w : View O E). w.right.spent) a.1 ∙ s.live;
-        draws = ap (λ (w : View O E). w.right.draws) a.1 ∙ s.draws;
-        olds = ap (λ (w : View O E). w.page.olds) a.1 ∙ s.olds;
-        lasts = ap (λ (w : View O E). w.page.lasts) a.1 ∙ s.lasts;
-        lawful = subst (λ (o : O). m.lawful (m.fixed o) me'.0.page.seen) same t.lawful;
-        short = t.short;
-        own = subst (λ (w : View O E). entries_of m.whose (who_of w.right) w.page.seen ≡ w.page.earlier ++ w.page.mine) v
-            (own_mine m.whose (who_of me.0.right) (me.0.page.seen ++ t.missed) a.0 (of_actor m.whose (who_of me.0.right) a.0 a.2)
-            ∙ (ap (λ (l : List E). l ++ a.0 ∷ []) (missed ∙ s.own) ∙ append_assoc me.0.page.earlier me.0.page.mine (a.0 ∷ [])));
-        fresh = λ h. ap (λ (w : View O E). w.page.earlier) a.1 ∙ s.fresh (sym (ap (λ (w : View O E). w.right.actor) a.1) ∙ h);
-      }
-  sound_turn (Err back) who me me' call s t hand = let a = t.answered in let v = sym a.0 in let same : t.opening ≡ s.opening = cc (t.opening_is, s.opening_is) in
-      let missed = own_missed m.whose m.alone (who_of me.0.right) me.0.page.seen t.missed t.foreign in record {
-        opening = s.opening;
-        opening_is = ap (λ (w : View O E). w.page.opening) a.0 ∙ s.opening_is;
-        place = ap (λ (w : View O E). w.place) a.0 ∙ s.place;
-        hand = hand;
-        who_is = ap (λ (w : View O E). who_of w.right) a.0 ∙ s.who_is;
-        live = ap (λ (w : View O E). w.right.spent) a.0 ∙ s.live;
-        draws = ap (λ (w : View O E). w.right.draws) a.0 ∙ s.draws;
-        olds = ap (λ (w : View O E). w.page.olds) a.0 ∙ s.olds;
-        lasts = ap (λ (w : View O E). w.page.lasts) a.0 ∙ s.lasts;
-        lawful = subst (λ (o : O). m.lawful (m.fixed o) me'.0.page.seen) same t.lawful;
-        short = t.short;
-        own = subst (λ (w : View O E). entries_of m.whose (who_of w.right) w.page.seen ≡ w.page.earlier ++ w.page.mine) v (missed ∙ s.own);
-        fresh = λ h. ap (λ (w : View O E). w.page.earlier) a.0 ∙ s.fresh (sym (ap (λ (w : View O E). w.right.actor) a.0) ∙ h);
-      }
+  sound_turn (Ok reply) who me me' call s t hand = let a = t.answered in sound_after (Ok reply) who me me' call _ _ s t hand a.1
+      (own_mine m.whose (who_of me.0.right) (me.0.page.seen ++ t.missed) a.0 (of_actor m.whose (who_of me.0.right) a.0 a.2)
+      ∙ (ap (λ (l : List E). l ++ a.0 ∷ []) (own_still m who me t.missed s t.missable) ∙ append_assoc me.0.page.earlier me.0.page.mine (a.0 ∷ [])))
+  sound_turn (Err back) who me me' call s t hand = sound_after (Err back) who me me' call _ _ s t hand t.answered.0 (own_still m who me t.missed s t.missable)
 
   -- a turn is one of the same book
   pub turn_opening : (result : Result R (C × X)) (v w : View O E) (call : C) → IsTurn m stands v w call result → w.page.opening ≡ v.page.opening

@@ -1,15 +1,15 @@
 -- Books and seats as their callers see them.
-use Rattle.std.specs.Prelude.{◌≡◌, ◌≢◌, ℕ, ◌^◌, ◌<◌, true, false, List, [], ◌∷◌, ◌++◌, length, Option, Some, Result, MatchResult}
+use Rattle.std.specs.Prelude.{◌≡◌, ◌≢◌, ℕ, ◌^◌, ◌<◌, Bool, true, false, List, [], ◌∷◌, ◌++◌, length, Option, Some, Result, MatchResult}
 use Rattle.atomic_table.specs.Table.{Me}
 use Rattle.atomic_table.specs.Seated.{TableId}
 use Rattle.atomic_table.specs.declared.shared.Seat.{Seat}
 use Rattle.ce_model.specs.declared.topology.TheConstants.{HOST}
 use Rattle.ce_lock.specs.declared.who.Who.{Who}
 use Rattle.ce_lock.specs.declared.view.View.{View}
-use Rattle.ce_lock.specs.Entries.{Every, entries_of, IsForeign}
+use Rattle.ce_lock.specs.Entries.{IsPrefix, Every, entries_of}
 use Rattle.ce_lock.specs.Meanings.{Meanings}
-use Rattle.ce_lock.specs.OneOrder.{who_of}
-use Rattle.ce_lock.specs.Telling.{nowhere, reading, wrote}
+use Rattle.ce_lock.specs.OneOrder.{who_of, IsMissable}
+use Rattle.ce_lock.specs.Telling.{nowhere, view_with_seen, view_after_entry}
 
 -- a book: which table it is, the object that it was made of, and how many families it has
 pub record BookFacts (O : Type 0) : Type 0 where
@@ -31,8 +31,8 @@ module _ {O E : Type 0} where
   who s = who_of s.1.right
 
   -- the front part of the history that it has seen
-  abbrev pub seen : Sitting O E → List E
-  seen s = s.1.page.seen
+  abbrev pub seen_history : Sitting O E → List E
+  seen_history s = s.1.page.seen
 
   -- the entries of its actor from before it was made
   abbrev pub earlier : Sitting O E → List E
@@ -64,19 +64,36 @@ module _ {O E : Type 0} where
   abbrev pub IsSameChair : Seat O (View O E) → Seat O (View O E) → Type 0
   IsSameChair a b = (b.table_id ≡ a.table_id) × (b.id ≡ a.id)
 
+  -- two raw seats of the table without tickets, the second with nothing in hand: what each join asks of both
+  pub record AreIdle (table : TableId) (a b : Seat O (View O E)) : Type 0 where
+    pub sized : IsSized table
+    pub of_table : (a.table_id ≡ table) × (b.table_id ≡ table)
+    pub places : (a.me.0.place ≡ nowhere) × (b.me.0.place ≡ nowhere)
+    pub hand : b.me.1 ≡ []
+
 module _ {O E F : Type 0} (m : Meanings O E F) where
   -- What a seat has seen is a lawful history of fewer than 2^63 entries. Its actor's entries in it are the
   -- earlier ones and its own, each once, in its order.
   pub record IsKnown (opening : O) (s : Sitting O E) : Type 0 where
-    pub lawful : m.lawful (m.fixed opening) (seen s)
-    pub short : length (seen s) < 2 ^ 63
-    pub own : entries_of m.whose (who s) (seen s) ≡ earlier s ++ mine s
+    pub lawful : m.lawful (m.fixed opening) (seen_history s)
+    pub short : length (seen_history s) < 2 ^ 63
+    pub own : entries_of m.whose (who s) (seen_history s) ≡ earlier s ++ mine s
+
+  -- The list begins with what the seat has seen, and goes on by entries that the seat need not have seen.
+  pub record IsBehind (s : Sitting O E) (before : List E) : Type 0 where
+    pub missed : List E
+    pub whole : seen_history s ++ missed ≡ before
+    pub missable : Every (IsMissable m s.1.right) missed
+
+  -- so what the seat has seen is a front part of the list
+  pub IsBehind-prefix : (s : Sitting O E) (before : List E) → IsBehind s before → IsPrefix (seen_history s) before
+  IsBehind-prefix s before behind = record { rest = behind.missed; whole = behind.whole }
 
   -- The head of family `number` of a fresh book.
   pub record IsNewHead (book : BookFacts O) (number : ℕ) (s : Sitting O E) : Type 0 where
     pub of_book : IsOf book s
     pub actor : who s ≡ record { family = number; actor = HOST }
-    pub nothing_seen : seen s ≡ []
+    pub nothing_seen : seen_history s ≡ []
     pub nothing_earlier : earlier s ≡ []
     pub nothing_made : mine s ≡ []
     pub nobody_out : out s ≡ []
@@ -91,7 +108,7 @@ module _ {O E F : Type 0} (m : Meanings O E F) where
   -- entries of its family there are among those seen.
   pub record IsWhole (history : List E) (s : Sitting O E) : Type 0 where
     pub missed : List E
-    pub whole : seen s ++ missed ≡ history
+    pub whole : seen_history s ++ missed ≡ history
     pub own : entries_of m.whose (who s) history ≡ mine s
     pub others : Every (λ e. (m.whose e).family ≢ (who s).family) missed
 
@@ -111,6 +128,17 @@ module _ {O E F : Type 0} (m : Meanings O E F) where
     pub own : entries_of m.whose (who_of me.0.right) me.0.page.seen ≡ me.0.page.earlier ++ me.0.page.mine
     pub fresh : me.0.right.actor ≡ HOST → me.0.page.earlier ≡ []
 
+  -- What a turn asks of the seat that makes it: it acts for this actor, knows the opening object and has nothing in
+  -- hand; the call fits what it has seen, and is not alone, or the seat is a head's with nobody out.
+  pub record IsReady {C : Type 0} (fits : F → List E → Who → C → Type 0) (alone : C → Bool)
+      (actor : Who) (call : C) (me : Me O (View O E)) : Type 0 where
+    pub opening : O
+    pub opening_is : me.0.page.opening ≡ Some opening
+    pub hand : me.1 ≡ []
+    pub who_is : who_of me.0.right ≡ actor
+    pub fitting : fits (m.fixed opening) me.0.page.seen actor call
+    pub nobody_out : alone call ≡ true → (me.0.right.actor ≡ HOST) × (me.0.right.away ≡ [])
+
   module _ {C R X : Type 0} (stands : F → List E → E → Who → C → R → Type 0) where
     -- what one answer makes of the object
     pub record IsAnswer (y z : O) (actor : Who) (call : C) (result : Result R (C × X)) : Type 0 where
@@ -125,10 +153,10 @@ module _ {O E F : Type 0} (m : Meanings O E F) where
       pub opening : O
       pub missed : List E
       pub opening_is : before.page.opening ≡ Some opening
-      pub foreign : Every (IsForeign m.whose m.alone (who_of before.right)) missed
+      pub missable : Every (IsMissable m before.right) missed
       pub lawful : m.lawful (m.fixed opening) after.page.seen
       pub short : length after.page.seen < 2 ^ 63
       pub answered : MatchResult result
-          (λ reply. (entry : E) × (after ≡ wrote (reading before (before.page.seen ++ missed)) entry) × (m.whose entry ≡ who_of before.right)
+          (λ reply. (entry : E) × (after ≡ view_after_entry (view_with_seen before (before.page.seen ++ missed)) entry) × (m.whose entry ≡ who_of before.right)
           × stands (m.fixed opening) (before.page.seen ++ missed) entry (who_of before.right) call reply)
-          (λ back. (after ≡ reading before (before.page.seen ++ missed)) × (back.0 ≡ call))
+          (λ back. (after ≡ view_with_seen before (before.page.seen ++ missed)) × (back.0 ≡ call))

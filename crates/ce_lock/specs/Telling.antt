@@ -8,22 +8,22 @@ use Rattle.ce_lock.specs.declared.view.Last.{Last}
 use Rattle.ce_lock.specs.declared.view.Page.{Page}
 use Rattle.ce_lock.specs.declared.view.View.{View}
 use Rattle.ce_lock.specs.declared.who.Who.{Who}
-use Rattle.ce_lock.specs.Entries.{IsPrefix, longer, Every, without, entries_of, IsForeign}
+use Rattle.ce_lock.specs.Entries.{IsPrefix, longer, Every, without, entries_of}
 use Rattle.ce_lock.specs.Meanings.{Meanings}
-use Rattle.ce_lock.specs.OneOrder.{who_of, IsLast}
+use Rattle.ce_lock.specs.OneOrder.{who_of, IsMissable, IsLast}
 
 -- the places: with no ticket, waiting, at its turn, and with the object out
 abbrev pub nowhere : Place
 nowhere = record { drawn = false; turn = false; out = false; ticket = 0 }
 
-abbrev pub waiting : ℕ → Place
-waiting t = record { drawn = true; turn = false; out = false; ticket = t }
+abbrev pub place_waiting : ℕ → Place
+place_waiting t = record { drawn = true; turn = false; out = false; ticket = t }
 
-abbrev pub called : ℕ → Place
-called t = record { drawn = true; turn = true; out = false; ticket = t }
+abbrev pub place_called : ℕ → Place
+place_called t = record { drawn = true; turn = true; out = false; ticket = t }
 
-abbrev pub holding : ℕ → Place
-holding t = record { drawn = true; turn = true; out = true; ticket = t }
+abbrev pub place_holding : ℕ → Place
+place_holding t = record { drawn = true; turn = true; out = true; ticket = t }
 
 -- the right of who acts for nobody
 abbrev pub nobody : Right
@@ -31,20 +31,20 @@ nobody = record { spent = false; draws = false; family = 0; actor = 0; heads = 0
 
 module _ {O E : Type 0} where
   -- the view at another place
-  abbrev pub moved : View O E → Place → View O E
-  moved v p = record v { place = p }
+  abbrev pub view_at : View O E → Place → View O E
+  view_at v p = record v { place = p }
 
   -- the view, which has seen the list
-  abbrev pub reading : View O E → List E → View O E
-  reading v seen = record v { page = record v.page { seen = seen } }
+  abbrev pub view_with_seen : View O E → List E → View O E
+  view_with_seen v seen = record v { page = record v.page { seen = seen } }
 
   -- the view after it has made an entry
-  abbrev pub wrote : View O E → E → View O E
-  wrote v e = record v { page = record v.page { seen = v.page.seen ++ e ∷ []; mine = v.page.mine ++ e ∷ [] } }
+  abbrev pub view_after_entry : View O E → E → View O E
+  view_after_entry v e = record v { page = record v.page { seen = v.page.seen ++ e ∷ []; mine = v.page.mine ++ e ∷ [] } }
 
   -- the view after the look that follows a join
-  abbrev pub settled : View O E → View O E
-  settled v = record v { page = record v.page { olds = [] } }
+  abbrev pub settled_view : View O E → View O E
+  settled_view v = record v { page = record v.page { olds = [] } }
 
   -- what was seen, as a page with no entries of its own
   abbrev pub page_of : View O E → List E → Page O E
@@ -55,8 +55,8 @@ module _ {O E : Type 0} where
   copy v = record { place = nowhere; right = nobody; page = page_of v [] }
 
   -- the view of the maker of heads, after it has made one more, which makes the next
-  abbrev pub making : View O E → View O E
-  making v = record v { right = record v.right { heads = 0 } }
+  abbrev pub view_after_making : View O E → View O E
+  view_after_making v = record v { right = record v.right { heads = 0 } }
 
   -- the view of the next head
   abbrev pub next_head : View O E → View O E
@@ -67,20 +67,20 @@ module _ {O E : Type 0} where
   }
 
   -- the view of a head, with one actor more out
-  abbrev pub sending : ℕ → View O E → View O E
-  sending a v = record v { right = record v.right { away = a ∷ v.right.away } }
+  abbrev pub view_with_out : ℕ → View O E → View O E
+  view_with_out a v = record v { right = record v.right { away = a ∷ v.right.away } }
 
   -- the view of the actor that is sent out
-  abbrev pub sent : (E → Who) → ℕ → View O E → View O E
-  sent whose a v = record {
+  abbrev pub actor_view : (E → Who) → ℕ → View O E → View O E
+  actor_view whose a v = record {
     place = nowhere;
     right = record { spent = false; draws = true; family = v.right.family; actor = a; heads = 0; away = [] };
     page = page_of v (entries_of whose (record { family = v.right.family; actor = a }) v.page.seen);
   }
 
   -- the view after it has met another
-  abbrev pub met : View O E → View O E → View O E
-  met v w = record v {
+  abbrev pub view_after_meeting : View O E → View O E → View O E
+  view_after_meeting v w = record v {
     page = record v.page {
       seen = longer v.page.seen w.page.seen;
       olds = v.page.seen ∷ w.page.seen ∷ v.page.olds;
@@ -88,16 +88,16 @@ module _ {O E : Type 0} where
   }
 
   -- the view of a head after it has taken an actor back
-  abbrev pub taking : View O E → View O E → View O E
-  taking v w = record (met v w) { right = record v.right { away = without w.right.actor v.right.away } }
+  abbrev pub view_after_joining : View O E → View O E → View O E
+  view_after_joining v w = record (view_after_meeting v w) { right = record v.right { away = without w.right.actor v.right.away } }
 
   -- what is kept of a head that is joined away
   abbrev pub last_of : View O E → Last E
   last_of w = record { family = w.right.family; mine = w.page.mine; seen = w.page.seen }
 
   -- the view after it has joined a head away
-  abbrev pub closing : View O E → View O E → View O E
-  closing v w = record v {
+  abbrev pub view_after_closing : View O E → View O E → View O E
+  view_after_closing v w = record v {
     page = record v.page {
       seen = longer v.page.seen w.page.seen;
       olds = v.page.seen ∷ w.page.seen ∷ v.page.olds;
@@ -106,8 +106,8 @@ module _ {O E : Type 0} where
   }
 
   -- what is left of a seat that was joined into another
-  abbrev pub spent : View O E
-  spent = record {
+  abbrev pub spent_view : View O E
+  spent_view = record {
     place = nowhere;
     right = record { spent = true; draws = false; family = 0; actor = 0; heads = 0; away = [] };
     page = record { opening = None; seen = []; earlier = []; mine = []; olds = []; lasts = [] };
@@ -130,20 +130,20 @@ module _ {O E : Type 0} where
   pub record HasDrawn (me : Me O (View O E)) (found : ℕ) (after : Me O (View O E)) : Type 0 where
     pub ticket : ℕ
     pub found_is : ticket % 2 ^ 64 ≡ found
-    pub after_is : after ≡ (moved me.0 (waiting ticket), me.1)
+    pub after_is : after ≡ (view_at me.0 (place_waiting ticket), me.1)
 
   -- look: it is the view's turn where the word equals its ticket
   pub record HasLooked (me : Me O (View O E)) (found : ℕ) (after : Me O (View O E)) : Type 0 where
-    pub yes : (t : ℕ) → me.0.place ≡ waiting t → found ≡ t % 2 ^ 64 → after ≡ (moved me.0 (called t), me.1)
-    pub no : (t : ℕ) → me.0.place ≡ waiting t → found ≢ t % 2 ^ 64 → after ≡ me
+    pub yes : (t : ℕ) → me.0.place ≡ place_waiting t → found ≡ t % 2 ^ 64 → after ≡ (view_at me.0 (place_called t), me.1)
+    pub no : (t : ℕ) → me.0.place ≡ place_waiting t → found ≢ t % 2 ^ 64 → after ≡ me
 
   -- give: the object is home
   abbrev pub HasGiven : Me O (View O E) → Me O (View O E) → Type 0
-  HasGiven me after = (t : ℕ) → me.0.place ≡ holding t → after ≡ (moved me.0 (called t), rest me.1)
+  HasGiven me after = (t : ℕ) → me.0.place ≡ place_holding t → after ≡ (view_at me.0 (place_called t), rest me.1)
 
   -- leave: the view holds no ticket
   abbrev pub HasLeft : Me O (View O E) → Me O (View O E) → Type 0
-  HasLeft me after = after ≡ (moved me.0 nowhere, me.1)
+  HasLeft me after = after ≡ (view_at me.0 nowhere, me.1)
 
 module _ {O E F : Type 0} (m : Meanings O E F) where
   -- take: the view has seen the whole history, and has the object, which has just this history
@@ -156,20 +156,20 @@ module _ {O E F : Type 0} (m : Meanings O E F) where
     pub history : m.history object ≡ me.0.page.seen ++ missed
     pub lawful : m.lawful (m.fixed opening) (me.0.page.seen ++ missed)
     pub short : length (me.0.page.seen ++ missed) < 2 ^ 63
-    pub foreign : Every (IsForeign m.whose m.alone (who_of me.0.right)) missed
-    pub after_is : (t : ℕ) → me.0.place ≡ called t
-        → after ≡ (moved (reading me.0 (me.0.page.seen ++ missed)) (holding t), (0, object) ∷ me.1)
+    pub missable : Every (IsMissable m me.0.right) missed
+    pub after_is : (t : ℕ) → me.0.place ≡ place_called t
+        → after ≡ (view_at (view_with_seen me.0 (me.0.page.seen ++ missed)) (place_holding t), (0, object) ∷ me.1)
 
   -- commit: the view gains the entry that the object gained
   abbrev pub HasCommitted : Me O (View O E) → Me O (View O E) → Type 0
   HasCommitted me after = (y : O) (e : E) → me.1 ≡ (0, y) ∷ [] → m.history y ≡ me.0.page.seen ++ e ∷ []
-      → after ≡ (wrote me.0 e, me.1)
+      → after ≡ (view_after_entry me.0 e, me.1)
 
   -- look, after a join: all that was kept is a prefix of what the view has seen
   pub record IsSettled (me : Me O (View O E)) (after : Me O (View O E)) : Type 0 where
     pub opening : O
     pub opening_is : me.0.page.opening ≡ Some opening
-    pub after_is : after ≡ (settled me.0, me.1)
+    pub after_is : after ≡ (settled_view me.0, me.1)
     pub lawful : m.lawful (m.fixed opening) me.0.page.seen
     pub short : length me.0.page.seen < 2 ^ 63
     pub own : me.0.right.draws ≡ true

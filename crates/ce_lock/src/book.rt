@@ -4,7 +4,7 @@ ghost use Rattle.ce_model.specs.declared.topology.TheConstants.{HOST};
 ghost use Rattle.ce_lock.specs.declared.who.Who.{Who};
 ghost use Rattle.ce_lock.specs.Entries.{IsPrefix, Every, IsIn, without, entries_of};
 ghost use Rattle.ce_lock.specs.Meanings.{meanings};
-ghost use Rattle.ce_lock.specs.Sitting.{IsOf, IsSameSeat, IsKnown, IsNewHead, IsHeadIn, IsWhole, who, seen, earlier, mine, out};
+ghost use Rattle.ce_lock.specs.Sitting.{IsOf, IsSameSeat, IsKnown, IsBehind, IsNewHead, IsHeadIn, IsWhole, who, seen_history, earlier, mine, out};
 
 use crate::board::Holding;
 use crate::kept::Kept;
@@ -48,15 +48,16 @@ impl<O: Kept> Book<O> {
         requires actor { (actor ≢ HOST) × ¬ IsIn actor (out head.old) }
         ensures worker { IsOf self.now result }
         ensures actor { who result ≡ record { family = (who head.old).family; actor = actor } }
-        ensures seen { seen result ≡ seen head.old }
+        ensures seen { seen_history result ≡ seen_history head.old }
         ensures fresh { mine result ≡ [] }
-        ensures earlier { earlier result ≡ entries_of O.whose (who result) (seen head.old) }
+        ensures earlier { earlier result ≡ entries_of O.whose (who result) (seen_history head.old) }
         ensures nobody_out { out result ≡ [] }
         ensures known { IsKnown (meanings O.fixed O.history O.lawful O.whose O.alone_entry)
             self.now.opening result }
         ensures same_head { IsSameSeat head.old head.new }
         ensures out { out head.new ≡ actor ∷ out head.old }
-        ensures rest { (seen head.new ≡ seen head.old) × (mine head.new ≡ mine head.old) }
+        ensures rest { (seen_history head.new ≡ seen_history head.old)
+            × (mine head.new ≡ mine head.old) }
     {
         let family = head.who.family;
         let chair = worker_seat::<O, Brand>(&self.table.shared, &mut head.chair, actor);
@@ -76,17 +77,18 @@ impl<O: Kept> Book<O> {
         call: O::Call,
     ) -> Result<O::Reply, (O::Call, NoMemory)>
         requires of_book { IsOf self.now seat.old }
-        requires fits { O.fits (O.fixed self.now.opening) (seen seat.old) (who seat.old) call }
+        requires fits { O.fits (O.fixed self.now.opening) (seen_history seat.old) (who seat.old)
+            call }
         requires alone { O.alone call ≡ true → ((who seat.old).actor ≡ HOST) × (out seat.old ≡ []) }
         ensures same { IsSameSeat seat.old seat.new }
         ensures out { out seat.new ≡ out seat.old }
         ensures answered { IfOk result (λ reply. (before : List O.Entry) × (entry : O.Entry)
-            × IsPrefix (seen seat.old) before
-            × (seen seat.new ≡ before ++ entry ∷ [])
+            × IsBehind (meanings O.fixed O.history O.lawful O.whose O.alone_entry) seat.old before
+            × (seen_history seat.new ≡ before ++ entry ∷ [])
             × (mine seat.new ≡ mine seat.old ++ entry ∷ [])
             × O.stands (O.fixed self.now.opening) before entry (who seat.old) call reply) }
         ensures refused { IfErr result (λ back. (back.0 ≡ call)
-            × IsPrefix (seen seat.old) (seen seat.new)
+            × IsPrefix (seen_history seat.old) (seen_history seat.new)
             × (mine seat.new ≡ mine seat.old)) }
         ensures known { IsKnown (meanings O.fixed O.history O.lawful O.whose O.alone_entry)
             self.now.opening seat.new }
@@ -100,10 +102,11 @@ impl<O: Kept> Book<O> {
         requires of_book { IsOf self.now a.old × IsOf self.now b.old }
         ensures same_a { IsSameSeat a.old a.new }
         ensures same_b { IsSameSeat b.old b.new }
-        ensures same_seen { seen a.new ≡ seen b.new }
-        ensures longer { (seen a.new ≡ seen a.old) ⊎ (seen a.new ≡ seen b.old) }
-        ensures begins_a { IsPrefix (seen a.old) (seen a.new) }
-        ensures begins_b { IsPrefix (seen b.old) (seen a.new) }
+        ensures same_seen { seen_history a.new ≡ seen_history b.new }
+        ensures longer { (seen_history a.new ≡ seen_history a.old)
+            ⊎ (seen_history a.new ≡ seen_history b.old) }
+        ensures begins_a { IsPrefix (seen_history a.old) (seen_history a.new) }
+        ensures begins_b { IsPrefix (seen_history b.old) (seen_history a.new) }
         ensures rest_a { (mine a.new ≡ mine a.old) × (out a.new ≡ out a.old) }
         ensures rest_b { (mine b.new ≡ mine b.old) × (out b.new ≡ out b.old) }
         ensures known_a { IsKnown (meanings O.fixed O.history O.lawful O.whose O.alone_entry)
@@ -115,14 +118,25 @@ impl<O: Kept> Book<O> {
         self.show(b, a);
     }
 
+    /// What is known of each seat of the book.
+    pub fn knows(&self, seat: &Seat<O>)
+        requires of_book { IsOf self.now seat.now }
+        ensures known { IsKnown (meanings O.fixed O.history O.lawful O.whose O.alone_entry)
+            self.now.opening seat.now }
+    {
+        // It reads the seat, so that its invariant is at hand.
+        let _ = &seat.who;
+    }
+
     /// Makes the second seat see what the first has seen.
     fn show(&self, from: &mut Seat<O>, to: &mut Seat<O>)
         requires of_book { IsOf self.now from.old × IsOf self.now to.old }
         ensures from { from.new ≡ from.old }
         ensures same { IsSameSeat to.old to.new }
-        ensures longer { (seen to.new ≡ seen to.old) ⊎ (seen to.new ≡ seen from.old) }
-        ensures begins_to { IsPrefix (seen to.old) (seen to.new) }
-        ensures begins_from { IsPrefix (seen from.old) (seen to.new) }
+        ensures longer { (seen_history to.new ≡ seen_history to.old)
+            ⊎ (seen_history to.new ≡ seen_history from.old) }
+        ensures begins_to { IsPrefix (seen_history to.old) (seen_history to.new) }
+        ensures begins_from { IsPrefix (seen_history from.old) (seen_history to.new) }
         ensures rest { (mine to.new ≡ mine to.old) × (out to.new ≡ out to.old) }
         ensures known { IsKnown (meanings O.fixed O.history O.lawful O.whose O.alone_entry)
             self.now.opening to.new }
@@ -143,8 +157,10 @@ impl<O: Kept> Book<O> {
         requires out { IsIn (who worker).actor (out head.old) }
         ensures same { IsSameSeat head.old head.new }
         ensures out { out head.new ≡ without (who worker).actor (out head.old) }
-        ensures begins_head { IsPrefix (seen head.old) (seen head.new) }
-        ensures begins_worker { IsPrefix (seen worker) (seen head.new) }
+        ensures longer { (seen_history head.new ≡ seen_history head.old)
+            ⊎ (seen_history head.new ≡ seen_history worker) }
+        ensures begins_head { IsPrefix (seen_history head.old) (seen_history head.new) }
+        ensures begins_worker { IsPrefix (seen_history worker) (seen_history head.new) }
         ensures mine { mine head.new ≡ mine head.old }
         ensures known { IsKnown (meanings O.fixed O.history O.lawful O.whose O.alone_entry)
             self.now.opening head.new }

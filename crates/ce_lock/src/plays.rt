@@ -1,7 +1,7 @@
 //! What each kind of step tells, and how views are cut in two and joined.
 ghost use Rattle.std.specs.Prelude.{ℕ};
 ghost use Rattle.ce_lock.specs.Meanings.{meanings};
-ghost use Rattle.ce_lock.specs.Telling.{HasDrawn, HasLooked, HasTaken, HasCommitted, HasGiven, HasLeft, IsSettled, copy, making, next_head, sending, sent, met, taking, closing, spent};
+ghost use Rattle.ce_lock.specs.Telling.{HasDrawn, HasLooked, HasTaken, HasCommitted, HasGiven, HasLeft, IsSettled, copy, view_after_making, next_head, view_with_out, actor_view, view_after_meeting, view_after_joining, view_after_closing, spent_view};
 
 use crate::kept::Kept;
 use crate::view::View;
@@ -38,7 +38,8 @@ impl<O: Kept> Play<O, View<O, O::Entry>> for Look {
 }
 
 impl<O: Kept> Play<O, View<O, O::Entry>> for Take {
-    ghost then = { λ _ me _ after. HasTaken (meanings O.fixed O.history O.lawful O.whose O.alone_entry)
+    ghost then = { λ _ me _ after. HasTaken
+        (meanings O.fixed O.history O.lawful O.whose O.alone_entry)
         me after };
 }
 
@@ -89,15 +90,15 @@ impl<O: Kept> Split<View<O, O::Entry>> for Copying {
 }
 
 impl<O: Kept> Split<View<O, O::Entry>> for NextHead {
-    ghost left = { λ v. making v };
+    ghost left = { λ v. view_after_making v };
 
     ghost right = { λ v. next_head v };
 }
 
 impl<O: Kept, N: Named> Split<View<O, O::Entry>> for Sending<N> {
-    ghost left = { λ v. sending N.actor v };
+    ghost left = { λ v. view_with_out N.actor v };
 
-    ghost right = { λ v. sent O.whose N.actor v };
+    ghost right = { λ v. actor_view O.whose N.actor v };
 }
 
 /// A copy goes into a seat.
@@ -110,19 +111,19 @@ pub struct TakingBack;
 pub struct Closing;
 
 impl<O: Kept> Join<View<O, O::Entry>> for Meeting {
-    ghost both = { λ v w. met v w };
+    ghost both = { λ v w. view_after_meeting v w };
 
-    ghost spent = { spent };
+    ghost spent = { spent_view };
 }
 
 impl<O: Kept> Join<View<O, O::Entry>> for TakingBack {
-    ghost both = { λ v w. taking v w };
+    ghost both = { λ v w. view_after_joining v w };
 
-    ghost spent = { spent };
+    ghost spent = { spent_view };
 }
 
 impl<O: Kept> Join<View<O, O::Entry>> for Closing {
-    ghost both = { λ v w. closing v w };
+    ghost both = { λ v w. view_after_closing v w };
 
-    ghost spent = { spent };
+    ghost spent = { spent_view };
 }

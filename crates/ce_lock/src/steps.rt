@@ -4,8 +4,8 @@ ghost use Rattle.ce_model.specs.declared.topology.TheConstants.{HOST};
 ghost use Rattle.ce_lock.specs.Entries.{IsIn};
 ghost use Rattle.ce_lock.specs.Meanings.{meanings};
 ghost use Rattle.ce_lock.specs.OneOrder.{who_of};
-ghost use Rattle.ce_lock.specs.Telling.{nowhere, waiting, called, holding, HasDrawn, HasLooked, HasTaken, HasCommitted, HasGiven, HasLeft, IsSettled, nobody, copy, making, next_head, sending, sent, met, taking, closing};
-ghost use Rattle.ce_lock.specs.Sitting.{IsSized, IsSameChair};
+ghost use Rattle.ce_lock.specs.Telling.{nowhere, place_waiting, place_called, place_holding, HasDrawn, HasLooked, HasTaken, HasCommitted, HasGiven, HasLeft, IsSettled, nobody, copy, view_after_making, next_head, view_with_out, actor_view, view_after_meeting, view_after_joining, view_after_closing};
+ghost use Rattle.ce_lock.specs.Sitting.{IsSized, IsSameChair, AreIdle};
 
 use crate::board::{Board, Chair};
 use crate::kept::Kept;
@@ -39,7 +39,7 @@ pub fn draw<O: Kept>(board: &Board<O>, chair: &mut Chair<O>) -> u64
 pub fn look<O: Kept>(board: &Board<O>, chair: &mut Chair<O>) -> u64
     requires sized { IsSized board.now.table_id }
     requires chair { chair.old.table_id ≡ board.now.table_id }
-    requires waits { (t : ℕ) × (chair.old.me.0.place ≡ waiting t) }
+    requires waits { (t : ℕ) × (chair.old.me.0.place ≡ place_waiting t) }
     ensures chair { IsSameChair chair.old chair.new }
     ensures looked { HasLooked chair.old.me result chair.new.me }
 {
@@ -50,7 +50,7 @@ pub fn look<O: Kept>(board: &Board<O>, chair: &mut Chair<O>) -> u64
 pub fn take<O: Kept>(board: &Board<O>, chair: &mut Chair<O>)
     requires sized { IsSized board.now.table_id }
     requires chair { chair.old.table_id ≡ board.now.table_id }
-    requires turn { (t : ℕ) × (chair.old.me.0.place ≡ called t) }
+    requires turn { (t : ℕ) × (chair.old.me.0.place ≡ place_called t) }
     ensures chair { IsSameChair chair.old chair.new }
     ensures took { HasTaken (meanings O.fixed O.history O.lawful O.whose O.alone_entry)
         chair.old.me chair.new.me }
@@ -62,7 +62,7 @@ pub fn take<O: Kept>(board: &Board<O>, chair: &mut Chair<O>)
 pub fn commit<O: Kept>(board: &Board<O>, chair: &mut Chair<O>)
     requires sized { IsSized board.now.table_id }
     requires chair { chair.old.table_id ≡ board.now.table_id }
-    requires holds { (t : ℕ) × (chair.old.me.0.place ≡ holding t) }
+    requires holds { (t : ℕ) × (chair.old.me.0.place ≡ place_holding t) }
     requires entry { (y : O) × (o : O) × (e : O.Entry) × (chair.old.me.1 ≡ (0, y) ∷ [])
         × (chair.old.me.0.page.opening ≡ Some o)
         × (O.history y ≡ chair.old.me.0.page.seen ++ e ∷ [])
@@ -82,7 +82,7 @@ pub fn commit<O: Kept>(board: &Board<O>, chair: &mut Chair<O>)
 pub fn give<O: Kept>(board: &Board<O>, chair: &mut Chair<O>)
     requires sized { IsSized board.now.table_id }
     requires chair { chair.old.table_id ≡ board.now.table_id }
-    requires holds { (t : ℕ) × (chair.old.me.0.place ≡ holding t) }
+    requires holds { (t : ℕ) × (chair.old.me.0.place ≡ place_holding t) }
     requires object { (y : O) × (o : O) × (chair.old.me.1 ≡ (0, y) ∷ [])
         × (chair.old.me.0.page.opening ≡ Some o)
         × (O.fixed y ≡ O.fixed o) × (O.history y ≡ chair.old.me.0.page.seen) }
@@ -96,7 +96,7 @@ pub fn give<O: Kept>(board: &Board<O>, chair: &mut Chair<O>)
 pub fn leave<O: Kept>(board: &Board<O>, chair: &mut Chair<O>)
     requires sized { IsSized board.now.table_id }
     requires chair { chair.old.table_id ≡ board.now.table_id }
-    requires turn { (t : ℕ) × (chair.old.me.0.place ≡ called t) }
+    requires turn { (t : ℕ) × (chair.old.me.0.place ≡ place_called t) }
     ensures chair { IsSameChair chair.old chair.new }
     ensures left { HasLeft chair.old.me chair.new.me }
 {
@@ -137,7 +137,7 @@ pub fn next_seat<O: Kept>(board: &Board<O>, chair: &mut Chair<O>) -> Chair<O>
     requires made { 0 < chair.old.me.0.right.heads }
     requires room { chair.old.me.0.right.heads < board.now.key.families }
     ensures chair { IsSameChair chair.old chair.new
-        × (chair.new.me ≡ (making chair.old.me.0, chair.old.me.1)) }
+        × (chair.new.me ≡ (view_after_making chair.old.me.0, chair.old.me.1)) }
     ensures made { (result.table_id ≡ chair.old.table_id)
         × (result.me ≡ (next_head chair.old.me.0, [])) }
 {
@@ -157,9 +157,9 @@ pub fn worker_seat<O: Kept, N: Named>(
     requires host { chair.old.me.0.right.actor ≡ HOST }
     requires free { (actor ≢ HOST) × ¬ IsIn actor chair.old.me.0.right.away }
     ensures chair { IsSameChair chair.old chair.new
-        × (chair.new.me ≡ (sending actor chair.old.me.0, chair.old.me.1)) }
+        × (chair.new.me ≡ (view_with_out actor chair.old.me.0, chair.old.me.1)) }
     ensures made { (result.table_id ≡ chair.old.table_id)
-        × (result.me ≡ (sent O.whose actor chair.old.me.0, [])) }
+        × (result.me ≡ (actor_view O.whose actor chair.old.me.0, [])) }
 {
     let _ = actor;
     board.split_seat::<Sending<N>>(chair)
@@ -167,49 +167,37 @@ pub fn worker_seat<O: Kept, N: Named>(
 
 /// Joins a copy into a seat.
 pub fn meet_copy<O: Kept>(board: &Board<O>, chair: &mut Chair<O>, other: Chair<O>)
-    requires sized { IsSized board.now.table_id }
-    requires chairs { (chair.old.table_id ≡ board.now.table_id)
-        × (other.table_id ≡ board.now.table_id) }
-    requires idle { (chair.old.me.0.place ≡ nowhere) × (other.me.0.place ≡ nowhere)
-        × (other.me.1 ≡ []) }
+    requires idle { AreIdle board.now.table_id chair.old other }
     requires live { chair.old.me.0.right.spent ≡ false }
     requires copied { other.me.0.right ≡ nobody }
     ensures chair { IsSameChair chair.old chair.new }
-    ensures met { chair.new.me ≡ (met chair.old.me.0 other.me.0, chair.old.me.1) }
+    ensures met { chair.new.me ≡ (view_after_meeting chair.old.me.0 other.me.0, chair.old.me.1) }
 {
     board.join_seat::<Meeting>(chair, other);
 }
 
 /// Joins the seat of an actor into its head's.
 pub fn take_back<O: Kept>(board: &Board<O>, chair: &mut Chair<O>, other: Chair<O>)
-    requires sized { IsSized board.now.table_id }
-    requires chairs { (chair.old.table_id ≡ board.now.table_id)
-        × (other.table_id ≡ board.now.table_id) }
-    requires idle { (chair.old.me.0.place ≡ nowhere) × (other.me.0.place ≡ nowhere)
-        × (other.me.1 ≡ []) }
+    requires idle { AreIdle board.now.table_id chair.old other }
     requires draw { (chair.old.me.0.right.draws ≡ true) × (other.me.0.right.draws ≡ true) }
     requires head { chair.old.me.0.right.actor ≡ HOST }
     requires family { other.me.0.right.family ≡ chair.old.me.0.right.family }
     requires out { IsIn other.me.0.right.actor chair.old.me.0.right.away }
     ensures chair { IsSameChair chair.old chair.new }
-    ensures taken { chair.new.me ≡ (taking chair.old.me.0 other.me.0, chair.old.me.1) }
+    ensures taken { chair.new.me ≡ (view_after_joining chair.old.me.0 other.me.0, chair.old.me.1) }
 {
     board.join_seat::<TakingBack>(chair, other);
 }
 
 /// Joins the seat of a head with nobody out into the copy that closes the book.
 pub fn close_head<O: Kept>(board: &Board<O>, chair: &mut Chair<O>, other: Chair<O>)
-    requires sized { IsSized board.now.table_id }
-    requires chairs { (chair.old.table_id ≡ board.now.table_id)
-        × (other.table_id ≡ board.now.table_id) }
-    requires idle { (chair.old.me.0.place ≡ nowhere) × (other.me.0.place ≡ nowhere)
-        × (other.me.1 ≡ []) }
+    requires idle { AreIdle board.now.table_id chair.old other }
     requires copied { chair.old.me.0.right ≡ nobody }
     requires head { (other.me.0.right.draws ≡ true) × (other.me.0.right.actor ≡ HOST) }
     requires alone { other.me.0.right.away ≡ [] }
     requires fresh { other.me.0.page.earlier ≡ [] }
     ensures chair { IsSameChair chair.old chair.new }
-    ensures closed { chair.new.me ≡ (closing chair.old.me.0 other.me.0, chair.old.me.1) }
+    ensures closed { chair.new.me ≡ (view_after_closing chair.old.me.0 other.me.0, chair.old.me.1) }
 {
     board.join_seat::<Closing>(chair, other);
 }

@@ -1,10 +1,8 @@
 //! One turn at the object: a ticket, the wait for it, the call, and the way out.
 ghost use Rattle.std.specs.Prelude.{◌≡◌, ◌≢◌, ℕ, ◌+◌, ◌%◌, ◌^◌, ◌<◌, true, false, List, [], ◌∷◌, ◌++◌, length, Some};
-ghost use Rattle.ce_model.specs.declared.topology.TheConstants.{HOST};
 ghost use Rattle.ce_lock.specs.Meanings.{meanings};
-ghost use Rattle.ce_lock.specs.OneOrder.{who_of};
-ghost use Rattle.ce_lock.specs.Telling.{nowhere, waiting, called, moved};
-ghost use Rattle.ce_lock.specs.Sitting.{IsSized, IsSameChair, IsAnswer, IsTurn};
+ghost use Rattle.ce_lock.specs.Telling.{nowhere, place_waiting, place_called, view_at};
+ghost use Rattle.ce_lock.specs.Sitting.{IsSized, IsSameChair, IsReady, IsAnswer, IsTurn};
 
 use crate::board::{Board, Chair};
 use crate::kept::Kept;
@@ -22,10 +20,10 @@ const OBJECT: usize = 0;
 fn wait_for_turn<O: Kept, R: Wait>(rt: &R, board: &Board<O>, chair: &mut Chair<O>, ticket: u64)
     requires sized { IsSized board.now.table_id }
     requires chair { chair.old.table_id ≡ board.now.table_id }
-    requires waits { (t : ℕ) × (chair.old.me.0.place ≡ waiting t) × (t % 2 ^ 64 ≡ ticket) }
+    requires waits { (t : ℕ) × (chair.old.me.0.place ≡ place_waiting t) × (t % 2 ^ 64 ≡ ticket) }
     ensures chair { IsSameChair chair.old chair.new }
-    ensures called { (t : ℕ) × (chair.old.me.0.place ≡ waiting t)
-        × (chair.new.me ≡ (moved chair.old.me.0 (called t), chair.old.me.1)) }
+    ensures called { (t : ℕ) × (chair.old.me.0.place ≡ place_waiting t)
+        × (chair.new.me ≡ (view_at chair.old.me.0 (place_called t), chair.old.me.1)) }
 {
     let mut woken = false;
     for _ in rt.forever() {
@@ -72,13 +70,9 @@ fn work<O: Kept>(
 ) -> Result<O::Reply, (O::Call, NoMemory)>
     requires sized { IsSized board.now.table_id }
     requires chair { chair.old.table_id ≡ board.now.table_id }
-    requires turn { (t : ℕ) × (chair.old.me.0.place ≡ called t) }
-    requires hand { chair.old.me.1 ≡ [] }
-    requires actor { who_of chair.old.me.0.right ≡ who }
-    requires fits { (o : O) × (chair.old.me.0.page.opening ≡ Some o)
-        × O.fits (O.fixed o) chair.old.me.0.page.seen who call }
-    requires alone { O.alone call ≡ true
-        → (chair.old.me.0.right.actor ≡ HOST) × (chair.old.me.0.right.away ≡ []) }
+    requires turn { (t : ℕ) × (chair.old.me.0.place ≡ place_called t) }
+    requires ready { IsReady (meanings O.fixed O.history O.lawful O.whose O.alone_entry)
+        O.fits O.alone who call chair.old.me }
     ensures chair { IsSameChair chair.old chair.new }
     ensures hand { chair.new.me.1 ≡ [] }
     ensures turn { IsTurn (meanings O.fixed O.history O.lawful O.whose O.alone_entry)
@@ -111,12 +105,8 @@ pub fn take_turn<O: Kept, R: Wait>(
     requires chair { chair.old.table_id ≡ board.now.table_id }
     requires idle { chair.old.me.0.place ≡ nowhere }
     requires draws { chair.old.me.0.right.draws ≡ true }
-    requires hand { chair.old.me.1 ≡ [] }
-    requires actor { who_of chair.old.me.0.right ≡ who }
-    requires fits { (o : O) × (chair.old.me.0.page.opening ≡ Some o)
-        × O.fits (O.fixed o) chair.old.me.0.page.seen who call }
-    requires alone { O.alone call ≡ true
-        → (chair.old.me.0.right.actor ≡ HOST) × (chair.old.me.0.right.away ≡ []) }
+    requires ready { IsReady (meanings O.fixed O.history O.lawful O.whose O.alone_entry)
+        O.fits O.alone who call chair.old.me }
     ensures chair { IsSameChair chair.old chair.new }
     ensures hand { chair.new.me.1 ≡ [] }
     ensures turn { IsTurn (meanings O.fixed O.history O.lawful O.whose O.alone_entry)

@@ -5,28 +5,28 @@ use Rattle.ce_model.specs.declared.topology.TheConstants.{HOST}
 use Rattle.ce_lock.specs.declared.who.Who.{Who}
 use Rattle.ce_lock.specs.Entries.{IsPrefix, entries_of}
 use Rattle.ce_lock.specs.Meanings.{Meanings}
-use Rattle.ce_lock.specs.Sitting.{Sitting, BookFacts, IsSameSeat, IsNewHead, who, seen, earlier, mine, out}
-use Rattle.ce_tally.specs.declared.tally.Added.{Added}
+use Rattle.ce_lock.specs.Sitting.{Sitting, BookFacts, IsSameSeat, IsNewHead, who, seen_history, earlier, mine, out}
+use Rattle.ce_tally.specs.declared.tally.Addition.{Addition}
 use Rattle.ce_tally.specs.Rows.{IsOnly, HasAmong, HasAdded, IsFresh, made_by}
 
 module _ {O : Type 0} (book : BookFacts O) where
   -- a new head is fresh
-  pub fresh : {F : Type 0} (m : Meanings O Added F) (family : ℕ) (s : Sitting O Added) → IsNewHead m book family s → IsFresh book family s
+  pub fresh : {F : Type 0} (m : Meanings O Addition F) (family : ℕ) (s : Sitting O Addition) → IsNewHead m book family s → IsFresh book family s
   fresh m family s new = record { of_book = new.of_book; actor = new.actor; nobody_out = new.nobody_out; nothing_earlier = new.nothing_earlier; nothing_made = new.nothing_made }
 
   -- a fresh head has added its first number
-  pub added_first : (family number : ℕ) (s t : Sitting O Added) (e : Added)
+  pub added_first : (family number : ℕ) (s t : Sitting O Addition) (e : Addition)
       → IsFresh book family s → IsSameSeat s t → out t ≡ out s → mine t ≡ mine s ++ e ∷ [] → e.number ≡ number → HasAdded book family number t
   added_first family number s t e new same out_is mine_is number_is = record {
     of_book = same.name ∙ new.of_book;
     actor = same.actor ∙ new.actor;
     nobody_out = out_is ∙ new.nobody_out;
     nothing_earlier = same.since ∙ new.nothing_earlier;
-    only = record { entry = e; alone = mine_is ∙ ap (λ (l : List Added). l ++ e ∷ []) new.nothing_made; number_is = number_is };
+    only = record { entry = e; alone = mine_is ∙ ap (λ (l : List Addition). l ++ e ∷ []) new.nothing_made; number_is = number_is };
   }
 
   -- a seat that stays the same has still added it
-  pub still_added : (family number : ℕ) (s t : Sitting O Added) → HasAdded book family number s → IsSameSeat s t → mine t ≡ mine s → out t ≡ out s → HasAdded book family number t
+  pub still_added : (family number : ℕ) (s t : Sitting O Addition) → HasAdded book family number s → IsSameSeat s t → mine t ≡ mine s → out t ≡ out s → HasAdded book family number t
   still_added family number s t h same mine_is out_is = record {
     of_book = same.name ∙ h.of_book;
     actor = same.actor ∙ h.actor;
@@ -36,31 +36,31 @@ module _ {O : Type 0} (book : BookFacts O) where
   }
 
   -- what it has added is all that its actor has in what it has seen
-  pub only_one : (family number : ℕ) (s : Sitting O Added)
-      → HasAdded book family number s → entries_of (λ (x : Added). x.who) (who s) (seen s) ≡ earlier s ++ mine s → IsOnly number (made_by family HOST (seen s))
+  pub only_one : (family number : ℕ) (s : Sitting O Addition)
+      → HasAdded book family number s → entries_of (λ (x : Addition). x.who) (who s) (seen_history s) ≡ earlier s ++ mine s → IsOnly number (made_by family HOST (seen_history s))
   only_one family number s h own = record {
     entry = h.only.entry;
-    alone = ap (λ (w : Who). entries_of (λ (x : Added). x.who) w (seen s)) (sym h.actor) ∙ (own ∙ (ap (λ (l : List Added). l ++ mine s) h.nothing_earlier ∙ h.only.alone));
+    alone = ap (λ (w : Who). entries_of (λ (x : Addition). x.who) w (seen_history s)) (sym h.actor) ∙ (own ∙ (ap (λ (l : List Addition). l ++ mine s) h.nothing_earlier ∙ h.only.alone));
     number_is = h.only.number_is;
   }
 
 -- an entry at the end of a front part is among all
-pub among : (family actor number : ℕ) (before h : List Added) (e : Added) (seen_by : List Added) → seen_by ≡ before ++ e ∷ [] → IsPrefix seen_by h → e.who ≡ record { family = family; actor = actor } → e.number ≡ number → HasAmong family actor number h
+pub among : (family actor number : ℕ) (before h : List Addition) (e : Addition) (seen_by : List Addition) → seen_by ≡ before ++ e ∷ [] → IsPrefix seen_by h → e.who ≡ record { family = family; actor = actor } → e.number ≡ number → HasAmong family actor number h
 among family actor number before h e seen_by is p actor_is number_is = record {
   front = before;
   entry = e;
   back = p.rest;
-  whole = sym (append_assoc before (e ∷ []) p.rest) ∙ (ap (λ (l : List Added). l ++ p.rest) (sym is) ∙ p.whole);
+  whole = sym (append_assoc before (e ∷ []) p.rest) ∙ (ap (λ (l : List Addition). l ++ p.rest) (sym is) ∙ p.whole);
   actor_is = actor_is;
   number_is = number_is;
 }
 
-pub still_among : (family actor number : ℕ) (h k : List Added) → HasAmong family actor number h → IsPrefix h k → HasAmong family actor number k
+pub still_among : (family actor number : ℕ) (h k : List Addition) → HasAmong family actor number h → IsPrefix h k → HasAmong family actor number k
 still_among family actor number h k a p = record {
   front = a.front;
   entry = a.entry;
   back = a.back ++ p.rest;
-  whole = sym (append_assoc a.front (a.entry ∷ a.back) p.rest) ∙ (ap (λ (l : List Added). l ++ p.rest) a.whole ∙ p.whole);
+  whole = sym (append_assoc a.front (a.entry ∷ a.back) p.rest) ∙ (ap (λ (l : List Addition). l ++ p.rest) a.whole ∙ p.whole);
   actor_is = a.actor_is;
   number_is = a.number_is;
 }

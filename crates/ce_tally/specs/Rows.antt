@@ -3,29 +3,29 @@ use Rattle.std.specs.Prelude.{◌≡◌, ℕ, List, [], ◌∷◌, ◌++◌}
 use Rattle.ce_model.specs.declared.topology.TheConstants.{HOST}
 use Rattle.ce_lock.specs.Entries.{entries_of}
 use Rattle.ce_lock.specs.Sitting.{Sitting, BookFacts, IsOf, who, out, earlier, mine}
-use Rattle.ce_tally.specs.declared.tally.Added.{Added}
+use Rattle.ce_tally.specs.declared.tally.Addition.{Addition}
 
 -- what one actor added
-abbrev pub made_by : ℕ → ℕ → List Added → List Added
-made_by family actor h = entries_of (λ (e : Added). e.who) (record { family = family; actor = actor }) h
+abbrev pub made_by : ℕ → ℕ → List Addition → List Addition
+made_by family actor h = entries_of (λ (e : Addition). e.who) (record { family = family; actor = actor }) h
 
 -- there is one entry, of this number
-pub record IsOnly (number : ℕ) (h : List Added) : Type 0 where
-  pub entry : Added
+pub record IsOnly (number : ℕ) (h : List Addition) : Type 0 where
+  pub entry : Addition
   pub alone : h ≡ entry ∷ []
   pub number_is : entry.number ≡ number
 
 -- among the entries is one of the actor, of this number
-pub record HasAmong (family actor number : ℕ) (h : List Added) : Type 0 where
-  pub front : List Added
-  pub entry : Added
-  pub back : List Added
+pub record HasAmong (family actor number : ℕ) (h : List Addition) : Type 0 where
+  pub front : List Addition
+  pub entry : Addition
+  pub back : List Addition
   pub whole : front ++ entry ∷ back ≡ h
   pub actor_is : entry.who ≡ record { family = family; actor = actor }
   pub number_is : entry.number ≡ number
 
 -- the seat is that of the family's head, of the book, with nobody out, and has added just this number
-pub record HasAdded {O : Type 0} (book : BookFacts O) (family number : ℕ) (s : Sitting O Added) : Type 0 where
+pub record HasAdded {O : Type 0} (book : BookFacts O) (family number : ℕ) (s : Sitting O Addition) : Type 0 where
   pub of_book : IsOf book s
   pub actor : who s ≡ record { family = family; actor = HOST }
   pub nobody_out : out s ≡ []
@@ -33,7 +33,7 @@ pub record HasAdded {O : Type 0} (book : BookFacts O) (family number : ℕ) (s :
   pub only : IsOnly number (mine s)
 
 -- the seat is that of the family's head, of the book, and nothing was done with it
-pub record IsFresh {O : Type 0} (book : BookFacts O) (family : ℕ) (s : Sitting O Added) : Type 0 where
+pub record IsFresh {O : Type 0} (book : BookFacts O) (family : ℕ) (s : Sitting O Addition) : Type 0 where
   pub of_book : IsOf book s
   pub actor : who s ≡ record { family = family; actor = HOST }
   pub nobody_out : out s ≡ []

@@ -7,5 +7,5 @@ mod tally;
 #[cfg(test)]
 mod tests;
 
-pub use row::{Met, calls_and_meets, close_both};
-pub use tally::{Add, Added, Tally};
+pub use row::{TallyMeeting, calls_and_meets, close_both};
+pub use tally::{Add, Addition, Tally};

@@ -2,7 +2,7 @@
 ghost use Rattle.std.specs.Prelude.{◌≡◌, IfSome};
 ghost use Rattle.ce_model.specs.declared.topology.TheConstants.{HOST};
 ghost use Rattle.ce_lock.specs.Entries.{IsPrefix};
-ghost use Rattle.ce_lock.specs.Sitting.{seen};
+ghost use Rattle.ce_lock.specs.Sitting.{seen_history};
 ghost use Rattle.ce_tally.specs.Sums.{IsTallied};
 ghost use Rattle.ce_tally.specs.Rows.{HasAdded, HasAmong, IsFresh, IsOnly, made_by};
 
@@ -13,7 +13,7 @@ use std::sync::Wait;
 
 /// A book of two families whose heads have met, and what the calls before were answered.
 #[derive(Drop)]
-pub struct Met {
+pub struct TallyMeeting {
     pub book: Book<Tally>,
     /// The head of family 0.
     pub first: Seat<Tally>,
@@ -25,16 +25,16 @@ pub struct Met {
 
 /// The first head adds 5 and the second 7, and they meet. Then the first head sends actor 3 out,
 /// which adds 1 and comes back, and the heads meet again. `None` where there is no memory.
-pub fn calls_and_meets<R: Wait>(rt: &R, alloc: Global) -> Option<Met>
+pub fn calls_and_meets<R: Wait>(rt: &R, alloc: Global) -> Option<TallyMeeting>
     ensures families { IfSome result (λ r. r.book.families ≡ 2) }
     ensures first { IfSome result (λ r. HasAdded r.book 0 5 r.first) }
     ensures second { IfSome result (λ r. HasAdded r.book 1 7 r.second) }
-    ensures same_seen { IfSome result (λ r. seen r.first ≡ seen r.second) }
-    ensures only_five { IfSome result (λ r. IsOnly 5 (made_by 0 HOST (seen r.first))) }
-    ensures only_seven { IfSome result (λ r. IsOnly 7 (made_by 1 HOST (seen r.second))) }
-    ensures worker { IfSome result (λ r. HasAmong 0 3 1 (seen r.first)) }
+    ensures same_seen { IfSome result (λ r. seen_history r.first ≡ seen_history r.second) }
+    ensures only_five { IfSome result (λ r. IsOnly 5 (made_by 0 HOST (seen_history r.first))) }
+    ensures only_seven { IfSome result (λ r. IsOnly 7 (made_by 1 HOST (seen_history r.second))) }
+    ensures worker { IfSome result (λ r. HasAmong 0 3 1 (seen_history r.first)) }
 {
-    let Met {
+    let TallyMeeting {
         book,
         mut first,
         mut second,
@@ -44,7 +44,7 @@ pub fn calls_and_meets<R: Wait>(rt: &R, alloc: Global) -> Option<Met>
     book.meet(&mut first, &mut second);
     let one = worker_calls(rt, alloc, &book, &mut first)?;
     book.meet(&mut first, &mut second);
-    Some(Met {
+    Some(TallyMeeting {
         book,
         first,
         second,
@@ -53,7 +53,7 @@ pub fn calls_and_meets<R: Wait>(rt: &R, alloc: Global) -> Option<Met>
 }
 
 /// A book of two families, whose heads add 5 and 7.
-fn both_call<R: Wait>(rt: &R, alloc: Global) -> Option<Met>
+fn both_call<R: Wait>(rt: &R, alloc: Global) -> Option<TallyMeeting>
     ensures families { IfSome result (λ r. r.book.families ≡ 2) }
     ensures first { IfSome result (λ r. HasAdded r.book 0 5 r.first) }
     ensures second { IfSome result (λ r. HasAdded r.book 1 7 r.second) }
@@ -65,7 +65,7 @@ fn both_call<R: Wait>(rt: &R, alloc: Global) -> Option<Met>
     let Ok(seven) = book.call(rt, alloc, &mut second, Add(7)) else {
         return None;
     };
-    Some(Met {
+    Some(TallyMeeting {
         book,
         first,
         second,
@@ -96,7 +96,7 @@ fn worker_calls<R: Wait>(
 ) -> Option<u64>
     requires { HasAdded book.now 0 5 head.old }
     ensures head { IfSome result (λ _. HasAdded book.now 0 5 head.new) }
-    ensures worker { IfSome result (λ _. HasAmong 0 3 1 (seen head.new)) }
+    ensures worker { IfSome result (λ _. HasAmong 0 3 1 (seen_history head.new)) }
 {
     let mut worker = book.split(head, 3);
     let Ok(reply) = book.call(rt, alloc, &mut worker, Add(1)) else {
@@ -107,18 +107,18 @@ fn worker_calls<R: Wait>(
 }
 
 /// Ends the book of two heads. `None` where there is no memory.
-pub fn close_both(alloc: Global, met: Met) -> Option<Tally>
+pub fn close_both(alloc: Global, met: TallyMeeting) -> Option<Tally>
     requires families { met.book.families ≡ 2 }
     requires first { HasAdded met.book 0 5 met.first }
     requires second { HasAdded met.book 1 7 met.second }
     ensures lawful { IfSome result (λ t. IsTallied 0 t) }
-    ensures begins { IfSome result (λ t. IsPrefix (seen met.first) t
-        × IsPrefix (seen met.second) t) }
+    ensures begins { IfSome result (λ t. IsPrefix (seen_history met.first) t
+        × IsPrefix (seen_history met.second) t) }
 {
     let Ok(mut heads) = Vec::with_capacity(alloc, 2) else {
         return None;
     };
-    let Met {
+    let TallyMeeting {
         book,
         first,
         second,

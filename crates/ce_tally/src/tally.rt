@@ -14,7 +14,7 @@ pub struct Add(pub u64);
 
 /// A number that was added.
 #[derive(Clone, Copy, Debug, PartialEq, Eq)]
-pub struct Added {
+pub struct Addition {
     /// Who added it.
     pub who: Who,
     /// The number.
@@ -27,15 +27,15 @@ pub struct Added {
 #[derive(Drop)]
 pub struct Tally {
     sum: u64,
-    added: Vec<Added>,
+    added: Vec<Addition>,
 }
 
 impl Model for Tally {
     ghost use Rattle.std.specs.Prelude.{◌≡◌, List};
-    ghost use Rattle.ce_tally.specs.declared.tally.Added.{Added};
+    ghost use Rattle.ce_tally.specs.declared.tally.Addition.{Addition};
     ghost use Rattle.ce_tally.specs.Sums.{sum_from};
 
-    ghost Value = { List Added };
+    ghost Value = { List Addition };
 
     ghost view = { λ t. t.added.items };
 
@@ -61,7 +61,7 @@ impl Tally {
     }
 
     /// What was added, the oldest first.
-    pub fn added(&self) -> &[Added]
+    pub fn added(&self) -> &[Addition]
         ensures { result.now ≡ self.now }
     {
         self.added.as_slice()
@@ -73,7 +73,7 @@ impl Kept for Tally {
 
     type Reply = u64;
 
-    type Entry = Added;
+    type Entry = Addition;
 
     ghost Fixed = { Unit {0} };
 
@@ -96,7 +96,7 @@ impl Kept for Tally {
     fn act(&mut self, _alloc: Global, who: Who, call: Add) -> Result<u64, (Add, NoMemory)> {
         let before = self.sum;
         let number = call.0;
-        let entry = Added {
+        let entry = Addition {
             who,
             number,
             before,

@@ -1,6 +1,7 @@
 //! The book, called from one thread and from many.
 ghost use Rattle.std.specs.Prelude.{◌≡◌, ◌+◌, ◌<◌, ◌≤◌, All, IfSome};
-ghost use Rattle.ce_lock.specs.Sitting.{IsOf};
+ghost use Rattle.ce_lock.specs.Sitting.{IsOf, seen_history};
+ghost use Rattle.ce_tally.specs.Sums.{IsTallied};
 
 use crate::row::{calls_and_meets, close_both, two_heads};
 use crate::tally::{Add, Tally};
@@ -43,17 +44,38 @@ fn book(rt: HostRuntime) -> Result<(), Fail> {
     Ok(())
 }
 
-// One call of a seat.
-fn one_call<R: Wait>(
+// What a seat has seen is a tally.
+fn seen_is_a_tally(book: &Book<Tally>, seat: &Seat<Tally>)
+    requires { IsOf book.now seat.now }
+    ensures { IsTallied 0 (seen_history seat.now) }
+{
+    book.knows(seat);
+}
+
+#[test]
+fn heads_have_seen_tallies(rt: HostRuntime) -> Result<(), Fail> {
+    let met = calls_and_meets(&rt, rt.alloc()).ok_or("no memory")?;
+    seen_is_a_tally(&met.book, &met.first);
+    seen_is_a_tally(&met.book, &met.second);
+    Ok(())
+}
+
+// Adds the number as often as said: what the last call was answered.
+fn calls<R: Wait>(
     rt: &R,
     alloc: Global,
     book: &Book<Tally>,
     mut seat: Seat<Tally>,
     number: u64,
+    count: u32,
 ) -> Option<u64>
     requires { IsOf book.now seat }
 {
-    book.call(rt, alloc, &mut seat, Add(number)).ok()
+    let mut last = None;
+    for _ in 0..count {
+        last = Some(book.call(rt, alloc, &mut seat, Add(number)).ok()?);
+    }
+    last
 }
 
 // Two heads call at once: the answers of the two.
@@ -61,8 +83,8 @@ fn both_at_once<R: Threads + Wait + Sync>(rt: &R, alloc: Global) -> Option<(u64,
     let (book, first, second) = two_heads(alloc)?;
     let (five, seven) = join(
         rt,
-        || one_call(rt, alloc, &book, first, 5),
-        || one_call(rt, alloc, &book, second, 7),
+        || calls(rt, alloc, &book, first, 5, 1),
+        || calls(rt, alloc, &book, second, 7, 1),
     );
     Some((five?, seven?))
 }
@@ -77,24 +99,6 @@ fn two_heads_at_once(rt: HostRuntime) -> Result<(), Fail> {
     Ok(())
 }
 
-// Adds 1 as often as said.
-fn many_calls<R: Wait>(
-    rt: &R,
-    alloc: Global,
-    book: &Book<Tally>,
-    mut seat: Seat<Tally>,
-    count: u32,
-) -> Option<()>
-    requires { IsOf book.now seat }
-{
-    for _ in 0..count {
-        let Ok(_) = book.call(rt, alloc, &mut seat, Add(1)) else {
-            return None;
-        };
-    }
-    Some(())
-}
-
 // Eight heads add 1 in threads of their own, a thousand times each. What a ninth is answered then
 // is the sum.
 fn eight_threads<R: Threads + Wait + Sync>(rt: &R, alloc: Global) -> Option<u64> {
@@ -102,11 +106,11 @@ fn eight_threads<R: Threads + Wait + Sync>(rt: &R, alloc: Global) -> Option<u64>
         return None;
     };
     let ninth = heads.pop()?;
-    let done = thread::map_vec(rt, heads, &|seat| many_calls(rt, alloc, &book, seat, 1000)).ok()?;
+    let done = thread::map_vec(rt, heads, &|seat| calls(rt, alloc, &book, seat, 1, 1000)).ok()?;
     for part in done {
         part?;
     }
-    one_call(rt, alloc, &book, ninth, 0)
+    calls(rt, alloc, &book, ninth, 0, 1)
 }
 
 #[test]

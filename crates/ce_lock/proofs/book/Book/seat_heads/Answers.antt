@@ -2,7 +2,7 @@ use Rattle.std.proofs.Common.{◌≡◌, ℕ, ◌+◌, ◌-◌, List, [], length
 use Rattle.std.proofs.lemmas.List.{length_push}
 use Rattle.ce_lock.specs.Meanings.{meanings}
 use Rattle.ce_lock.specs.Sitting.{Sitting, IsNewHead}
-use Rattle.ce_lock.specs.Telling.{making, next_head, fresh_head}
+use Rattle.ce_lock.specs.Telling.{view_after_making, next_head, fresh_head}
 use Rattle.ce_lock.proofs.Endings.{new_head, heads_grow}
 use Rattle.ce_lock.proofs.book.Book.seat_heads.Goals as goal
 
@@ -30,7 +30,7 @@ next_seat-next-requires-clause-room g c = let e = ap (λ me. me.0.right.heads) c
     omega (arith, e, f, c.requires.families.1, c.loop-family-test.true)
 
 pub of_head-requires : goal.of_head-requires
-of_head-requires g c = (c.args.self.now.opening, 0, c.next_seat-next.ensures.chair.1 ∙ ap (λ me. (making me.0, me.1)) c.loop-family.invariant.view)
+of_head-requires g c = (c.args.self.now.opening, 0, c.next_seat-next.ensures.chair.1 ∙ ap (λ me. (view_after_making me.0, me.1)) c.loop-family.invariant.view)
 
 pub push_reserved-requires : goal.push_reserved-requires
 push_reserved-requires g c = let i = c.loop-family.invariant in omega (arith, i.len, i.room, c.loop-family-test.true)
@@ -46,7 +46,7 @@ loop-family-preserved g c = let i = c.loop-family.invariant in let K = g.O.Kept 
       (heads_grow (meanings K.fixed K.history K.lawful K.whose K.alone_entry) c.args.self.now c.loop-family.heads.items c.loop-family.family c.of_head.result i.count i.heads
       (subst (IsNewHead (meanings K.fixed K.history K.lawful K.whose K.alone_entry) c.args.self.now c.loop-family.family) (sym c.of_head.ensures)
       (new_head (meanings K.fixed K.history K.lawful K.whose K.alone_entry) c.args.self.now c.loop-family.family 0 c.next_seat-next.new.chair.table_id c.next_seat-next.new.chair.me.0 (c.next_seat-next.ensures.chair.0.0 ∙ i.chair)
-      (ap (λ me. me.0) c.next_seat-next.ensures.chair.1 ∙ ap (λ me. making me.0) i.view))) k d low);
+      (ap (λ me. me.0) c.next_seat-next.ensures.chair.1 ∙ ap (λ me. view_after_making me.0) i.view))) k d low);
 }
 
 pub of_head-requires-2 : goal.of_head-requires-2
