@@ -1,5 +1,5 @@
 -- A call of a cube that fits makes the next entry of the cube's trace, and changes no other node of it.
-use Rattle.std.proofs.Common.{◌≡◌, ◌⊎◌, ℕ, ◌&&◌, inl, inr, ◌^◌, ◌<◌, false, ◌==◌, IsSomeAnd, List, [], ◌∷◌, ◌++◌, Some, None, option_map, refl, ap, sym, ◌∙◌, subst}
+use Rattle.std.proofs.Common.{◌≡◌, ◌⊎◌, ℕ, ◌&&◌, inl, inr, ◌^◌, ◌<◌, true, false, ◌==◌, IsSomeAnd, List, [], ◌∷◌, ◌++◌, Some, None, option_map, refl, ap, sym, ◌∙◌, subst}
 use Rattle.std.specs.Prelude.{is_some}
 use Rattle.std.proofs.lemmas.Bool.{both_ways, eq-eqb, ne_eqb}
 use Rattle.ce_model.specs.declared.topology.TheConstants.{HOST}
@@ -12,7 +12,7 @@ use Rattle.ce_model.specs.Cube.{Cube, CubeState, opening, state, hoststore}
 use Rattle.ce_model.specs.Subcubes.{relative, node_of}
 use Rattle.ce_model.specs.Renaming.{number_outward, entry_inward}
 use Rattle.ce_model.specs.Views.{trace_behind, view}
-use Rattle.ce_model.specs.Machine.{MachineParts, IsMachine, HeldCube, IsLawful, IsLawfulEntry, IsFitting, IsCallOf, in_cube, answered, after, held_by, held_by_entry, with_cube, record_by, changed_by, changed_by_call, nodes_of, standing_of, with_places_outward, cube_of}
+use Rattle.ce_model.specs.Machine.{MachineParts, HeldCube, IsLawfulEntry, IsFitting, IsCallOf, in_cube, what_of_request, after, held_by, held_by_entry, with_cube, record_by, changed_by, changed_by_call, nodes_of, standing_of, with_places_outward, cube_of}
 use Rattle.ce_model.proofs.Walked.{each-more}
 use Rattle.ce_model.proofs.OneMore.{state-more, hoststore-more}
 use Rattle.ce_solo.proofs.Projection.Views.{found-more, trace-grows, trace-stays, view-is}
@@ -24,16 +24,16 @@ use Rattle.ce_solo.proofs.Projection.Law.{projected, after-more, own-called, law
 use Rattle.ce_solo.proofs.Projection.Kinds.{and_false}
 use Rattle.ce_cube.specs.Boxes.{node_now, IsMadeBy, IsOneMore, IsAside}
 use Rattle.ce_cube.specs.Laws.{CallsAdd, OthersKeep}
-use Rattle.ce_cube.proofs.Held.{seen, by_cube}
+use Rattle.ce_cube.proofs.Held.{IsSeen, by_seen}
 
 -- the entry of a call that fits is lawful
 lawful_entry : (parts : MachineParts) (history : List Entry) (user actor : ℕ) (call : Call) (entry : Entry) → IsFitting parts history user actor (in_cube call)
-    → entry.user ≡ user → entry.actor ≡ actor → answered parts (after history) user actor (in_cube call) ≡ Some entry.what → IsLawfulEntry parts history entry
+    → entry.user ≡ user → entry.actor ≡ actor → what_of_request parts (after history) user actor (in_cube call) ≡ Some entry.what → IsLawfulEntry parts history entry
 lawful_entry parts history user actor call entry fits user_is actor_is what = record {
   request = in_cube call;
   fits = subst (λ u. IsFitting parts history u entry.actor (in_cube call)) (sym user_is) (subst (λ a. IsFitting parts history user a (in_cube call)) (sym actor_is) fits);
-  answer = subst (λ u. answered parts (after history) u entry.actor (in_cube call) ≡ Some entry.what) (sym user_is)
-      (subst (λ a. answered parts (after history) user a (in_cube call) ≡ Some entry.what) (sym actor_is) what);
+  answer = subst (λ u. what_of_request parts (after history) u entry.actor (in_cube call) ≡ Some entry.what) (sym user_is)
+      (subst (λ a. what_of_request parts (after history) user a (in_cube call) ≡ Some entry.what) (sym actor_is) what);
 }
 
 -- the entry has the call's answer in the cube that is held
@@ -54,26 +54,28 @@ store-other o t entry other = rw other at (hoststore-more o t entry)
 pub state-other : (cube : Cube) (r : ℕ) (t : List Entry) (entry : Entry) → (entry.actor == r) ≡ false → state cube (opening cube) r (t ++ entry ∷ []) ≡ state cube (opening cube) r t
 state-other cube r t entry other = rw other at (state-more cube (opening cube) r t entry)
 
-module _ (parts : MachineParts) (history : List Entry) (machine : IsMachine parts) (lawful : IsLawful parts history) (cube : HeldCube)
-    (holds : held_by (after history) cube.grant.user ≡ Some cube) (goes : cube.drained ≡ false) (actor : ℕ) (call : Call) (entry : Entry)
+module _ (parts : MachineParts) (history : List Entry) (cube : HeldCube) (now : IsSeen parts history cube) (actor : ℕ) (call : Call) (entry : Entry)
     (fits : IsFitting parts history cube.grant.user actor (in_cube call)) (made : IsMadeBy parts history cube.grant actor call entry) where
   abbrev h' : List Entry
   h' = history ++ entry ∷ []
 
-  call-of : IsCallOf parts history entry.actor call cube
+  pub call-of : IsCallOf parts history entry.actor call cube
   call-of =
-      subst (λ a. IsCallOf parts history a call cube) (sym made.actor_is) (subst (λ held. IsSomeAnd held (IsCallOf parts history actor call)) holds fits.1)
+      subst (λ a. IsCallOf parts history a call cube) (sym made.actor_is) (subst (λ held. IsSomeAnd held (IsCallOf parts history actor call)) now.holds fits.1)
 
   holds_now : held_by (after history) entry.user ≡ Some cube
-  holds_now = ap (held_by (after history)) made.user ∙ holds
+  holds_now = ap (held_by (after history)) made.user ∙ now.holds
 
   answer_now : answer (nodes_of cube.grant) (standing_of (after history) cube) entry.actor (with_places_outward cube.grant call) ≡ entry.what
   answer_now =
       ap (λ a. answer (nodes_of cube.grant) (standing_of (after history) cube) a (with_places_outward cube.grant call)) made.actor_is
-      ∙ answer-made parts history cube actor call entry holds made
+      ∙ answer-made parts history cube actor call entry now.holds made
 
-  abbrev own : IsOwnEntry parts cube.grant (trace_behind cube.grant ((projected parts history machine lawful).held entry.user cube holds_now).behind) entry
-  own = own-called parts machine history (projected parts history machine lawful) entry call cube holds_now call-of (ap Some answer_now)
+  abbrev own : IsOwnEntry parts cube.grant (trace_behind cube.grant ((projected parts history now.machine now.lawful).held entry.user cube holds_now).behind) entry
+  own = own-called parts now.machine history (projected parts history now.machine now.lawful) entry call cube holds_now call-of (ap Some answer_now)
+
+  pub is-called : is_some (call_of entry.what) ≡ true
+  is-called = ap is_some own.called
 
   held_next : held_by (after h') cube.grant.user ≡ Some (held_by_entry entry cube)
   held_next =
@@ -83,19 +85,19 @@ module _ (parts : MachineParts) (history : List Entry) (machine : IsMachine part
 
   pub trace_next : view h' cube.number ≡ view history cube.number ++ entry_inward cube.grant.sub entry ∷ []
   trace_next =
-      let was = (projected parts history machine lawful).held entry.user cube holds_now in
+      let was = (projected parts history now.machine now.lawful).held entry.user cube holds_now in
       view-is h' cube.number cube.grant (was.behind ++ entry ∷ []) (found-more history entry cube.number cube.grant was.behind was.found)
-      ∙ trace-grows cube.grant was.behind entry own.call (was.over ∙ goes) (eq-eqb _ _ made.user) own.called
+      ∙ trace-grows cube.grant was.behind entry own.call (was.over ∙ now.goes) (eq-eqb _ _ made.user) own.called
       ∙ ap (λ t. t ++ entry_inward cube.grant.sub entry ∷ []) (sym (view-is history cube.number cube.grant was.behind was.found))
 
   inner_node : (q : ℕ) → q < 2 ^ cube.grant.dim → entry.actor ≡ node_of cube.grant.sub q → relative cube.grant.sub entry.actor ≡ q
   inner_node q below is =
-      ap (relative cube.grant.sub) is ∙ relative_out parts.dim cube.grant (seen parts history cube machine lawful holds goes).placed q below
+      ap (relative cube.grant.sub) is ∙ relative_out parts.dim cube.grant now.placed q below
 
   inner_host : entry.actor ≡ HOST → (r : ℕ) → r < 2 ^ cube.grant.dim → (relative cube.grant.sub entry.actor == r) ≡ false
   inner_host is r below =
-      let placed = (seen parts history cube machine lawful holds goes).placed in
-      ap (λ n. n == r) (ap (relative cube.grant.sub) is ∙ relative_host parts.dim cube.grant placed) ∙ other_way r HOST (node_no_host parts.dim cube.grant placed r below)
+      ap (λ n. n == r) (ap (relative cube.grant.sub) is ∙ relative_host parts.dim cube.grant now.placed)
+      ∙ other_way r HOST (node_no_host parts.dim cube.grant now.placed r below)
 
   stays : (r : ℕ) → (relative cube.grant.sub entry.actor == r) ≡ false → node_now parts h' cube.number cube.grant r ≡ node_now parts history cube.number cube.grant r
   stays r other =
@@ -104,14 +106,13 @@ module _ (parts : MachineParts) (history : List Entry) (machine : IsMachine part
 
   no_host_inner : (entry.actor == HOST) ≡ false → (relative cube.grant.sub entry.actor == HOST) ≡ false
   no_host_inner other =
-      let placed = (seen parts history cube machine lawful holds goes).placed in
-      ne_eqb _ _ (λ same. both_ways _ other (eq-eqb _ _ (actor_back parts.dim cube.grant placed entry.actor call-of.inside ∙ ap (number_outward cube.grant.sub) same)))
+      ne_eqb _ _ (λ same. both_ways _ other (eq-eqb _ _ (actor_back parts.dim cube.grant now.placed entry.actor call-of.inside ∙ ap (number_outward cube.grant.sub) same)))
 
   pub one-more : IsOneMore parts history cube.number cube.grant entry
   one-more = record {
-    lawful = each-more (IsLawfulEntry parts) history entry lawful
+    lawful = each-more (IsLawfulEntry parts) history entry now.lawful
         (lawful_entry parts history cube.grant.user actor call entry fits made.user made.actor_is made.what);
-    held = record { cube = held_by_entry entry cube; held = held_next; number_is = refl; grant_is = refl; goes_on = goes };
+    held = record { cube = held_by_entry entry cube; held = held_next; number_is = refl; grant_is = refl; goes_on = now.goes };
     trace = trace_next;
     others = λ q r below is differ. stays r (ap (λ n. n == r) (inner_node q below is) ∙ differ);
     all = λ is r below. stays r (inner_host is r below);
@@ -122,25 +123,24 @@ module _ (parts : MachineParts) (history : List Entry) (machine : IsMachine part
 
 pub calls-add : CallsAdd
 calls-add parts history number grant machine lawful held actor call entry fits made =
-    by_cube
+    by_seen
     (λ number grant. IsFitting parts history grant.user actor (in_cube call) → IsMadeBy parts history grant actor call entry
-    → IsOneMore parts history number grant entry) history number grant
-    (λ cube holds goes fits made. one-more parts history machine lawful cube holds goes actor call entry fits made) held fits made
+    → IsOneMore parts history number grant entry) parts history number grant machine lawful
+    (λ cube now fits made. one-more parts history cube now actor call entry fits made) held fits made
 
 -- ---- entries that are none of the cube
 
-module _ (parts : MachineParts) (history : List Entry) (machine : IsMachine parts) (lawful : IsLawful parts history) (cube : HeldCube)
-    (holds : held_by (after history) cube.grant.user ≡ Some cube) (goes : cube.drained ≡ false) (entry : Entry) (is : IsLawfulEntry parts history entry) where
+module _ (parts : MachineParts) (history : List Entry) (cube : HeldCube) (now : IsSeen parts history cube) (entry : Entry) (is : IsLawfulEntry parts history entry) where
   aside : held_by (after (history ++ entry ∷ [])) cube.grant.user ≡ held_by (after history) cube.grant.user
       → (entry.user == cube.grant.user && is_some (call_of entry.what)) ≡ false → IsAside parts history cube.number cube.grant entry
   aside same none =
-      let was = (projected parts history machine lawful).held cube.grant.user cube holds in
+      let was = (projected parts history now.machine now.lawful).held cube.grant.user cube now.holds in
       let trace : view (history ++ entry ∷ []) cube.number ≡ view history cube.number =
       view-is (history ++ entry ∷ []) cube.number cube.grant (was.behind ++ entry ∷ []) (found-more history entry cube.number cube.grant was.behind was.found)
       ∙ trace-stays cube.grant was.behind entry none ∙ sym (view-is history cube.number cube.grant was.behind was.found) in
       record {
-        lawful = each-more (IsLawfulEntry parts) history entry lawful is;
-        held = record { cube = cube; held = same ∙ holds; number_is = refl; grant_is = refl; goes_on = goes };
+        lawful = each-more (IsLawfulEntry parts) history entry now.lawful is;
+        held = record { cube = cube; held = same ∙ now.holds; number_is = refl; grant_is = refl; goes_on = now.goes };
         trace = trace;
         nodes = λ r. ap (state (cube_of parts.images cube.grant) (opening (cube_of parts.images cube.grant)) r) trace;
         store = ap (hoststore (opening (cube_of parts.images cube.grant))) trace;
@@ -148,7 +148,7 @@ module _ (parts : MachineParts) (history : List Entry) (machine : IsMachine part
 
   others_keep : ((entry.user == cube.grant.user) ≡ false) ⊎ (entry.what ≡ Peek) → IsAside parts history cube.number cube.grant entry
   others_keep (inl other) =
-      aside ((lawful-step parts machine history (projected parts history machine lawful) entry is).others cube.grant.user other)
+      aside ((lawful-step parts now.machine history (projected parts history now.machine now.lawful) entry is).others cube.grant.user other)
       (ap (λ b. b && is_some (call_of entry.what)) other)
   others_keep (inr peek) =
       aside (ap (λ state. held_by state cube.grant.user) (after-more history entry
@@ -157,6 +157,6 @@ module _ (parts : MachineParts) (history : List Entry) (machine : IsMachine part
 
 pub others-keep : OthersKeep
 others-keep parts history number grant machine lawful held entry is beside =
-    by_cube
-    (λ number grant. ((entry.user == grant.user) ≡ false) ⊎ (entry.what ≡ Peek) → IsAside parts history number grant entry) history number grant
-    (λ cube holds goes beside. others_keep parts history machine lawful cube holds goes entry is beside) held beside
+    by_seen
+    (λ number grant. ((entry.user == grant.user) ≡ false) ⊎ (entry.what ≡ Peek) → IsAside parts history number grant entry) parts history number grant machine lawful
+    (λ cube now beside. others_keep parts history cube now entry is beside) held beside

@@ -11,8 +11,8 @@ use Rattle.ce_model.specs.declared.entry.What.{What}
 use Rattle.ce_model.specs.declared.entry.What.TheVariants as entry
 use Rattle.ce_model.specs.declared.entry.KillFound.{KillFound}
 use Rattle.ce_model.specs.declared.entry.KillFound.TheVariants as found
-use Rattle.ce_model.specs.declared.entry.Given.{Given}
-use Rattle.ce_model.specs.declared.entry.Given.TheVariants as given
+use Rattle.ce_model.specs.declared.entry.TakeResult.{TakeResult}
+use Rattle.ce_model.specs.declared.entry.TakeResult.TheVariants as given
 use Rattle.ce_model.specs.Parcels.{Item}
 use Rattle.ce_model.specs.Node.{Turn, Node, Call, takes, sends, spawns, kills, notes, arms, looks, takes_mail}
 use Rattle.ce_model.specs.Saying.{says}
@@ -24,12 +24,12 @@ use Rattle.ce_model.specs.Subcubes.{node_of}
 use Rattle.ce_model.specs.Sound.{IsSound}
 use Rattle.ce_model.specs.Renaming.{block_outward, what_renamed, call_with, heard_with, item_with}
 use Rattle.ce_model.specs.Views.{view}
-use Rattle.ce_model.specs.Machine.{MachineParts, IsMachine, HeldCube, IsLawful, after, held_by, nodes_of, standing_of, with_places_outward, cube_of}
-use Rattle.rk_mail.specs.declared.talk.Heard as program
-use Rattle.rk_mail.specs.declared.talk.Heard.TheVariants as reply
+use Rattle.ce_model.specs.Machine.{MachineParts, HeldCube, after, nodes_of, standing_of, with_places_outward, cube_of}
+use Rattle.rk_mail.specs.declared.talk.Hearing as program
+use Rattle.rk_mail.specs.declared.talk.Hearing.TheVariants as reply
 use Rattle.rk_mail.specs.Talk.{heard_as, is_of_take, IsAnswerTo, IsGiven, heard_of_kill, IsHeardIn}
 use Rattle.ce_script.specs.Rounds.{asks_for_work}
-use Rattle.ce_solo.proofs.Words.{Leaves}
+use Rattle.ce_solo.proofs.Words.{HasMadeCall}
 use Rattle.ce_solo.proofs.Made.{by_node}
 use Rattle.ce_solo.proofs.Projection.Numbers.{what_outward, out_node}
 use Rattle.ce_solo.proofs.Projection.Answers.{answer-outward}
@@ -37,7 +37,7 @@ use Rattle.ce_solo.proofs.Projection.Calls.{call-in, made-within}
 use Rattle.ce_cube.specs.Boxes.{node_now, IsStandIn, IsSaidBy, IsMadeBy, IsAnswered}
 use Rattle.ce_cube.specs.Hearable.{IsInTurn, IsHearable, IsRightAnswer, calls_left_in, calls_left}
 use Rattle.ce_cube.specs.Laws.{BoxesCanHear, TurnsEnd}
-use Rattle.ce_cube.proofs.Held.{Seen, seen, by_cube}
+use Rattle.ce_cube.proofs.Held.{IsSeen, by_seen}
 use Rattle.ce_cube.proofs.Seats.{node-said, rest-blocks, parcel-blocks}
 use Rattle.ce_cube.proofs.Says.{says-of, asks-renamed}
 use Rattle.ce_cube.proofs.Adds.{answer-made}
@@ -56,7 +56,7 @@ heard_in-renamed place block items (entry.Spawn pid image to fresh) = refl
 heard_in-renamed place block items (entry.Kill pid to found) = refl
 heard_in-renamed place block items other = refl
 
-given-answers : (items : List Item) (given : Given) (heard : program.Heard) → IsGiven items given heard → is_of_take heard ≡ true
+given-answers : (items : List Item) (given : TakeResult) (heard : program.Hearing) → IsGiven items given heard → is_of_take heard ≡ true
 given-answers items (given.Start pid image) heard is = ap is_of_take is
 given-answers items (given.Mail pid number) heard is = ap is_of_take is.1
 given-answers items (given.Kill pid) heard is = ap is_of_take is
@@ -64,16 +64,16 @@ given-answers items (given.Poll pid) heard is = ap is_of_take is
 given-answers items given.Idle heard is = ap is_of_take is
 given-answers items given.Spent heard is = ap is_of_take is
 
-fresh-answers : (fresh : Bool) (heard : program.Heard) → heard ≡ (if fresh then reply.Spawned else reply.Used) → (heard ≡ reply.Spawned) ⊎ (heard ≡ reply.Used)
+fresh-answers : (fresh : Bool) (heard : program.Hearing) → heard ≡ (if fresh then reply.Spawned else reply.Used) → (heard ≡ reply.Spawned) ⊎ (heard ≡ reply.Used)
 fresh-answers true heard is = inl is
 fresh-answers false heard is = inr is
 
-kill-answers : (found : KillFound) (heard : program.Heard) → heard ≡ heard_of_kill found → (heard ≡ reply.Killed) ⊎ ((heard ≡ reply.Unused) ⊎ (heard ≡ reply.Already))
+kill-answers : (found : KillFound) (heard : program.Hearing) → heard ≡ heard_of_kill found → (heard ≡ reply.Killed) ⊎ ((heard ≡ reply.Unused) ⊎ (heard ≡ reply.Already))
 kill-answers found.Killed heard is = inl is
 kill-answers found.Unused heard is = inr (inl is)
 kill-answers found.Already heard is = inr (inr is)
 
-call-answers : (place : Place → Place) (block rename : BlockId → BlockId) (nodes : List ℕ) (standing : Standing) (r : ℕ) (items : List Item) (call : Call) (heard : program.Heard)
+call-answers : (place : Place → Place) (block rename : BlockId → BlockId) (nodes : List ℕ) (standing : Standing) (r : ℕ) (items : List Item) (call : Call) (heard : program.Hearing)
     → IsHeardIn items (what_renamed place block (answer nodes standing r call)) heard → IsAnswerTo (call_with rename call) heard
 unfolding answer
 call-answers place block rename nodes standing r items (takes asking dead poller) heard is = given-answers items _ heard is
@@ -91,7 +91,7 @@ in_turn : (node : Node) → asks_for_work (says node).call ≡ false → IsInTur
 in_turn node other = let calling = says-calling node other in record { turn = calling.called.turn; is = calling.called.is }
 
 call-hearable : (cube : Cube) (s : CubeState) (r : ℕ) → IsCube cube → r < 2 ^ cube.dim → IsSound cube s → (call : Call) → (says (s.node r)).call ≡ call
-    → Leaves (s.node r) (says (s.node r)).node call
+    → HasMadeCall (s.node r) (says (s.node r)).node call
     → IsHearable cube.images (says (s.node r)).node (heard_in (s.standing.node_record r).waiting (answer (node_numbers cube.dim) s.standing r call))
 unfolding answer
 call-hearable cube s r of below sound (takes asking dead poller) is said =
@@ -123,13 +123,9 @@ turn-kept images rename node nodes standing r items takes_mail other = refl
 
 -- ---- the box
 
-module _ (parts : MachineParts) (history : List Entry) (machine : IsMachine parts) (lawful : IsLawful parts history) (cube : HeldCube)
-    (holds : held_by (after history) cube.grant.user ≡ Some cube) (goes : cube.drained ≡ false) (r : ℕ) (below : r < 2 ^ cube.grant.dim) (box : Node)
+module _ (parts : MachineParts) (history : List Entry) (cube : HeldCube) (now : IsSeen parts history cube) (r : ℕ) (below : r < 2 ^ cube.grant.dim) (box : Node)
     (stands : IsStandIn cube.grant (node_now parts history cube.number cube.grant r) box) (entry : Entry)
     (made : IsMadeBy parts history cube.grant (node_of cube.grant.sub r) (says box).call entry) where
-  abbrev now : Seen parts history cube
-  now = seen parts history cube machine lawful holds goes
-
   abbrev own : Cube
   own = cube_of parts.images cube.grant
 
@@ -143,19 +139,19 @@ module _ (parts : MachineParts) (history : List Entry) (machine : IsMachine part
   inner = answer (node_numbers cube.grant.dim) s.standing r call
 
   abbrev said : IsSaidBy parts history cube.number cube.grant r box
-  said = says-of parts history machine lawful cube holds goes r below box stands
+  said = says-of parts history cube now r below box stands
 
   -- the entry is the one that the node's call makes in the cube, with the machine's names
   pub entry-is : entry.what ≡ what_outward cube.grant inner
   entry-is =
-      sym (answer-made parts history cube (node_of cube.grant.sub r) (says box).call entry holds made)
+      sym (answer-made parts history cube (node_of cube.grant.sub r) (says box).call entry now.holds made)
       ∙ ap (λ call. answer (nodes_of cube.grant) (standing_of (after history) cube) (node_of cube.grant.sub r) (with_places_outward cube.grant call)) said.call
       ∙ ap (λ n. answer (nodes_of cube.grant) (standing_of (after history) cube) n (with_places_outward cube.grant (call_with (block_outward cube.grant) call)))
       (sym (out_node parts.dim cube.grant now.placed r below))
       ∙ answer-outward parts.dim cube.grant now.placed (standing_of (after history) cube) s.standing now.standing r call (inl below)
       (call-in cube.grant.dim call (made-within own s now.of now.stands.sound r None call (by_node below refl)))
 
-  module _ (heard : program.Heard) (is : IsAnswered history cube.grant r entry.what heard) where
+  module _ (heard : program.Hearing) (is : IsAnswered history cube.grant r entry.what heard) where
     abbrev items : List Item
     items = (s.standing.node_record r).waiting
 
@@ -164,7 +160,7 @@ module _ (parts : MachineParts) (history : List Entry) (machine : IsMachine part
     outward = map (item_with (block_outward cube.grant)) items
 
     heard_own : IsHeardIn outward entry.what heard
-    heard_own = heard-own parts history machine lawful cube holds goes r below box stands entry heard is
+    heard_own = heard-own parts history cube now r below box stands entry heard is
 
     heard_is : heard_as heard ≡ heard_with (block_outward cube.grant) (heard_in items inner)
     heard_is =
@@ -209,16 +205,16 @@ module _ (parts : MachineParts) (history : List Entry) (machine : IsMachine part
 
 pub boxes-can-hear : BoxesCanHear
 boxes-can-hear parts history number grant machine lawful held r box entry heard below stands made is =
-    by_cube
+    by_seen
     (λ number grant. r < 2 ^ grant.dim → IsStandIn grant (node_now parts history number grant r) box
     → IsMadeBy parts history grant (node_of grant.sub r) (says box).call entry → IsAnswered history grant r entry.what heard
-    → IsRightAnswer parts.images (says box) heard) history number grant
-    (λ cube holds goes below stands made is. right-answer parts history machine lawful cube holds goes r below box stands entry made heard is) held below stands made is
+    → IsRightAnswer parts.images (says box) heard) parts history number grant machine lawful
+    (λ cube now below stands made is. right-answer parts history cube now r below box stands entry made heard is) held below stands made is
 
 pub turns-end : TurnsEnd
 turns-end parts history number grant machine lawful held r box entry heard below stands made is =
-    by_cube
+    by_seen
     (λ number grant. r < 2 ^ grant.dim → IsStandIn grant (node_now parts history number grant r) box
     → IsMadeBy parts history grant (node_of grant.sub r) (says box).call entry → IsAnswered history grant r entry.what heard
-    → IsFalse (asks_for_work (says box).call) → calls_left (hears parts.images (says box).node (heard_as heard)) < calls_left box) history number grant
-    (λ cube holds goes below stands made is. turn-ends parts history machine lawful cube holds goes r below box stands entry made heard is) held below stands made is
+    → IsFalse (asks_for_work (says box).call) → calls_left (hears parts.images (says box).node (heard_as heard)) < calls_left box) parts history number grant machine lawful
+    (λ cube now below stands made is. turn-ends parts history cube now r below box stands entry made heard is) held below stands made is

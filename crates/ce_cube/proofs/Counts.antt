@@ -1,5 +1,5 @@
 -- An entry of a node is of its turn, and takes a dispatch exactly where it gives work.
-use Rattle.std.proofs.Common.{◌≡◌, ℕ, ◌+◌, ◌-◌, ◌^◌, ◌<◌, ◌≤◌, Bool, true, false, if◌then◌else◌, List, [], ◌∷◌, ◌++◌, map, Option, Some, refl, ap, sym, ◌∙◌, arith}
+use Rattle.std.proofs.Common.{◌≡◌, ℕ, ◌+◌, ◌-◌, ◌^◌, ◌<◌, ◌≤◌, Bool, true, false, if◌then◌else◌, List, [], ◌∷◌, ◌++◌, map, Option, refl, ap, sym, ◌∙◌, arith}
 use Rattle.ce_model.specs.declared.topology.BlockId.{BlockId}
 use Rattle.ce_model.specs.declared.topology.Place.{Place}
 use Rattle.ce_model.specs.declared.entry.Entry.{Entry}
@@ -7,27 +7,27 @@ use Rattle.ce_model.specs.declared.entry.What.{What}
 use Rattle.ce_model.specs.declared.entry.What.TheVariants as entry
 use Rattle.ce_model.specs.declared.entry.KillFound.{KillFound}
 use Rattle.ce_model.specs.declared.entry.KillFound.TheVariants as found
-use Rattle.ce_model.specs.declared.entry.Given.{Given}
-use Rattle.ce_model.specs.declared.entry.Given.TheVariants as given
+use Rattle.ce_model.specs.declared.entry.TakeResult.{TakeResult}
+use Rattle.ce_model.specs.declared.entry.TakeResult.TheVariants as given
 use Rattle.ce_model.specs.Parcels.{Item}
 use Rattle.ce_model.specs.Node.{Node, Call, takes, sends, spawns, kills, notes, arms, looks, takes_mail}
 use Rattle.ce_model.specs.Saying.{says}
-use Rattle.ce_model.specs.Trace.{Standing, is_work, armed_by, dispatched_by, armed, dispatched, waiting}
+use Rattle.ce_model.specs.Trace.{Standing, is_work, armed_by, dispatched_by, allowed_dispatches, made_dispatches, waiting_items}
 use Rattle.ce_model.specs.Answers.{answer}
 use Rattle.ce_model.specs.Cube.{Cube, opening, left_by, node_numbers}
 use Rattle.ce_model.specs.Subcubes.{relative, node_of}
 use Rattle.ce_model.specs.Renaming.{place_inward, block_inward, block_outward, what_renamed, item_with, entry_inward}
 use Rattle.ce_model.specs.Views.{view}
-use Rattle.ce_model.specs.Machine.{MachineParts, IsMachine, HeldCube, IsLawful, after, held_by, cube_of}
+use Rattle.ce_model.specs.Machine.{MachineParts, HeldCube, cube_of}
 use Rattle.ce_model.proofs.OneMore.{armed-more, dispatched-more}
-use Rattle.rk_mail.specs.declared.talk.Heard.{Heard}
+use Rattle.rk_mail.specs.declared.talk.Hearing.{Hearing}
 use Rattle.rk_mail.specs.Talk.{IsGiven, heard_of_kill, IsHeardIn}
 use Rattle.ce_script.specs.Rounds.{is_take, is_dispatch, asks_for_work}
 use Rattle.ce_solo.proofs.Projection.Numbers.{relative_out}
 use Rattle.ce_cube.specs.Boxes.{node_now, IsStandIn, IsMadeBy, IsAnswered}
 use Rattle.ce_cube.specs.Rounds.{is_work_heard, dispatches_left, IsEntryOf}
 use Rattle.ce_cube.specs.Laws.{EntriesCount, StepsEndTurns}
-use Rattle.ce_cube.proofs.Held.{Seen, seen, by_cube, held-within}
+use Rattle.ce_cube.proofs.Held.{IsSeen, by_seen, held-within}
 use Rattle.ce_cube.proofs.Says.{says-of, asks-renamed}
 use Rattle.ce_cube.proofs.Adds.{one-more}
 use Rattle.ce_cube.proofs.Hears.{heard-own}
@@ -36,7 +36,7 @@ use Rattle.ce_cube.proofs.CanHear.{entry-is}
 -- ---- what is heard, and what its entry counts
 
 -- work that is given is work that is heard
-given-work : (items : List Item) (given : Given) (heard : Heard) → IsGiven items given heard → is_work given ≡ is_work_heard heard
+given-work : (items : List Item) (given : TakeResult) (heard : Hearing) → IsGiven items given heard → is_work given ≡ is_work_heard heard
 given-work items (given.Start pid image) heard is = sym (ap is_work_heard is)
 given-work items (given.Mail pid number) heard is = sym (ap is_work_heard is.1)
 given-work items (given.Kill pid) heard is = sym (ap is_work_heard is)
@@ -45,7 +45,7 @@ given-work items given.Idle heard is = sym (ap is_work_heard is)
 given-work items given.Spent heard is = sym (ap is_work_heard is)
 
 -- an entry counts so, by what was heard
-record Counts (what : What) (heard : Heard) : Type 0 where
+record IsCounted (what : What) (heard : Hearing) : Type 0 where
   dispatch : (user actor : ℕ) → is_dispatch (record { user = user; actor = actor; what = what }) ≡ is_work_heard heard
   armed : (count : ℕ) → armed_by count what ≡ count
   dispatched : (count : ℕ) → dispatched_by count what ≡ count + (if is_work_heard heard then 1 else 0)
@@ -54,31 +54,31 @@ taken-counts : (b : Bool) (count : ℕ) → (if b then count + 1 else count) ≡
 taken-counts true count = refl
 taken-counts false count = omega arith
 
-take-counts : (asking dead : ℕ) (poller : Option ℕ) (given : Given) (heard : Heard) → is_work given ≡ is_work_heard heard → Counts (entry.Take asking dead poller given) heard
+take-counts : (asking dead : ℕ) (poller : Option ℕ) (given : TakeResult) (heard : Hearing) → is_work given ≡ is_work_heard heard → IsCounted (entry.Take asking dead poller given) heard
 take-counts asking dead poller given heard work = record {
   dispatch = λ user actor. work;
   armed = λ count. refl;
   dispatched = λ count. ap (λ b. if b then count + 1 else count) work ∙ taken-counts (is_work_heard heard) count;
 }
 
-no_work : (what : What) (heard : Heard) → ((user actor : ℕ) → is_dispatch (record { user = user; actor = actor; what = what }) ≡ false) → ((count : ℕ) → armed_by count what ≡ count)
-    → ((count : ℕ) → dispatched_by count what ≡ count) → is_work_heard heard ≡ false → Counts what heard
-no_work what heard dispatch armed dispatched none = record {
+no_work : (what : What) (heard : Hearing) → ((user actor : ℕ) → is_dispatch (record { user = user; actor = actor; what = what }) ≡ false) → ((count : ℕ) → armed_by count what ≡ count)
+    → ((count : ℕ) → dispatched_by count what ≡ count) → is_work_heard heard ≡ false → IsCounted what heard
+no_work what heard dispatch allowed_dispatches made_dispatches none = record {
   dispatch = λ user actor. dispatch user actor ∙ sym none;
-  armed = armed;
-  dispatched = λ count. dispatched count ∙ omega (arith, ap {B = ℕ} (λ b. if b then 1 else 0) none);
+  armed = allowed_dispatches;
+  dispatched = λ count. made_dispatches count ∙ omega (arith, ap {B = ℕ} (λ b. if b then 1 else 0) none);
 }
 
-fresh-work : (fresh : Bool) (items : List Item) (to : Place) (heard : Heard) → IsHeardIn items (entry.Spawn 0 0 to fresh) heard → is_work_heard heard ≡ false
+fresh-work : (fresh : Bool) (items : List Item) (to : Place) (heard : Hearing) → IsHeardIn items (entry.Spawn 0 0 to fresh) heard → is_work_heard heard ≡ false
 fresh-work true items to heard is = ap is_work_heard is
 fresh-work false items to heard is = ap is_work_heard is
 
-kill-work : (found : KillFound) (heard : Heard) → heard ≡ heard_of_kill found → is_work_heard heard ≡ false
+kill-work : (found : KillFound) (heard : Hearing) → heard ≡ heard_of_kill found → is_work_heard heard ≡ false
 kill-work found.Killed heard is = ap is_work_heard is
 kill-work found.Unused heard is = ap is_work_heard is
 kill-work found.Already heard is = ap is_work_heard is
 
-heard-counts : (place : Place → Place) (block : BlockId → BlockId) (items : List Item) (what : What) (heard : Heard) → IsHeardIn items what heard → Counts (what_renamed place block what) heard
+heard-counts : (place : Place → Place) (block : BlockId → BlockId) (items : List Item) (what : What) (heard : Hearing) → IsHeardIn items what heard → IsCounted (what_renamed place block what) heard
 heard-counts place block items (entry.Take asking dead poller given) heard is = take-counts asking dead poller given heard (given-work items given heard is)
 heard-counts place block items (entry.Send pid first to bytes) heard is = no_work _ heard (λ user actor. refl) (λ count. refl) (λ count. refl) (ap is_work_heard is)
 heard-counts place block items (entry.Spawn pid image to fresh) heard is = no_work _ heard (λ user actor. refl) (λ count. refl) (λ count. refl) (fresh-work fresh items to heard is)
@@ -108,14 +108,10 @@ call-takes nodes standing r user actor takes_mail = refl
 
 -- ---- the box
 
-module _ (parts : MachineParts) (history : List Entry) (machine : IsMachine parts) (lawful : IsLawful parts history) (cube : HeldCube)
-    (holds : held_by (after history) cube.grant.user ≡ Some cube) (goes : cube.drained ≡ false) (r : ℕ) (below : r < 2 ^ cube.grant.dim) (box : Node)
+module _ (parts : MachineParts) (history : List Entry) (cube : HeldCube) (now : IsSeen parts history cube) (r : ℕ) (below : r < 2 ^ cube.grant.dim) (box : Node)
     (stands : IsStandIn cube.grant (node_now parts history cube.number cube.grant r) box) (entry : Entry)
-    (made : IsMadeBy parts history cube.grant (node_of cube.grant.sub r) (says box).call entry) (heard : Heard)
+    (made : IsMadeBy parts history cube.grant (node_of cube.grant.sub r) (says box).call entry) (heard : Hearing)
     (is : IsAnswered history cube.grant r entry.what heard) where
-  abbrev now : Seen parts history cube
-  now = seen parts history cube machine lawful holds goes
-
   abbrev own : Cube
   own = cube_of parts.images cube.grant
 
@@ -128,48 +124,48 @@ module _ (parts : MachineParts) (history : List Entry) (machine : IsMachine part
   abbrev work : ℕ
   work = if is_work_heard heard then 1 else 0
 
-  counts : Counts inner.what heard
+  counts : IsCounted inner.what heard
   counts =
       heard-counts (place_inward cube.grant.sub) (block_inward cube.grant.sub)
-      (map (item_with (block_outward cube.grant)) (waiting (opening own).standing r (view history cube.number))) entry.what heard
-      (heard-own parts history machine lawful cube holds goes r below box stands entry heard is)
+      (map (item_with (block_outward cube.grant)) (waiting_items (opening own).standing r (view history cube.number))) entry.what heard
+      (heard-own parts history cube now r below box stands entry heard is)
 
-  left-by : (t : List Entry) → t ≡ view history cube.number ++ inner ∷ [] → dispatched (opening own).standing t ≤ armed (opening own).standing t
-      → armed (opening own).standing t - dispatched (opening own).standing t + work ≡ dispatches_left parts history cube.number cube.grant
+  left-by : (t : List Entry) → t ≡ view history cube.number ++ inner ∷ [] → made_dispatches (opening own).standing t ≤ allowed_dispatches (opening own).standing t
+      → allowed_dispatches (opening own).standing t - made_dispatches (opening own).standing t + work ≡ dispatches_left parts history cube.number cube.grant
   left-by t same within =
       let o = (opening own).standing in
       let before = view history cube.number in
       omega (
         arith,
         within,
-        ap (armed o) same ∙ armed-more o before inner ∙ counts.armed (armed o before),
-        ap (dispatched o) same ∙ dispatched-more o before inner ∙ counts.dispatched (dispatched o before),
+        ap (allowed_dispatches o) same ∙ armed-more o before inner ∙ counts.armed (allowed_dispatches o before),
+        ap (made_dispatches o) same ∙ dispatched-more o before inner ∙ counts.dispatched (made_dispatches o before),
       )
 
   entry-of : IsEntryOf parts history cube.number cube.grant r (says box).call entry heard
   entry-of =
-      let said = says-of parts history machine lawful cube holds goes r below box stands in
-      let more = one-more parts history machine lawful cube holds goes (node_of cube.grant.sub r) (says box).call entry said.fits made in
+      let said = says-of parts history cube now r below box stands in
+      let more = one-more parts history cube now (node_of cube.grant.sub r) (says box).call entry said.fits made in
       record {
         actor_is = ap (relative cube.grant.sub) made.actor_is ∙ relative_out parts.dim cube.grant now.placed r below;
         take = takes-renamed (place_inward cube.grant.sub) (block_inward cube.grant.sub) entry.user inner.actor entry.what
             ∙ ap (λ what. is_take (record { user = entry.user; actor = inner.actor; what = what }))
-            (entry-is parts history machine lawful cube holds goes r below box stands entry made)
+            (entry-is parts history cube now r below box stands entry made)
             ∙ takes-renamed _ _ entry.user inner.actor _
             ∙ call-takes (node_numbers cube.grant.dim) (left_by own (opening own) (view history cube.number)).standing r entry.user inner.actor call
             ∙ sym (ap asks_for_work said.call ∙ asks-renamed (block_outward cube.grant) call);
         dispatch = counts.dispatch inner.user inner.actor;
         left = left-by (view (history ++ entry ∷ []) cube.number) more.trace
-            (held-within parts (history ++ entry ∷ []) cube.number cube.grant machine more.lawful more.held);
+            (held-within parts (history ++ entry ∷ []) cube.number cube.grant now.machine more.lawful more.held);
       }
 
 pub entries-count : EntriesCount
 entries-count parts history number grant machine lawful held r box entry heard below stands made is =
-    by_cube
+    by_seen
     (λ number grant. r < 2 ^ grant.dim → IsStandIn grant (node_now parts history number grant r) box
     → IsMadeBy parts history grant (node_of grant.sub r) (says box).call entry → IsAnswered history grant r entry.what heard
-    → IsEntryOf parts history number grant r (says box).call entry heard) history number grant
-    (λ cube holds goes below stands made is. entry-of parts history machine lawful cube holds goes r below box stands entry made heard is) held below stands made is
+    → IsEntryOf parts history number grant r (says box).call entry heard) parts history number grant machine lawful
+    (λ cube now below stands made is. entry-of parts history cube now r below box stands entry made heard is) held below stands made is
 
 pub steps-end-turns : StepsEndTurns
 steps-end-turns parts history number grant box steps = λ r below. (steps r below).asks

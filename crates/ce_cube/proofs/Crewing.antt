@@ -23,7 +23,7 @@ use Rattle.ce_cube.specs.Boxes.{IsHeldAs, IsInStep}
 use Rattle.ce_cube.specs.Rounds.{IsPartOfRound}
 use Rattle.ce_cube.specs.Crews.{HasStopped, IsLawfulMachine, IsReady, AreBoxesInStep, IsHostInStep, IsCrewInStep, HasGoneOn, HasMadeRound, AreCallsOf, box_at, cube_grant}
 use Rattle.ce_cube.specs.Exchanges.{HasNode, IsTurning, HasTakenTurn, IsRoundUnderWay, node_in, left_in}
-use Rattle.ce_cube.proofs.Held.{seen, by_cube}
+use Rattle.ce_cube.proofs.Held.{placed-of}
 use Rattle.ce_cube.proofs.Rounds.{are-made}
 
 -- ---- a view has no more entries than the history
@@ -79,8 +79,7 @@ view-short history number = by_found (from_grant history number) (from-short his
 
 pub few-nodes : (m : MachineFacts) (grant : Grant) → IsLawfulMachine m → IsHeldAs m.history grant.number (cube_grant grant) → 2 ^ grant.dim ≤ 64
 few-nodes m grant sound held =
-    by_cube (λ number grant. 2 ^ grant.dim ≤ 64) m.history grant.number (cube_grant grant)
-    (λ cube holds goes. few_relative m.parts.dim cube.grant (seen m.parts m.history cube sound.within sound.lawful holds goes).placed) held
+    few_relative m.parts.dim (cube_grant grant) (placed-of m.parts m.history grant.number (cube_grant grant) sound.within sound.lawful held)
 
 -- ---- a crew that is in step
 

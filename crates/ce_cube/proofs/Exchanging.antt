@@ -23,10 +23,10 @@ use Rattle.ce_model.specs.Node.{Node, Call, process_at, blocks_of, ids_of}
 use Rattle.ce_model.specs.Saying.{says}
 use Rattle.ce_model.specs.Sound.{is_unborn}
 use Rattle.ce_model.specs.Renaming.{CubeGrant}
-use Rattle.ce_model.specs.Machine.{MachineParts, MachineState, IsFitting, held_by, in_cube, after, answered, HeldCube, nodes_of, standing_of, with_places_outward}
+use Rattle.ce_model.specs.Machine.{MachineParts, MachineState, IsFitting, held_by, in_cube, after, what_of_request, HeldCube, nodes_of, standing_of, with_places_outward}
 use Rattle.ce_daemon.specs.declared.grant.Grant.{Grant}
-use Rattle.rk_mail.specs.declared.talk.Heard.{Heard}
-use Rattle.rk_mail.specs.declared.talk.Heard.TheVariants as heard
+use Rattle.rk_mail.specs.declared.talk.Hearing.{Hearing}
+use Rattle.rk_mail.specs.declared.talk.Hearing.TheVariants as heard
 use Rattle.rk_mail.specs.Items.{parcel_of}
 use Rattle.rk_mail.specs.Talk.{IsHeardIn, IsAnswerTo, call_said, heard_as}
 use Rattle.rk_node.specs.Boxes.{Box}
@@ -36,8 +36,8 @@ use Rattle.rk_node.specs.Answering.{IsAbleToHear, IsWork}
 use Rattle.ce_machine.specs.declared.call.Reply.{Reply}
 use Rattle.ce_machine.specs.declared.call.Reply.TheVariants.{Heard as ReplyHeard}
 use Rattle.ce_machine.specs.Replies.{IsReplyTo, IsHeard, OfHeldCube, items_for, found_reply}
-use Rattle.ce_model.specs.declared.entry.Found.{Found}
-use Rattle.ce_model.specs.declared.entry.Found.TheVariants.{Quiet, Spent, Busy}
+use Rattle.ce_model.specs.declared.entry.LookResult.{LookResult}
+use Rattle.ce_model.specs.declared.entry.LookResult.TheVariants.{Quiet, Spent, Busy}
 use Rattle.ce_machine.specs.declared.call.Call.TheVariants.{Say as SaySaid}
 use Rattle.ce_machine.specs.Meanings.{MachineFacts, IsAnsweredBy}
 use Rattle.ce_lock.specs.declared.who.Who.{Who}
@@ -50,7 +50,7 @@ use Rattle.ce_cube.specs.Hearable.{IsHearable, IsRightAnswer, calls_left}
 use Rattle.ce_cube.specs.Rounds.{is_work_heard}
 use Rattle.ce_cube.specs.Crews.{cube_grant}
 use Rattle.ce_cube.specs.Exchanges.{HasNode, HasSaidCall, HasExchanged}
-use Rattle.ce_cube.proofs.Held.{Seen, seen, by_cube}
+use Rattle.ce_cube.proofs.Held.{by_seen, placed-of}
 use Rattle.ce_cube.proofs.Seats.{node-said}
 use Rattle.ce_cube.proofs.Says.{boxes-say}
 use Rattle.ce_cube.proofs.Adds.{calls-add}
@@ -67,13 +67,13 @@ of_nobody (Some cube) is = absurd is
 abbrev IsSameReply : {N : Type 0} → Reply N → Reply N → Type 0
 IsSameReply reply other = reply ≡ other
 
-heard-not_found : {N X : Type 0} (heard : Heard) (found : Found) → IsSameReply {N = N} (ReplyHeard heard) (found_reply found) → X
+heard-not_found : {N X : Type 0} (heard : Hearing) (found : LookResult) → IsSameReply {N = N} (ReplyHeard heard) (found_reply found) → X
 heard-not_found heard Quiet is = absurd (cc)
 heard-not_found heard Spent is = absurd (cc)
 heard-not_found heard Busy is = absurd (cc)
 
 -- a machine that lets hear replies to a call of a cube, in what waited for its actor
-pub heard-reply : {N : Type 0} (home : N → ℕ) (clean : N → Type 0) (parts : MachineParts) (state : MachineState) (user actor : ℕ) (what : What) (heard : Heard)
+pub heard-reply : {N : Type 0} (home : N → ℕ) (clean : N → Type 0) (parts : MachineParts) (state : MachineState) (user actor : ℕ) (what : What) (heard : Hearing)
     → IsReplyTo home clean parts state user actor what (ReplyHeard heard)
     → OfHeldCube state user (λ cube. IsHeardIn (items_for state cube actor) what heard)
 heard-reply home clean parts state user actor (entry.Getcube dim None) heard is = absurd (cc)
@@ -93,14 +93,14 @@ heard-reply home clean parts state user actor (entry.Take asking dead poller giv
 
 -- to what was said the machine replies by letting hear
 heard-by : {N : Type 0} (held : Option HeldCube) (items : HeldCube → List Item) (what : What) (reply : Reply N)
-    → IsSomeAnd held (λ cube. IsHeard (items cube) what reply) → (heard : Heard) × (reply ≡ ReplyHeard heard)
+    → IsSomeAnd held (λ cube. IsHeard (items cube) what reply) → (heard : Hearing) × (reply ≡ ReplyHeard heard)
 heard-by None items what reply is = absurd is
 heard-by (Some cube) items what (ReplyHeard heard) is = (heard, refl)
 heard-by (Some cube) items what other is = absurd is
 
 pub said-heard : {N : Type 0} (home : N → ℕ) (clean : N → Type 0) (parts : MachineParts) (state : MachineState) (user actor : ℕ) (nodes : List ℕ) (standing : Standing)
     (grant : CubeGrant) (said : Say) (reply : Reply N) → IsReplyTo home clean parts state user actor (answer nodes standing actor (with_places_outward grant (call_said said))) reply
-    → (heard : Heard) × (reply ≡ ReplyHeard heard)
+    → (heard : Hearing) × (reply ≡ ReplyHeard heard)
 unfolding answer
 said-heard home clean parts state user actor nodes standing grant (say.Take asking dead poller) reply is =
     heard-by (held_by state user) (λ cube. items_for state cube actor) (answer nodes standing actor (with_places_outward grant (call_said (say.Take asking dead poller)))) reply is
@@ -126,7 +126,7 @@ born-is : (status : Status) → is_unborn status ≡ false → ¬ (status ≡ Un
 born-is status born e = absurd (both_ways (is_unborn status) born (ap is_unborn e))
 
 -- a box can hear what its node can
-can-work : (images : List ImageParts) (box : Box) (node : Node) (heard : Heard) → box.node ≡ node → greatest_blocks ≤ box.room
+can-work : (images : List ImageParts) (box : Box) (node : Node) (heard : Hearing) → box.node ≡ node → greatest_blocks ≤ box.room
     → IsHearable images node (heard_as heard) → IsWork images box heard
 can-work images box node (heard.Start pid image) same room is =
     (is.pid_within, ap (λ (node : Node). (process_at node pid).status) same ∙ unborn-is (process_at node pid).status is.unborn, is.image_within)
@@ -156,18 +156,27 @@ facts-are m parts history parts_is history_is = λ i. record { parts = parts_is 
 
 -- ---- an exchange
 
+-- the cube's place on the machine, and the node's number there
+module _ (m : MachineFacts) (grant : Grant) (r : ℕ) (node : HasNode m grant r) where
+  placed : IsPlaced m.parts.dim (cube_grant grant)
+  placed = placed-of m.parts m.history grant.number (cube_grant grant) node.sound.within node.sound.lawful node.held
+
+  pub mask-small : grant.sub.mask < 2 ^ greatest_dim
+  mask-small = omega (arith, placed.sub.mask_within, few_nodes m.parts.dim placed.within, greatest_nodes_lem)
+
+  pub base-small : grant.sub.base < 2 ^ greatest_dim
+  base-small = omega (arith, placed.sub.base_within, few_nodes m.parts.dim placed.within, greatest_nodes_lem)
+
+  pub base-apart : IsTrue (is_base grant.sub.mask grant.sub.base)
+  base-apart = eq-eqb (extract grant.sub.base grant.sub.mask) 0 placed.sub.apart
+
+  pub number-small : r < 2 ^ ones_of greatest_dim grant.sub.mask
+  number-small = rw placed.sub.dimension node.within
+
 -- the list of images that the program has, as the model has it, is just the machine's
 module _ (m : MachineFacts) (grant : Grant) (r : ℕ) (node : HasNode m grant r) (box box' : Box) (call : Call) (called : HasSaidCall m grant r box box' call) where
   abbrev cg : CubeGrant
   cg = cube_grant grant
-
-  held_seen : Seen m.parts m.history node.held.cube
-  held_seen =
-      seen m.parts m.history node.held.cube node.sound.within node.sound.lawful
-      (ap (λ (g : CubeGrant). held_by (after m.history) g.user) node.held.grant_is ∙ node.held.held) node.held.goes_on
-
-  pub placed : IsPlaced m.parts.dim cg
-  placed = subst (IsPlaced m.parts.dim) node.held.grant_is held_seen.placed
 
   said : IsSaidBy m.parts m.history grant.number cg r box.node
   said = boxes-say m.parts m.history grant.number cg node.sound.within node.sound.lawful node.held r box.node node.within called.before.stands
@@ -180,25 +189,12 @@ module _ (m : MachineFacts) (grant : Grant) (r : ℕ) (node : HasNode m grant r)
   pub images-are : box'.node.images ≡ length m.parts.images
   images-are =
       ap (λ (node : Node). node.images) (called.node ∙ said.at_rest)
-      ∙ by_cube (λ number grant. r < 2 ^ grant.dim → (says (node_now m.parts m.history number grant r)).node.images ≡ length m.parts.images) m.history grant.number cg
-      (λ cube holds goes below.
-      let now = seen m.parts m.history cube node.sound.within node.sound.lawful holds goes in
-      (node-said m.parts m.history cube now r below).became.images ∙ (now.stands.sound.nodes r below).images) node.held node.within
-
-  pub mask-small : grant.sub.mask < 2 ^ greatest_dim
-  mask-small = omega (arith, placed.sub.mask_within, few_nodes m.parts.dim placed.within, greatest_nodes_lem)
-
-  pub base-small : grant.sub.base < 2 ^ greatest_dim
-  base-small = omega (arith, placed.sub.base_within, few_nodes m.parts.dim placed.within, greatest_nodes_lem)
-
-  pub base-apart : IsTrue (is_base grant.sub.mask grant.sub.base)
-  base-apart = eq-eqb (extract grant.sub.base grant.sub.mask) 0 placed.sub.apart
-
-  pub number-small : (other : ℕ) → other < 2 ^ grant.dim → other < 2 ^ ones_of greatest_dim grant.sub.mask
-  number-small other within = rw placed.sub.dimension within
+      ∙ by_seen (λ number grant. r < 2 ^ grant.dim → (says (node_now m.parts m.history number grant r)).node.images ≡ length m.parts.images)
+      m.parts m.history grant.number cg node.sound.within node.sound.lawful
+      (λ cube now below. (node-said m.parts m.history cube now r below).became.images ∙ (now.stands.sound.nodes r below).images) node.held node.within
 
   -- the machine's entry and its reply
-  module _ (what : What) (heard : Heard) (answered_so : answered m.parts (after m.history) grant.user (node_of grant.sub r) (in_cube call) ≡ Some what)
+  module _ (what : What) (heard : Hearing) (answered_so : what_of_request m.parts (after m.history) grant.user (node_of grant.sub r) (in_cube call) ≡ Some what)
       (reply : OfHeldCube (after m.history) grant.user (λ cube. IsHeardIn (items_for (after m.history) cube (node_of grant.sub r)) what heard)) where
     abbrev pub made : Entry
     made = record { user = grant.user; actor = node_of grant.sub r; what = what }
@@ -207,7 +203,7 @@ module _ (m : MachineFacts) (grant : Grant) (r : ℕ) (node : HasNode m grant r)
     is-made = record {
       user = refl;
       actor_is = refl;
-      what = subst (λ call. answered m.parts (after m.history) grant.user (node_of grant.sub r) (in_cube call) ≡ Some what) called.call_is answered_so;
+      what = subst (λ call. what_of_request m.parts (after m.history) grant.user (node_of grant.sub r) (in_cube call) ≡ Some what) called.call_is answered_so;
     }
 
     right : IsRightAnswer m.parts.images (says box.node) heard
@@ -237,7 +233,7 @@ module _ (m : MachineFacts) (grant : Grant) (r : ℕ) (node : HasNode m grant r)
             trace = one.trace;
             node = record { sound = record { within = node.sound.within; lawful = one.lawful }; held = one.held; within = node.within };
             others = λ other within differs. one.others r other node.within refl (turned other differs);
-            store = one.store (out_no_host m.parts.dim cg placed r);
+            store = one.store (out_no_host m.parts.dim cg (placed m grant r node) r);
             few = omega (arith, few, ap {B = ℕ} (λ (h : List Entry). length h) grown);
           };
           actor_is = count.actor_is;
@@ -254,7 +250,7 @@ module _ (m : MachineFacts) (grant : Grant) (r : ℕ) (node : HasNode m grant r)
               (subst (λ call. IsFalse (asks_for_work call)) called.call_is no_work));
         })
       where
-        answer-is : (what : What) → answered m.parts (after m.history) grant.user (node_of grant.sub r) (in_cube call) ≡ Some what
+        answer-is : (what : What) → what_of_request m.parts (after m.history) grant.user (node_of grant.sub r) (in_cube call) ≡ Some what
             → answer (nodes_of node.held.cube.grant) (standing_of (after m.history) node.held.cube) (node_of grant.sub r) (with_places_outward node.held.cube.grant call) ≡ what
         answer-is what is = some-is (sym (ap (option_map (λ (cube : HeldCube). answer (nodes_of cube.grant) (standing_of (after m.history) cube) (node_of grant.sub r) (with_places_outward cube.grant call))) node.held.held) ∙ is)
 
@@ -269,7 +265,7 @@ module _ (m : MachineFacts) (grant : Grant) (r : ℕ) (node : HasNode m grant r)
 
   -- the machine lets hear in reply to what was said
   pub stands-heard : {N : Type 0} (home : N → ℕ) (clean : N → Type 0) (said : Say) → call ≡ call_said said → (entry : Entry) (actor : ℕ) (reply : Reply N)
-      → IsAnsweredBy home clean m.parts m.history entry (record { family = grant.user; actor = actor }) (SaySaid said) reply → (heard : Heard) × (reply ≡ ReplyHeard heard)
+      → IsAnsweredBy home clean m.parts m.history entry (record { family = grant.user; actor = actor }) (SaySaid said) reply → (heard : Hearing) × (reply ≡ ReplyHeard heard)
   stands-heard home clean said is_said entry actor reply stands =
       let cube = node.held.cube in
       said-heard home clean m.parts (after m.history) grant.user actor (nodes_of cube.grant) (standing_of (after m.history) cube) cube.grant said reply
@@ -278,12 +274,12 @@ module _ (m : MachineFacts) (grant : Grant) (r : ℕ) (node : HasNode m grant r)
       (with_places_outward cube.grant (call_said said)))) node.held.held) ∙ stands.answer))) stands.reply_is)
 
   -- the same, of the entry that stands for the call
-  module _ {N : Type 0} (home : N → ℕ) (clean : N → Type 0) (said : Say) (is_said : call ≡ call_said said) (heard : Heard) (entry : Entry) (actor : ℕ) (at : actor ≡ node_of grant.sub r)
+  module _ {N : Type 0} (home : N → ℕ) (clean : N → Type 0) (said : Say) (is_said : call ≡ call_said said) (heard : Hearing) (entry : Entry) (actor : ℕ) (at : actor ≡ node_of grant.sub r)
       (stands : IsAnsweredBy {N = N} home clean m.parts m.history entry (record { family = grant.user; actor = actor }) (SaySaid said) (ReplyHeard heard)) where
-    answers : answered m.parts (after m.history) grant.user (node_of grant.sub r) (in_cube call) ≡ Some entry.what
+    answers : what_of_request m.parts (after m.history) grant.user (node_of grant.sub r) (in_cube call) ≡ Some entry.what
     answers =
-        subst (λ actor. answered m.parts (after m.history) grant.user actor (in_cube call) ≡ Some entry.what) at
-        (subst (λ call. answered m.parts (after m.history) grant.user actor (in_cube call) ≡ Some entry.what) (sym is_said) stands.answer)
+        subst (λ actor. what_of_request m.parts (after m.history) grant.user actor (in_cube call) ≡ Some entry.what) at
+        (subst (λ call. what_of_request m.parts (after m.history) grant.user actor (in_cube call) ≡ Some entry.what) (sym is_said) stands.answer)
 
     reply : OfHeldCube (after m.history) grant.user (λ cube. IsHeardIn (items_for (after m.history) cube (node_of grant.sub r)) entry.what heard)
     reply =

@@ -10,7 +10,7 @@ use Rattle.ce_model.specs.declared.topology.BlockId.{BlockId}
 use Rattle.ce_model.specs.Limits.{home_blocks}
 use Rattle.ce_model.specs.Blocks.{Block, precedes, put, put_all, blocks_of_home}
 use Rattle.ce_solo.proofs.Counting.{hit, hit-self, count, count-cons, count-append, count-put_all}
-use Rattle.xm_block.specs.Stores.{Kept, ids_of}
+use Rattle.xm_block.specs.Stores.{KeptBlock, ids_of}
 use Rattle.rk_node.specs.Hearings.{AreApartFrom}
 use Rattle.ce_cube.specs.Homecoming.{HasPrefix}
 
@@ -67,7 +67,7 @@ module _ {X : Type 0} (has : X → List BlockId) (xs : List X) (i : ℕ) (d : X)
       )
 
   -- the blocks of the next one are apart from those that a store had and those of the earlier ones
-  pub next-apart : (first store : Kept) → ids_of store.blocks ≡ put_all before (ids_of first.blocks) → AreApartFrom (flat_map has xs) first → AreApartFrom (has x) store
+  pub next-apart : (first store : KeptBlock) → ids_of store.blocks ≡ put_all before (ids_of first.blocks) → AreApartFrom (flat_map has xs) first → AreApartFrom (has x) store
   next-apart first store moved all = record {
     apart = λ id. omega (
       arith,
@@ -116,7 +116,7 @@ contains-count (x ∷ xs) id (zero, low, same) = omega (arith, count-cons id x x
 contains-count (x ∷ xs) id (suc k, low, same) = omega (arith, count-cons id x xs, contains-count xs id (k, omega (arith, low), same))
 
 -- the next of some blocks isn't in the store that has the earlier ones
-pub given-apart : (blocks yielded : List Block) (block : Block) (first store : Kept) → (length yielded < length blocks) × (block ≡ get_or blocks (length yielded) block)
+pub given-apart : (blocks yielded : List Block) (block : Block) (first store : KeptBlock) → (length yielded < length blocks) × (block ≡ get_or blocks (length yielded) block)
     → yielded ≡ take (length yielded) blocks → ids_of store.blocks ≡ put_all (ids_of yielded) (ids_of first.blocks) → AreApartFrom (ids_of blocks) first
     → Contains (ids_of store.blocks) block.id → ⊥
 given-apart blocks yielded block first store next so_far moved all there =

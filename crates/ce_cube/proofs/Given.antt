@@ -9,20 +9,20 @@ use Rattle.ce_model.specs.Process.{is_receiving, is_stopped}
 use Rattle.ce_model.specs.Node.{Node, takes, blocks_of, ids_of}
 use Rattle.ce_model.specs.Saying.{says}
 use Rattle.ce_model.specs.Trace.{NodeRecord}
-use Rattle.ce_model.specs.Answers.{offered}
+use Rattle.ce_model.specs.Answers.{offer_of}
 use Rattle.ce_model.specs.Cube.{Cube, CubeState, IsCube, heard_parcel, heard_given}
 use Rattle.ce_model.specs.Sound.{IsSound}
 use Rattle.ce_solo.proofs.Counting.{hit-self, count, count-nil, count-cons, count-is, sum_run-part}
-use Rattle.ce_solo.proofs.Records.{kept_with, among-all, TakesItem, without_named, takes-item, start-taken, kill-taken}
+use Rattle.ce_solo.proofs.Records.{kept_with, among-all, HasTakenItem, without_named, takes-item, start-taken, kill-taken}
 use Rattle.ce_solo.proofs.Totals.{at_node, at_node-is, total, total-is, total-le}
 use Rattle.ce_solo.proofs.Room.{held_blocks, few-blocks}
-use Rattle.ce_solo.proofs.Words.{Leaves}
+use Rattle.ce_solo.proofs.Words.{HasMadeCall}
 use Rattle.ce_solo.proofs.HandedOver.{member-of, find-passes}
 use Rattle.ce_solo.proofs.NodeTakes.{poller-polls, poller-within, now_well, birth_of, numbered_parcel}
 use Rattle.ce_cube.specs.Hearable.{IsStartable, IsDeliverable, IsEndable, IsPoller, IsHearable}
 
 module _ (cube : Cube) (s : CubeState) (r : ℕ) (of : IsCube cube) (below : r < 2 ^ cube.dim) (sound : IsSound cube s) (asking dead : ℕ) (poller : Option ℕ)
-    (said : Leaves (s.node r) (says (s.node r)).node (takes asking dead poller)) where
+    (said : HasMadeCall (s.node r) (says (s.node r)).node (takes asking dead poller)) where
   abbrev now : Node
   now = (says (s.node r)).node
 
@@ -36,7 +36,7 @@ module _ (cube : Cube) (s : CubeState) (r : ℕ) (of : IsCube cube) (below : r <
   abbrev IsFirst : Item → Type 0
   IsFirst item = find (is_eligible asking dead) kept.waiting ≡ Some item
 
-  taken_is : (item : Item) → IsFirst item → TakesItem cube s.standing.parcel_count r asking dead kept (left_behind item) item
+  taken_is : (item : Item) → IsFirst item → HasTakenItem cube s.standing.parcel_count r asking dead kept (left_behind item) item
   taken_is item found = takes-item cube s.standing.parcel_count r asking dead kept kept.mark item (sound.records r below) found
 
   startable : (pid image : ℕ) → IsFirst (start pid image) → IsStartable cube.images now pid image
@@ -125,12 +125,12 @@ module _ (cube : Cube) (s : CubeState) (r : ℕ) (of : IsCube cube) (below : r <
   item-hearable (kill pid) found = endable pid found
 
   offered-hearable : (found : Option Item) (polls : Option ℕ) (used : Bool) → find (is_eligible asking dead) kept.waiting ≡ found → poller ≡ polls
-      → IsHearable cube.images now (heard_given kept.waiting (offered found polls used))
+      → IsHearable cube.images now (heard_given kept.waiting (offer_of found polls used))
   offered-hearable (Some item) polls true f p = tt
   offered-hearable (Some item) polls false f p = item-hearable item f
   offered-hearable None (Some pid) true f p = tt
   offered-hearable None (Some pid) false f p = first_poller pid p
   offered-hearable None None used f p = tt
 
-  pub take-hearable : (used : Bool) → IsHearable cube.images now (heard_given kept.waiting (offered (find (is_eligible asking dead) kept.waiting) poller used))
+  pub take-hearable : (used : Bool) → IsHearable cube.images now (heard_given kept.waiting (offer_of (find (is_eligible asking dead) kept.waiting) poller used))
   take-hearable used = offered-hearable (find (is_eligible asking dead) kept.waiting) poller used refl refl

@@ -1,24 +1,24 @@
 -- The box of a node that made an entry stands for the node behind it, once it has heard the answer.
-use Rattle.std.proofs.Common.{◌≡◌, ℕ, ◌^◌, ◌<◌, false, ◌==◌, true, IsSomeAnd, List, [], ◌∷◌, ◌++◌, map, Some, ap, sym, ◌∙◌, subst}
+use Rattle.std.proofs.Common.{◌≡◌, ℕ, ◌^◌, ◌<◌, ◌==◌, true, IsSomeAnd, List, [], ◌∷◌, ◌++◌, map, ap, sym, ◌∙◌, subst}
 use Rattle.std.proofs.lemmas.Bool.{eq-eqb}
 use Rattle.ce_model.specs.declared.entry.Entry.{Entry}
 use Rattle.ce_model.specs.Parcels.{Item}
 use Rattle.ce_model.specs.Node.{Node}
 use Rattle.ce_model.specs.Saying.{says}
 use Rattle.ce_model.specs.Hearing.{hears}
-use Rattle.ce_model.specs.Trace.{NodeRecord, waiting}
+use Rattle.ce_model.specs.Trace.{NodeRecord, waiting_items}
 use Rattle.ce_model.specs.Cube.{Cube, opening, state, heard_in}
 use Rattle.ce_model.specs.Subcubes.{relative, node_of}
 use Rattle.ce_model.specs.Renaming.{place_inward, block_inward, block_outward, item_with, node_outward, entry_inward}
 use Rattle.ce_model.specs.Views.{view}
-use Rattle.ce_model.specs.Machine.{MachineParts, IsMachine, HeldCube, IsLawful, after, held_by, standing_of, cube_of}
+use Rattle.ce_model.specs.Machine.{MachineParts, HeldCube, after, standing_of, cube_of}
 use Rattle.ce_model.proofs.OneMore.{state-more}
-use Rattle.rk_mail.specs.declared.talk.Heard.{Heard}
+use Rattle.rk_mail.specs.declared.talk.Hearing.{Hearing}
 use Rattle.rk_mail.specs.Talk.{heard_as, IsHeardIn}
 use Rattle.ce_solo.proofs.Projection.Numbers.{relative_out}
 use Rattle.ce_cube.specs.Boxes.{node_now, IsStandIn, IsMadeBy, IsAnswered}
 use Rattle.ce_cube.specs.Laws.{BoxesHear}
-use Rattle.ce_cube.proofs.Held.{Seen, seen, by_cube}
+use Rattle.ce_cube.proofs.Held.{IsSeen, by_seen}
 use Rattle.ce_cube.proofs.Seats.{rest-hears, parcel-blocks}
 use Rattle.ce_cube.proofs.Says.{says-of}
 use Rattle.ce_cube.proofs.Adds.{trace_next}
@@ -27,35 +27,31 @@ use Rattle.ce_cube.proofs.Replies.{reply-heard, heard-of}
 -- a node that has made an entry has heard its answer
 state-own : (cube : Cube) (r : ℕ) (t : List Entry) (entry : Entry) → (entry.actor == r) ≡ true
     → state cube (opening cube) r (t ++ entry ∷ [])
-    ≡ hears cube.images (says (state cube (opening cube) r t)).node (heard_in (waiting (opening cube).standing r t) entry.what)
+    ≡ hears cube.images (says (state cube (opening cube) r t)).node (heard_in (waiting_items (opening cube).standing r t) entry.what)
 state-own cube r t entry own = rw own at (state-more cube (opening cube) r t entry)
 
-module _ (parts : MachineParts) (history : List Entry) (machine : IsMachine parts) (lawful : IsLawful parts history) (cube : HeldCube)
-    (holds : held_by (after history) cube.grant.user ≡ Some cube) (goes : cube.drained ≡ false) (r : ℕ) (below : r < 2 ^ cube.grant.dim) (box : Node)
+module _ (parts : MachineParts) (history : List Entry) (cube : HeldCube) (now : IsSeen parts history cube) (r : ℕ) (below : r < 2 ^ cube.grant.dim) (box : Node)
     (stands : IsStandIn cube.grant (node_now parts history cube.number cube.grant r) box) where
-  abbrev now : Seen parts history cube
-  now = seen parts history cube machine lawful holds goes
-
   abbrev own : Cube
   own = cube_of parts.images cube.grant
 
   abbrev items : List Item
-  items = waiting (opening own).standing r (view history cube.number)
+  items = waiting_items (opening own).standing r (view history cube.number)
 
   -- what waits for the node, with the machine's names
   pub items-outward : ((standing_of (after history) cube).node_record (node_of cube.grant.sub r)).waiting ≡ map (item_with (block_outward cube.grant)) items
   items-outward = ap (λ (kept : NodeRecord). kept.waiting) (now.standing.nodes r below)
 
-  pub heard-own : (entry : Entry) (heard : Heard) → IsAnswered history cube.grant r entry.what heard → IsHeardIn (map (item_with (block_outward cube.grant)) items) entry.what heard
+  pub heard-own : (entry : Entry) (heard : Hearing) → IsAnswered history cube.grant r entry.what heard → IsHeardIn (map (item_with (block_outward cube.grant)) items) entry.what heard
   heard-own entry heard is =
       subst (λ items. IsHeardIn items entry.what heard) items-outward
-      (subst (λ held. IsSomeAnd held (λ one. IsHeardIn ((standing_of (after history) one).node_record (node_of cube.grant.sub r)).waiting entry.what heard)) holds is)
+      (subst (λ held. IsSomeAnd held (λ one. IsHeardIn ((standing_of (after history) one).node_record (node_of cube.grant.sub r)).waiting entry.what heard)) now.holds is)
 
-  hears-own : (entry : Entry) (heard : Heard) → IsMadeBy parts history cube.grant (node_of cube.grant.sub r) (says box).call entry
+  hears-own : (entry : Entry) (heard : Hearing) → IsMadeBy parts history cube.grant (node_of cube.grant.sub r) (says box).call entry
       → IsAnswered history cube.grant r entry.what heard
       → hears parts.images (says box).node (heard_as heard) ≡ node_outward cube.grant (node_now parts (history ++ entry ∷ []) cube.number cube.grant r)
   hears-own entry heard made is =
-      let said = says-of parts history machine lawful cube holds goes r below box stands in
+      let said = says-of parts history cube now r below box stands in
       let inner = entry_inward cube.grant.sub entry in
       let actor : (inner.actor == r) ≡ true = eq-eqb _ _ (ap (relative cube.grant.sub) made.actor_is ∙ relative_out parts.dim cube.grant now.placed r below) in
       ap (λ node. hears parts.images node (heard_as heard)) said.at_rest
@@ -63,13 +59,13 @@ module _ (parts : MachineParts) (history : List Entry) (machine : IsMachine part
       (reply-heard (block_outward cube.grant) (place_inward cube.grant.sub) (block_inward cube.grant.sub) items entry.what heard (heard-own entry heard is))
       ∙ rest-hears parts history cube now r below (heard_in items inner.what) (heard-of cube.grant.dim items inner.what (parcel-blocks parts history cube now r below))
       ∙ ap (node_outward cube.grant) (sym (ap (state own (opening own) r)
-      (trace_next parts history machine lawful cube holds goes (node_of cube.grant.sub r) (says box).call entry said.fits made)
+      (trace_next parts history cube now (node_of cube.grant.sub r) (says box).call entry said.fits made)
       ∙ state-own own r (view history cube.number) inner actor))
 
 pub boxes-hear : BoxesHear
 boxes-hear parts history number grant machine lawful held r box entry heard below stands made is =
-    by_cube
+    by_seen
     (λ number grant. r < 2 ^ grant.dim → IsStandIn grant (node_now parts history number grant r) box
     → IsMadeBy parts history grant (node_of grant.sub r) (says box).call entry → IsAnswered history grant r entry.what heard
-    → hears parts.images (says box).node (heard_as heard) ≡ node_outward grant (node_now parts (history ++ entry ∷ []) number grant r)) history number grant
-    (λ cube holds goes below stands made is. hears-own parts history machine lawful cube holds goes r below box stands entry heard made is) held below stands made is
+    → hears parts.images (says box).node (heard_as heard) ≡ node_outward grant (node_now parts (history ++ entry ∷ []) number grant r)) parts history number grant machine lawful
+    (λ cube now below stands made is. hears-own parts history cube now r below box stands entry heard made is) held below stands made is

@@ -14,13 +14,13 @@ use Rattle.ce_model.specs.Parcels.{Parcel, Item, start, mail, kill}
 use Rattle.ce_model.specs.Node.{Node, Call, takes, sends, spawns, kills, notes, arms, looks, takes_mail, is_place}
 use Rattle.ce_model.specs.Hearing.{mail_of, hears}
 use Rattle.ce_model.specs.Answers.{answer}
-use Rattle.ce_model.specs.Trace.{armed, dispatched, armed_by, dispatched_by}
+use Rattle.ce_model.specs.Trace.{allowed_dispatches, made_dispatches, armed_by, dispatched_by}
 use Rattle.ce_model.specs.Cube.{Cube, CubeState, HostCall, send_bytes, opening, left_by, hoststore, stored_by, with_parcel, parcel_numbered, host_call, asked_by, call_by, take_message, allow}
 use Rattle.ce_model.specs.Owners.{IsBlockOf}
 use Rattle.ce_model.specs.Subcubes.{relative}
 use Rattle.ce_model.specs.Renaming.{CubeGrant, place_inward, block_inward, place_outward, block_outward, what_renamed, call_with, parcel_with, entry_inward, node_outward}
 use Rattle.ce_model.specs.Views.{view}
-use Rattle.ce_model.specs.Machine.{MachineParts, IsMachine, HeldCube, IsLawful, IsWithinLimits, IsFitting, IsCallOf, HasHeldCube, in_cube, after, held_by, cube_of, MachineState, IsLawfulEntry, drain, freecube}
+use Rattle.ce_model.specs.Machine.{MachineParts, HeldCube, IsLawful, IsWithinLimits, IsFitting, IsCallOf, HasHeldCube, in_cube, after, held_by, cube_of, MachineState, IsLawfulEntry, drain, freecube}
 use Rattle.ce_model.proofs.OneMore.{hoststore-more, armed-more, dispatched-more}
 use Rattle.ce_model.proofs.AloneByEntries.{asked_by-host_call}
 use Rattle.ce_solo.proofs.Counting.{same_id-self, hit, hit-self, hit-le, same_from_hit, count, count-cons, count-is}
@@ -35,7 +35,7 @@ use Rattle.ce_cube.specs.Laws.{ArmsAllow, DrainsFit, HostsFit, HostsSend, HostsT
 use Rattle.ce_cube.specs.Rounds.{dispatches_left}
 use Rattle.ce_model.proofs.Walked.{each-more}
 use Rattle.ce_solo.proofs.Projection.Held.{held-own}
-use Rattle.ce_cube.proofs.Held.{Seen, seen, placed-grant, by_cube}
+use Rattle.ce_cube.proofs.Held.{IsSeen, placed-grant, by_seen}
 use Rattle.ce_cube.proofs.Users.{user-within}
 use Rattle.ce_cube.proofs.Adds.{answer-made, one-more}
 use Rattle.ce_cube.proofs.Names.{count-outward}
@@ -95,11 +95,7 @@ unfolding hears keeper
 put-outward dim grant placed store parcel all of =
     ap (λ (node : Node). node.store) (sym ((renaming dim grant (keeper store) (placed-grant dim grant placed) (subst (AllByRecursion (IsBlockOf grant.dim)) (sym (append-nil store)) all)).1 [] (mail_of parcel) of))
 
-module _ (parts : MachineParts) (history : List Entry) (machine : IsMachine parts) (lawful : IsLawful parts history) (cube : HeldCube)
-    (holds : held_by (after history) cube.grant.user ≡ Some cube) (goes : cube.drained ≡ false) where
-  abbrev now : Seen parts history cube
-  now = seen parts history cube machine lawful holds goes
-
+module _ (parts : MachineParts) (history : List Entry) (cube : HeldCube) (now : IsSeen parts history cube) where
   abbrev own : Cube
   own = cube_of parts.images cube.grant
 
@@ -115,7 +111,7 @@ module _ (parts : MachineParts) (history : List Entry) (machine : IsMachine part
   fits-by : (asked : HostCall) (call : Call) → host_call own s.hoststore asked ≡ Some call → IsWithinLimits call
       → IsFitting parts history cube.grant.user HOST (in_cube (call_with out call))
   fits-by asked call e within =
-      let was = (projected parts history machine lawful).held cube.grant.user cube holds in
+      let was = (projected parts history now.machine now.lawful).held cube.grant.user cube now.holds in
       let host = relative_host parts.dim cube.grant now.placed in
       let of : IsCallOf parts history HOST (call_with out call) cube = record {
         made = call;
@@ -124,10 +120,10 @@ module _ (parts : MachineParts) (history : List Entry) (machine : IsMachine part
             ∙ ap (option_and_then (host_call own s.hoststore)) (asked_by-host_call own s.hoststore asked call e) ∙ e;
         renamed = refl;
         within = λ host. limits-renamed out call within;
-        not_drained = goes;
+        not_drained = now.goes;
       } in (
-        user-within parts history cube.number cube.grant was.behind lawful was.found,
-        subst (λ held. IsSomeAnd held (IsCallOf parts history HOST (call_with out call))) (sym holds) of,
+        user-within parts history cube.number cube.grant was.behind now.lawful was.found,
+        subst (λ held. IsSomeAnd held (IsCallOf parts history HOST (call_with out call))) (sym now.holds) of,
       )
 
   -- the host's store behind an entry of its own
@@ -138,7 +134,7 @@ module _ (parts : MachineParts) (history : List Entry) (machine : IsMachine part
 
     store-next : store_now parts (history ++ entry ∷ []) cube.number cube.grant ≡ stored_by (s.standing.node_record HOST).waiting s.hoststore inner.what
     store-next =
-        let more = one-more parts history machine lawful cube holds goes HOST (call_with out call) entry (fits-by asked call is within) made in
+        let more = one-more parts history cube now HOST (call_with out call) entry (fits-by asked call is within) made in
         let actor : inner.actor ≡ HOST = ap (relative cube.grant.sub) made.actor_is ∙ relative_host parts.dim cube.grant now.placed in
         ap (hoststore (opening own)) more.trace
         ∙ hoststore-more (opening own) (view history cube.number) inner
@@ -153,34 +149,34 @@ module _ (parts : MachineParts) (history : List Entry) (machine : IsMachine part
       let o = (opening own).standing in
       let t = view history cube.number in
       let inner = entry_inward cube.grant.sub entry in
-      let more = one-more parts history machine lawful cube holds goes HOST (arms count) entry (fits-by (allow count) (arms count) refl within) made in
+      let more = one-more parts history cube now HOST (arms count) entry (fits-by (allow count) (arms count) refl within) made in
       let what : inner.what ≡ Arm count =
-      ap (what_renamed (place_inward cube.grant.sub) (block_inward cube.grant.sub)) (sym (answer-made parts history cube HOST (arms count) entry holds made)) in
+      ap (what_renamed (place_inward cube.grant.sub) (block_inward cube.grant.sub)) (sym (answer-made parts history cube HOST (arms count) entry now.holds made)) in
       omega (
         arith,
-        ap (armed o) more.trace ∙ armed-more o t inner ∙ ap (armed_by (armed o t)) what,
-        ap (dispatched o) more.trace ∙ dispatched-more o t inner ∙ ap (dispatched_by (dispatched o t)) what,
+        ap (allowed_dispatches o) more.trace ∙ armed-more o t inner ∙ ap (armed_by (allowed_dispatches o t)) what,
+        ap (made_dispatches o) more.trace ∙ dispatched-more o t inner ∙ ap (dispatched_by (made_dispatches o t)) what,
       )
 
   -- ---- it gives its cube back
 
   drain-fits : IsFitting parts history cube.grant.user HOST drain
   drain-fits =
-      let was = (projected parts history machine lawful).held cube.grant.user cube holds in (
-        user-within parts history cube.number cube.grant was.behind lawful was.found,
-        (refl, subst (λ held. IsSomeAnd held (λ one. one.drained ≡ false)) (sym holds) goes),
+      let was = (projected parts history now.machine now.lawful).held cube.grant.user cube now.holds in (
+        user-within parts history cube.number cube.grant was.behind now.lawful was.found,
+        (refl, subst (λ held. IsSomeAnd held (λ one. one.drained ≡ false)) (sym now.holds) now.goes),
       )
 
   drained_held : held_by (after (history ++ drain_entry cube.grant ∷ [])) cube.grant.user ≡ Some (record cube { drained = true; mail = [] })
   drained_held =
       ap (λ (state : MachineState). held_by state cube.grant.user) (after-more history (drain_entry cube.grant))
-      ∙ held-own cube.grant.user (λ one. record one { drained = true; mail = [] }) (λ one. refl) (λ one node kept. record kept { waiting = [] }) (after history) cube holds
+      ∙ held-own cube.grant.user (λ one. record one { drained = true; mail = [] }) (λ one. refl) (λ one node kept. record kept { waiting = [] }) (after history) cube now.holds
 
   drains-fit : IsFitting parts history cube.grant.user HOST drain × IsLawful parts (history ++ drain_entry cube.grant ∷ [])
       × IsFitting parts (history ++ drain_entry cube.grant ∷ []) cube.grant.user HOST freecube
   drains-fit = (
     drain-fits,
-    each-more (IsLawfulEntry parts) history (drain_entry cube.grant) lawful (record { request = drain; fits = drain-fits; answer = refl }),
+    each-more (IsLawfulEntry parts) history (drain_entry cube.grant) now.lawful (record { request = drain; fits = drain-fits; answer = refl }),
     (drain-fits.0, (refl, subst (λ held. IsSomeAnd held (λ one. one.drained ≡ true)) (sym drained_held) refl)),
   )
 
@@ -190,7 +186,7 @@ module _ (parts : MachineParts) (history : List Entry) (machine : IsMachine part
       (short : length bytes ≤ block_room) (entry : Entry) (made : IsMadeBy parts history cube.grant HOST (sends 0 ((to, out id) ∷ []) bytes) entry) where
     sent-is : entry.what ≡ Send 0 cube.parcel_count ((place_outward cube.grant.sub to, out id) ∷ []) bytes
     unfolding answer
-    sent-is = sym (answer-made parts history cube HOST (sends 0 ((to, out id) ∷ []) bytes) entry holds made)
+    sent-is = sym (answer-made parts history cube HOST (sends 0 ((to, out id) ∷ []) bytes) entry now.holds made)
 
     asked-is : host_call own s.hoststore (send_bytes to bytes) ≡ Some (sends 0 ((to, id) ∷ []) bytes)
     asked-is = rw (place, least) refl
@@ -255,40 +251,40 @@ module _ (parts : MachineParts) (history : List Entry) (machine : IsMachine part
     taken-next : (parcel : Parcel) → HasHeldCube history cube.grant.user (λ cube. parcel_numbered number cube.mail ≡ Some parcel)
         → IsAccepted parts history cube.number cube.grant entry parcel
     taken-next parcel is =
-        let here = subst (λ held. IsSomeAnd held (λ one. parcel_numbered number one.mail ≡ Some parcel)) holds is in
+        let here = subst (λ held. IsSomeAnd held (λ one. parcel_numbered number one.mail ≡ Some parcel)) now.holds is in
         take-next parcel (parcel_numbered number items) refl (sym (ap (parcel_numbered number) now.standing.host ∙ numbered-renamed out number items) ∙ here)
 
 pub hosts-fit : HostsFit
 hosts-fit parts history number grant machine lawful held asked call is within =
-    by_cube
+    by_seen
     (λ number grant. host_call (cube_of parts.images grant) (store_now parts history number grant) asked ≡ Some call
-    → IsFitting parts history grant.user HOST (in_cube (call_with (block_outward grant) call))) history number grant
-    (λ cube holds goes is. fits-by parts history machine lawful cube holds goes asked call is within) held is
+    → IsFitting parts history grant.user HOST (in_cube (call_with (block_outward grant) call))) parts history number grant machine lawful
+    (λ cube now is. fits-by parts history cube now asked call is within) held is
 
 pub hosts-send : HostsSend
 hosts-send parts history number grant machine lawful held to id bytes entry least place short made =
-    by_cube
+    by_seen
     (λ number grant. slice_get (store_now parts history number grant) 0 ≡ Some id → is_place grant.dim to ≡ true
     → IsMadeBy parts history grant HOST (sends 0 ((to, block_outward grant id) ∷ []) bytes) entry
-    → store_now parts (history ++ entry ∷ []) number grant ≡ drop 1 (store_now parts history number grant)) history number grant
-    (λ cube holds goes least place made. send-next parts history machine lawful cube holds goes to id bytes least place short entry made) held least place made
+    → store_now parts (history ++ entry ∷ []) number grant ≡ drop 1 (store_now parts history number grant)) parts history number grant machine lawful
+    (λ cube now least place made. send-next parts history cube now to id bytes least place short entry made) held least place made
 
 pub hosts-take : HostsTake
 hosts-take parts history number grant machine lawful held number' parcel entry made what is =
-    by_cube
+    by_seen
     (λ number grant. IsMadeBy parts history grant HOST takes_mail entry → HasHeldCube history grant.user (λ cube. parcel_numbered number' cube.mail ≡ Some parcel)
-    → IsAccepted parts history number grant entry parcel) history number grant
-    (λ cube holds goes made is. taken-next parts history machine lawful cube holds goes number' entry made what parcel is) held made is
+    → IsAccepted parts history number grant entry parcel) parts history number grant machine lawful
+    (λ cube now made is. taken-next parts history cube now number' entry made what parcel is) held made is
 
 pub arms-allow : ArmsAllow
 arms-allow parts history number grant machine lawful held count entry within made =
-    by_cube
-    (λ number grant. IsMadeBy parts history grant HOST (arms count) entry → dispatches_left parts (history ++ entry ∷ []) number grant ≡ count) history number grant
-    (λ cube holds goes made. arm-allows parts history machine lawful cube holds goes count entry within made) held made
+    by_seen
+    (λ number grant. IsMadeBy parts history grant HOST (arms count) entry → dispatches_left parts (history ++ entry ∷ []) number grant ≡ count) parts history number grant machine lawful
+    (λ cube now made. arm-allows parts history cube now count entry within made) held made
 
 pub drains-fit-held : DrainsFit
 drains-fit-held parts history number grant machine lawful held =
-    by_cube
+    by_seen
     (λ number grant. IsFitting parts history grant.user HOST drain × IsLawful parts (history ++ drain_entry grant ∷ [])
-    × IsFitting parts (history ++ drain_entry grant ∷ []) grant.user HOST freecube) history number grant
-    (λ cube holds goes. drains-fit parts history machine lawful cube holds goes) held
+    × IsFitting parts (history ++ drain_entry grant ∷ []) grant.user HOST freecube) parts history number grant machine lawful
+    (λ cube now. drains-fit parts history cube now) held

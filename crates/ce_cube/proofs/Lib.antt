@@ -4,6 +4,8 @@ pub mod Users
 pub mod Seats
 pub mod Says
 pub mod Adds
+pub mod Beside
+pub mod Fronts
 pub mod Replies
 pub mod Hears
 pub mod Turns
@@ -13,6 +15,9 @@ pub mod CanHear
 pub mod Counts
 pub mod Rounds
 pub mod Resting
+pub mod Idling
+pub mod Shares
+pub mod Idle
 pub mod Looks
 pub mod Whole
 pub mod Stores
@@ -25,3 +30,4 @@ pub mod Homes
 pub mod Gathering
 pub mod Openings
 pub mod Returns
+pub mod Growing

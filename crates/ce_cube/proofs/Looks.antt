@@ -4,24 +4,24 @@ use Rattle.ce_model.specs.declared.topology.TheConstants.{HOST}
 use Rattle.ce_model.specs.declared.entry.Entry.{Entry}
 use Rattle.ce_model.specs.declared.entry.What.{What}
 use Rattle.ce_model.specs.declared.entry.What.TheVariants.{Look}
-use Rattle.ce_model.specs.declared.entry.Found.{Found}
-use Rattle.ce_model.specs.declared.entry.Found.TheVariants.{Quiet, Busy}
+use Rattle.ce_model.specs.declared.entry.LookResult.{LookResult}
+use Rattle.ce_model.specs.declared.entry.LookResult.TheVariants.{Quiet, Busy}
 use Rattle.ce_model.specs.Node.{looks}
 use Rattle.ce_model.specs.Trace.{Standing}
 use Rattle.ce_model.specs.Answers.{is_used_up, is_quiet, found_where, answer}
 use Rattle.ce_model.specs.Cube.{Cube, CubeState, opening, left_by, node_numbers, IsAlone}
 use Rattle.ce_model.specs.Views.{view}
-use Rattle.ce_model.specs.Machine.{MachineParts, IsMachine, HeldCube, IsLawful, after, held_by, standing_of, cube_of}
-use Rattle.ce_script.specs.Rounds.{serial, IsRoundWithoutWork}
+use Rattle.ce_model.specs.Machine.{MachineParts, HeldCube, after, standing_of, cube_of}
+use Rattle.ce_script.specs.Rounds.{RoundKind, IsRoundWithoutWork}
 use Rattle.ce_solo.proofs.Fresh.{fresh_sound}
 use Rattle.ce_solo.proofs.Projection.Numbers.{what_outward}
 use Rattle.ce_solo.proofs.Projection.Answers.{answer-outward}
 use Rattle.ce_solo.proofs.Projection.Law.{projected, found_alone}
 use Rattle.ce_cube.specs.Boxes.{IsMadeBy}
 use Rattle.ce_cube.specs.Laws.{LooksEnd}
-use Rattle.ce_cube.proofs.Held.{Seen, seen, by_cube}
+use Rattle.ce_cube.proofs.Held.{IsSeen, by_seen}
 use Rattle.ce_cube.proofs.Adds.{answer-made}
-use Rattle.ce_cube.proofs.Resting.{rounds-rest}
+use Rattle.ce_cube.proofs.Idle.{rounds-rest}
 
 not_busy : (quiet used : Bool) → (quiet || used) ≡ true → found_where quiet used ≡ Busy → ⊥
 not_busy true used is e = cc
@@ -33,44 +33,45 @@ unfolding answer
 look-is nodes standing = refl
 
 -- what a look found
-abbrev found_in : What → Found
+abbrev found_in : What → LookResult
 found_in (Look found) = found
 found_in other = Quiet
 
-module _ (parts : MachineParts) (history : List Entry) (machine : IsMachine parts) (lawful : IsLawful parts history) (cube : HeldCube)
-    (holds : held_by (after history) cube.grant.user ≡ Some cube) (goes : cube.drained ≡ false) where
-  abbrev now : Seen parts history cube
-  now = seen parts history cube machine lawful holds goes
-
+module _ (parts : MachineParts) (history : List Entry) (cube : HeldCube) (now : IsSeen parts history cube) where
   abbrev own : Cube
   own = cube_of parts.images cube.grant
 
   abbrev s : CubeState
   s = left_by own (opening own) (view history cube.number)
 
+  -- the cube is quiet, or its dispatches are used up
+  abbrev IsAtRest : Type 0
+  IsAtRest = (is_quiet (node_numbers cube.grant.dim) s.standing || is_used_up s.standing) ≡ true
+
   alone : IsAlone own (view history cube.number)
   alone =
-      let all = projected parts history machine lawful in
-      let was = all.held cube.grant.user cube holds in
+      let all = projected parts history now.machine now.lawful in
+      let was = all.held cube.grant.user cube now.holds in
       found_alone parts history cube.number all (Some (cube.grant, was.behind)) was.found
+
+  -- behind a round without work it rests
+  pub at-rest : (kind : RoundKind) (before round : List Entry) → view history cube.number ≡ before ++ round → IsRoundWithoutWork kind cube.grant.dim round → IsAtRest
+  at-rest kind before round same quiet = rounds-rest own (opening own) (view history cube.number) now.of (fresh_sound own now.of) alone kind before round same quiet
 
   look_entry : (entry : Entry) → IsMadeBy parts history cube.grant HOST looks entry
       → entry.what ≡ Look (found_where (is_quiet (node_numbers cube.grant.dim) s.standing) (is_used_up s.standing))
   look_entry entry made =
-      sym (answer-made parts history cube HOST looks entry holds made)
+      sym (answer-made parts history cube HOST looks entry now.holds made)
       ∙ answer-outward parts.dim cube.grant now.placed (standing_of (after history) cube) s.standing now.standing HOST looks (inr refl) tt
       ∙ ap (what_outward cube.grant) (look-is (node_numbers cube.grant.dim) s.standing)
 
-  looks_end : (before round : List Entry) (entry : Entry) → view history cube.number ≡ before ++ round → IsRoundWithoutWork serial cube.grant.dim round
-      → IsMadeBy parts history cube.grant HOST looks entry → entry.what ≡ Look Busy → ⊥
-  looks_end before round entry same quiet made busy =
-      not_busy (is_quiet (node_numbers cube.grant.dim) s.standing) (is_used_up s.standing)
-      (rounds-rest own (opening own) (view history cube.number) now.of (fresh_sound own now.of) alone before round same quiet)
-      (ap found_in (sym (look_entry entry made) ∙ busy))
+  -- a look finds that it rests
+  pub found-at-rest : (entry : Entry) → IsMadeBy parts history cube.grant HOST looks entry → IsAtRest → entry.what ≡ Look Busy → ⊥
+  found-at-rest entry made rests busy = not_busy _ _ rests (ap found_in (sym (look_entry entry made) ∙ busy))
 
 pub looks-end : LooksEnd
-looks-end parts history number grant machine lawful held before round entry same quiet made busy =
-    by_cube
-    (λ number grant. view history number ≡ before ++ round → IsRoundWithoutWork serial grant.dim round → IsMadeBy parts history grant HOST looks entry
-    → entry.what ≡ Look Busy → ⊥) history number grant
-    (λ cube holds goes same quiet made busy. looks_end parts history machine lawful cube holds goes before round entry same quiet made busy) held same quiet made busy
+looks-end parts history number grant machine lawful held kind before round entry same quiet made busy =
+    by_seen
+    (λ number grant. view history number ≡ before ++ round → IsRoundWithoutWork kind grant.dim round → IsMadeBy parts history grant HOST looks entry
+    → entry.what ≡ Look Busy → ⊥) parts history number grant machine lawful
+    (λ cube now same quiet made busy. found-at-rest parts history cube now entry made (at-rest parts history cube now kind before round same quiet) busy) held same quiet made busy

@@ -12,7 +12,7 @@ use Rattle.ce_model.specs.Parcels.{Parcel, mail, is_eligible}
 use Rattle.ce_model.specs.Process.{Process, is_receiving, is_stopped}
 use Rattle.ce_model.specs.Space.{mapped_ids}
 use Rattle.ce_model.specs.Node.{Node, takes, process_at, blocks_of, ids_of}
-use Rattle.ce_model.specs.Hearing.{Heard, start_of, mail_of, kill_of, poll_of, told, nothing}
+use Rattle.ce_model.specs.Hearing.{Hearing, start_of, mail_of, kill_of, poll_of, told, nothing}
 use Rattle.ce_model.specs.Owners.{IsBlockOf}
 use Rattle.ce_model.specs.Subcubes.{node_of}
 use Rattle.ce_model.specs.Sound.{is_unborn, is_polling}
@@ -83,7 +83,7 @@ module _ (dim : ℕ) (grant : CubeGrant) (placed : IsPlaced dim grant) where
         ap (λ call. elim call [ takes asking dead poller ↦ is_eligible asking dead (mail parcel) | other ↦ false ])
         (take-renamed (block_outward grant) (node_of grant.sub) node)
 
-    pub hearable-outward : (images : List ImageParts) (heard : Heard) → IsHeardOf grant.dim heard → IsHearable images node heard
+    pub hearable-outward : (images : List ImageParts) (heard : Hearing) → IsHeardOf grant.dim heard → IsHearable images node heard
         → IsHearable images (node_outward grant node) (heard_with (block_outward grant) heard)
     hearable-outward images (start_of pid image) of is = record {
       pid_within = is.pid_within;

@@ -6,7 +6,7 @@ use Rattle.ce_model.specs.declared.entry.Entry.{Entry}
 use Rattle.ce_model.specs.declared.topology.BlockId.{BlockId}
 use Rattle.ce_model.specs.Limits.{greatest_dim, greatest_nodes_lem, host_home, host_home_lem, home_blocks, process_count}
 use Rattle.ce_model.specs.Blocks.{blocks_of_home}
-use Rattle.ce_model.specs.Process.{Process, unborn}
+use Rattle.ce_model.specs.Process.{Process, unborn_process}
 use Rattle.ce_model.specs.Node.{fresh}
 use Rattle.ce_model.specs.Saying.{says}
 use Rattle.ce_model.specs.Cube.{opening, state, hoststore}
@@ -25,9 +25,9 @@ module _ (grant : CubeGrant) where
   abbrev outward : BlockId → BlockId
   outward = block_outward grant
 
-  unborn-outward : (n : ℕ) → map (process_with outward) (replicate n unborn) ≡ replicate n unborn
+  unborn-outward : (n : ℕ) → map (process_with outward) (replicate n unborn_process) ≡ replicate n unborn_process
   unborn-outward zero = refl
-  unborn-outward (suc n) = ap (λ ps. unborn ∷ ps) (unborn-outward n)
+  unborn-outward (suc n) = ap (λ ps. unborn_process ∷ ps) (unborn-outward n)
 
   name : ℕ → ℕ → BlockId
   name home index = record { home = home; index = index }

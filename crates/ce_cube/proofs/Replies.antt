@@ -7,14 +7,14 @@ use Rattle.ce_model.specs.declared.entry.What.{What}
 use Rattle.ce_model.specs.declared.entry.What.TheVariants as entry
 use Rattle.ce_model.specs.declared.entry.KillFound.{KillFound}
 use Rattle.ce_model.specs.declared.entry.KillFound.TheVariants as found
-use Rattle.ce_model.specs.declared.entry.Given.{Given}
-use Rattle.ce_model.specs.declared.entry.Given.TheVariants as given
+use Rattle.ce_model.specs.declared.entry.TakeResult.{TakeResult}
+use Rattle.ce_model.specs.declared.entry.TakeResult.TheVariants as given
 use Rattle.ce_model.specs.Parcels as model
 use Rattle.ce_model.specs.Parcels.{Item, start, mail, kill, is_named_by, parcel_in}
 use Rattle.ce_model.specs.Hearing.{mail_of, nothing, told}
 use Rattle.ce_model.specs.Cube.{parcel_numbered, heard_parcel, heard_given, heard_in, kill_answer}
 use Rattle.ce_model.specs.Renaming.{parcel_with, item_with, heard_with, what_renamed}
-use Rattle.rk_mail.specs.declared.talk.Heard.{Heard}
+use Rattle.rk_mail.specs.declared.talk.Hearing.{Hearing}
 use Rattle.rk_mail.specs.Talk.{heard_as, heard_of_kill, IsGiven, IsHeardIn}
 use Rattle.ce_solo.specs.Laws.{IsHeardOf}
 use Rattle.ce_solo.proofs.Items.{parcel_ids}
@@ -22,7 +22,7 @@ use Rattle.ce_solo.proofs.Made.{find-all}
 use Rattle.ce_model.specs.Owners.{IsBlockOf}
 
 module _ (rename : BlockId → BlockId) where
-  named-renamed : (given : Given) (item : Item) → is_named_by given (item_with rename item) ≡ is_named_by given item
+  named-renamed : (given : TakeResult) (item : Item) → is_named_by given (item_with rename item) ≡ is_named_by given item
   named-renamed (given.Start pid image) (start other number) = refl
   named-renamed (given.Start pid image) (mail parcel) = refl
   named-renamed (given.Start pid image) (kill other) = refl
@@ -41,7 +41,7 @@ module _ (rename : BlockId → BlockId) where
   found_of true item rest rest' same = refl
   found_of false item rest rest' same = same
 
-  find-named : (given : Given) (items : List Item) → find (is_named_by given) (map (item_with rename) items) ≡ option_map (item_with rename) (find (is_named_by given) items)
+  find-named : (given : TakeResult) (items : List Item) → find (is_named_by given) (map (item_with rename) items) ≡ option_map (item_with rename) (find (is_named_by given) items)
   find-named given [] = refl
   find-named given (item ∷ items) =
       rw (named-renamed given item)
@@ -61,7 +61,7 @@ module _ (rename : BlockId → BlockId) where
   mail-heard None parcel e = absurd (cc)
   mail-heard (Some own) parcel e = ap (λ found. elim found [ None ↦ nothing | Some p ↦ mail_of p ]) (sym e)
 
-  given-heard : (items : List Item) (given : Given) (heard : Heard) → IsGiven (map (item_with rename) items) given heard
+  given-heard : (items : List Item) (given : TakeResult) (heard : Hearing) → IsGiven (map (item_with rename) items) given heard
       → heard_as heard ≡ heard_with rename (heard_given items given)
   given-heard items (given.Start pid image) heard is = ap heard_as is
   given-heard items (given.Mail pid number) heard is =
@@ -71,17 +71,17 @@ module _ (rename : BlockId → BlockId) where
   given-heard items given.Idle heard is = ap heard_as is
   given-heard items given.Spent heard is = ap heard_as is
 
-  fresh-heard : (fresh : Bool) (heard : Heard) → IsHeardIn [] (entry.Spawn 0 0 (record { node = 0; pid = 0 }) fresh) heard → heard_as heard ≡ told (if fresh then 0 else 2)
+  fresh-heard : (fresh : Bool) (heard : Hearing) → IsHeardIn [] (entry.Spawn 0 0 (record { node = 0; pid = 0 }) fresh) heard → heard_as heard ≡ told (if fresh then 0 else 2)
   fresh-heard true heard is = ap heard_as is
   fresh-heard false heard is = ap heard_as is
 
-  kill-heard : (found : KillFound) (heard : Heard) → heard ≡ heard_of_kill found → heard_as heard ≡ told (kill_answer found)
+  kill-heard : (found : KillFound) (heard : Hearing) → heard ≡ heard_of_kill found → heard_as heard ≡ told (kill_answer found)
   kill-heard found.Killed heard is = ap heard_as is
   kill-heard found.Unused heard is = ap heard_as is
   kill-heard found.Already heard is = ap heard_as is
 
   -- an entry's places and blocks may have any names
-  pub reply-heard : (place : Place → Place) (block : BlockId → BlockId) (items : List Item) (what : What) (heard : Heard) → IsHeardIn (map (item_with rename) items) what heard
+  pub reply-heard : (place : Place → Place) (block : BlockId → BlockId) (items : List Item) (what : What) (heard : Hearing) → IsHeardIn (map (item_with rename) items) what heard
       → heard_as heard ≡ heard_with rename (heard_in items (what_renamed place block what))
   reply-heard place block items (entry.Take asking dead poller given) heard is = given-heard items given heard is
   reply-heard place block items (entry.Send pid first to bytes) heard is = ap heard_as is
@@ -108,7 +108,7 @@ found_in dim (Some (start pid image)) is = tt
 found_in dim (Some (mail parcel)) is = is (mail parcel) refl
 found_in dim (Some (kill pid)) is = tt
 
-given_in : (dim : ℕ) (items : List Item) (given : Given) → AllByRecursion (IsItemIn dim) items → IsHeardOf dim (heard_given items given)
+given_in : (dim : ℕ) (items : List Item) (given : TakeResult) → AllByRecursion (IsItemIn dim) items → IsHeardOf dim (heard_given items given)
 given_in dim items (given.Start pid image) all = tt
 given_in dim items (given.Mail pid number) all =
     found_in dim (find (is_named_by (given.Mail 0 number)) items) (λ item e. find-all (IsItemIn dim) (is_named_by (given.Mail 0 number)) items item all e)

@@ -1,11 +1,11 @@
--- Turns and rounds are made entry by entry.
+-- Turns, rounds and shares are made entry by entry.
 use Rattle.std.proofs.Common.{◌≡◌, ◌||◌, Bool, true, false, ℕ, zero, suc, ◌+◌, List, [], ◌∷◌, ◌++◌, refl, ap, sym, ◌∙◌, subst, arith, append-nil}
-use Rattle.std.specs.Prelude.{IsFalse}
+use Rattle.std.specs.Prelude.{IsTrue, IsFalse}
 use Rattle.std.specs.List.{AllZip, range_with_len}
 use Rattle.std.proofs.lemmas.Grind.{flat_map-append}
 use Rattle.std.proofs.lemmas.List.Folds.{list_any-append}
 use Rattle.ce_model.specs.declared.entry.Entry.{Entry}
-use Rattle.ce_script.specs.Rounds.{is_take, is_dispatch, IsTurn, joined}
+use Rattle.ce_script.specs.Rounds.{is_take, is_dispatch, has_work, IsTurn, joined_lists}
 use Rattle.ce_solo.proofs.Lists.{all-append}
 use Rattle.ce_cube.specs.Rounds.{AreMade}
 
@@ -38,6 +38,10 @@ one-further r turns turn each is =
     (subst (λ rs. AllZip IsTurn rs (turns ++ turn ∷ [])) (sym (range-push 0 r))
     (zip-push (range_with_len 0 r) turns (0 + r) turn each (subst (λ n. IsTurn n turn) (sym here) is)))
 
+joined-push : (turns : List (List Entry)) (turn : List Entry) → joined_lists turns ++ turn ≡ joined_lists (turns ++ turn ∷ [])
+joined-push turns turn =
+    sym (flat_map-append (λ (list : List Entry). list) turns (turn ∷ []) ∙ ap (λ xs. joined_lists turns ++ xs) (append-nil turn))
+
 one_only : (b : Bool) → (b || false) ≡ b
 one_only true = refl
 one_only false = refl
@@ -50,9 +54,25 @@ are-made = record {
   round_goes_on = λ r entries turn part is. record {
     turns = part.turns ++ turn ∷ [];
     each = one-further r part.turns turn part.each is;
-    all = ap (λ xs. xs ++ turn) part.all ∙ sym (flat_map-append (λ (list : List Entry). list) part.turns (turn ∷ []) ∙ ap (λ xs. joined part.turns ++ xs) (append-nil turn));
+    all = ap (λ xs. xs ++ turn) part.all ∙ joined-push part.turns turn;
   };
   round_ends = λ dim entries part. record { turns = part.turns; each = part.each; all = part.all };
+  share_begins = λ r. record { turns = []; each = tt; with_work = tt; all = refl };
+  share_goes_on = λ r entries turn part is work. record {
+    turns = part.turns ++ turn ∷ [];
+    each = all-append (IsTurn r) part.turns (turn ∷ []) part.each (is, tt);
+    with_work = all-append (λ turn. IsTrue (has_work turn)) part.turns (turn ∷ []) part.with_work (work, tt);
+    all = ap (λ xs. xs ++ turn) part.all ∙ joined-push part.turns turn;
+  };
+  share_ends = λ r entries last part take none. record {
+    turns = part.turns;
+    last = last;
+    each = part.each;
+    with_work = part.with_work;
+    last_take = take;
+    without_work = none;
+    all = ap (λ xs. xs ++ last ∷ []) part.all;
+  };
   work_begins = λ entry. one_only (is_dispatch entry);
   work_adds = λ entries others. list_any-append is_dispatch entries others;
 }

@@ -10,14 +10,14 @@ use Rattle.ce_model.specs.Cube.{Cube, CubeState, opening, call_by, HostCall, ask
 use Rattle.ce_model.specs.Subcubes.{node_of}
 use Rattle.ce_model.specs.Renaming.{block_outward, call_with}
 use Rattle.ce_model.specs.Views.{view}
-use Rattle.ce_model.specs.Machine.{MachineParts, IsMachine, HeldCube, IsLawful, IsCallOf, after, held_by, cube_of}
+use Rattle.ce_model.specs.Machine.{MachineParts, HeldCube, IsCallOf, cube_of}
 use Rattle.ce_model.proofs.Subcubes.{is_inside-node_of}
 use Rattle.ce_script.specs.Rounds.{asks_for_work}
 use Rattle.ce_solo.proofs.Projection.Numbers.{node_no_host, out_no_host, relative_out}
 use Rattle.ce_solo.proofs.Projection.Law.{projected}
 use Rattle.ce_cube.specs.Boxes.{node_now, IsStandIn, IsSaidBy}
 use Rattle.ce_cube.specs.Laws.{BoxesSay}
-use Rattle.ce_cube.proofs.Held.{Seen, seen, by_cube}
+use Rattle.ce_cube.proofs.Held.{IsSeen, by_seen}
 use Rattle.ce_cube.proofs.Users.{user-within}
 use Rattle.ce_cube.proofs.Seats.{box-says, box-again}
 
@@ -37,11 +37,7 @@ call_by-node : (cube : Cube) (o : CubeState) (t : List Entry) (r : ℕ) (asked :
     → call_by cube o t r asked ≡ Some (next_call cube o r t)
 call_by-node cube o t r asked node below = let is = lt-ltb r (2 ^ cube.dim) below in rw (node, is) refl
 
-module _ (parts : MachineParts) (history : List Entry) (machine : IsMachine parts) (lawful : IsLawful parts history) (cube : HeldCube)
-    (holds : held_by (after history) cube.grant.user ≡ Some cube) (goes : cube.drained ≡ false) (r : ℕ) (below : r < 2 ^ cube.grant.dim) where
-  abbrev now : Seen parts history cube
-  now = seen parts history cube machine lawful holds goes
-
+module _ (parts : MachineParts) (history : List Entry) (cube : HeldCube) (now : IsSeen parts history cube) (r : ℕ) (below : r < 2 ^ cube.grant.dim) where
   abbrev node : Node
   node = node_now parts history cube.number cube.grant r
 
@@ -55,20 +51,20 @@ module _ (parts : MachineParts) (history : List Entry) (machine : IsMachine part
             ∙ call_by-node own (opening own) (view history cube.number) r (asked_by (says node).call) (node_no_host parts.dim cube.grant now.placed r below) below;
         renamed = sym is;
         within = λ host. absurd (both_ways _ (out_no_host parts.dim cube.grant now.placed r) host);
-        not_drained = goes;
+        not_drained = now.goes;
       }
 
   pub says-of : (box : Node) → IsStandIn cube.grant node box → IsSaidBy parts history cube.number cube.grant r box
   says-of box stands =
       let said = box-says parts history cube now r below box stands in
       let call = ap (λ (saying : Saying). saying.call) said in
-      let was = (projected parts history machine lawful).held cube.grant.user cube holds in
+      let was = (projected parts history now.machine now.lawful).held cube.grant.user cube now.holds in
       record {
         at_rest = ap (λ (saying : Saying). saying.node) said;
         call = call;
         fits = (
-          user-within parts history cube.number cube.grant was.behind lawful was.found,
-          subst (λ held. IsSomeAnd held (IsCallOf parts history (node_of cube.grant.sub r) (says box).call)) (sym holds) (call-of (says box).call call),
+          user-within parts history cube.number cube.grant was.behind now.lawful was.found,
+          subst (λ held. IsSomeAnd held (IsCallOf parts history (node_of cube.grant.sub r) (says box).call)) (sym now.holds) (call-of (says box).call call),
         );
         again = λ work. box-again parts history cube now r below box stands (asks call work);
         in_step = λ work. record { at_rest = ap (λ (saying : Saying). saying.node) said; asks = asks call work };
@@ -79,6 +75,6 @@ module _ (parts : MachineParts) (history : List Entry) (machine : IsMachine part
 
 pub boxes-say : BoxesSay
 boxes-say parts history number grant machine lawful held r box below stands =
-    by_cube
+    by_seen
     (λ number grant. r < 2 ^ grant.dim → IsStandIn grant (node_now parts history number grant r) box → IsSaidBy parts history number grant r box)
-    history number grant (λ cube holds goes below stands. says-of parts history machine lawful cube holds goes r below box stands) held below stands
+    parts history number grant machine lawful (λ cube now below stands. says-of parts history cube now r below box stands) held below stands

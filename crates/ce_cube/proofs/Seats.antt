@@ -5,7 +5,7 @@ use Rattle.ce_model.specs.declared.topology.BlockId.{BlockId}
 use Rattle.ce_model.specs.declared.entry.Entry.{Entry}
 use Rattle.ce_model.specs.Node.{Node, Call, takes, sends, spawns, kills, notes, arms, looks, takes_mail, blocks_of}
 use Rattle.ce_model.specs.Saying.{Saying, says, says_in}
-use Rattle.ce_model.specs.Hearing.{Heard, hears}
+use Rattle.ce_model.specs.Hearing.{Hearing, hears}
 use Rattle.ce_model.specs.Cube.{Cube, CubeState, opening, left_by}
 use Rattle.ce_model.specs.Renaming.{block_outward, heard_with, node_outward, saying_outward}
 use Rattle.ce_model.specs.Owners.{IsBlockOf}
@@ -17,11 +17,11 @@ use Rattle.ce_solo.proofs.Counting.{count, count-nil, sum_run-part}
 use Rattle.ce_solo.proofs.Items.{parcel_ids}
 use Rattle.ce_solo.proofs.Totals.{at_node, at_node-is, total, total-is}
 use Rattle.ce_solo.proofs.Room.{held_blocks}
-use Rattle.ce_solo.proofs.Words.{Leaves, IsCallOf}
+use Rattle.ce_solo.proofs.Words.{HasMadeCall, IsCallOf}
 use Rattle.ce_solo.proofs.Made.{made-leaves}
 use Rattle.ce_solo.proofs.Renaming.Grants.{renaming}
 use Rattle.ce_cube.specs.Boxes.{IsStandIn}
-use Rattle.ce_cube.proofs.Held.{Seen, placed-grant}
+use Rattle.ce_cube.proofs.Held.{IsSeen, placed-grant}
 
 -- a node that asked for work asks so again
 pub asks_again : (node : Node) (call : Call) → IsCallOf node call → IsTrue (asks_for_work call) → says node ≡ record { node = node; call = call }
@@ -35,7 +35,7 @@ asks_again node (arms count) of asks = absurd of
 asks_again node looks of asks = absurd of
 asks_again node takes_mail of asks = absurd of
 
-module _ (parts : MachineParts) (history : List Entry) (cube : HeldCube) (now : Seen parts history cube) (r : ℕ) (below : r < 2 ^ cube.grant.dim) where
+module _ (parts : MachineParts) (history : List Entry) (cube : HeldCube) (now : IsSeen parts history cube) (r : ℕ) (below : r < 2 ^ cube.grant.dim) where
   abbrev pub own : Cube
   own = cube_of parts.images cube.grant
 
@@ -45,7 +45,7 @@ module _ (parts : MachineParts) (history : List Entry) (cube : HeldCube) (now : 
   at_most : (id : BlockId) → at_node id s r ≤ total id cube.grant.dim s
   at_most id = omega (arith, total-is id cube.grant.dim s, sum_run-part (at_node id s) r 0 (2 ^ cube.grant.dim) (omega arith) (omega (arith, below)))
 
-  pub node-said : Leaves (s.node r) (says (s.node r)).node (says (s.node r)).call
+  pub node-said : HasMadeCall (s.node r) (says (s.node r)).node (says (s.node r)).call
   node-said = made-leaves own s r (says (s.node r)).call now.of below now.stands.sound refl
 
   node-blocks : IsNodeOf cube.grant.dim (s.node r)
@@ -72,7 +72,7 @@ module _ (parts : MachineParts) (history : List Entry) (cube : HeldCube) (now : 
       ap says step.at_rest ∙ says_outward (says (s.node r)).node rest-blocks ∙ ap (saying_outward cube.grant) (rest-again step.asks)
 
   -- and hears what it hears
-  pub rest-hears : (heard : Heard) → IsHeardOf cube.grant.dim heard
+  pub rest-hears : (heard : Hearing) → IsHeardOf cube.grant.dim heard
       → hears parts.images (node_outward cube.grant (says (s.node r)).node) (heard_with (block_outward cube.grant) heard)
       ≡ node_outward cube.grant (hears parts.images (says (s.node r)).node heard)
   rest-hears heard is = (renaming parts.dim cube.grant (says (s.node r)).node (placed-grant parts.dim cube.grant now.placed) rest-blocks).1 parts.images heard is

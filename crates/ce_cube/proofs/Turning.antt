@@ -4,7 +4,7 @@ use Rattle.std.specs.Prelude.{◌||◌, Option, Some, None, is_some}
 use Rattle.std.specs.Option.{option_map_or}
 use Rattle.std.proofs.lemmas.List.{map-append}
 use Rattle.ce_model.specs.declared.entry.Entry.{Entry}
-use Rattle.ce_model.specs.declared.entry.Given.{Given}
+use Rattle.ce_model.specs.declared.entry.TakeResult.{TakeResult}
 use Rattle.ce_model.specs.Answers.{call_of}
 use Rattle.ce_model.specs.Node.{Call}
 use Rattle.ce_model.specs.Saying.{says}
@@ -28,7 +28,7 @@ use Rattle.ce_cube.proofs.Rounds.{are-made}
 no_dispatch : (entry : Entry) → is_take entry ≡ false → is_dispatch entry ≡ false
 no_dispatch entry other = by_given (given_in entry) other
   where
-    by_given : (given : Option Given) → is_some given ≡ false → option_map_or is_work given false ≡ false
+    by_given : (given : Option TakeResult) → is_some given ≡ false → option_map_or is_work given false ≡ false
     by_given None e = refl
     by_given (Some given) e = absurd (cc)
 

@@ -1,5 +1,5 @@
 -- A turn makes a counted call by each call that leaves its node.
-use Rattle.std.proofs.Common.{◌≡◌, ◌⊎◌, ℕ, zero, suc, ◌+◌, ◌-◌, ◌<◌, ◌≤◌, Bool, true, false, not, ◌||◌, ◌==◌, nat_lt, if◌then◌else◌, List, [], ◌∷◌, length, slice_get, Option, Some, None, Result, Ok, Err, refl, ap, subst, inl, inr, arith}
+use Rattle.std.proofs.Common.{◌≡◌, ◌⊎◌, ℕ, zero, suc, ◌+◌, ◌<◌, ◌≤◌, Bool, true, false, not, ◌||◌, nat_lt, List, [], ◌∷◌, length, Option, Some, None, IfSome, Result, Ok, Err, refl, ap, inl, inr, arith}
 use Rattle.std.specs.List.{list_all, AllByRecursion}
 use Rattle.std.proofs.lemmas.Bool.{cond_both, ltb-true}
 use Rattle.rv_model.specs.declared.stop.Stop.{Stop}
@@ -10,22 +10,23 @@ use Rattle.ce_model.specs.declared.topology.BlockId.{BlockId}
 use Rattle.ce_model.specs.Limits.{block_room, greatest_targets, turn_calls}
 use Rattle.ce_model.specs.Blocks.{Block}
 use Rattle.ce_model.specs.Space.{Space, has_unused_window, block_named, places_at}
-use Rattle.ce_model.specs.Process.{Process, argument, call_number, moved}
+use Rattle.ce_model.specs.Process.{Process, argument, call_number, moved_process}
 use Rattle.ce_model.specs.Node.{Turn, Node, is_place, with_process, sends, spawns, kills, process_at}
-use Rattle.ce_model.specs.Kernel.{Did, goes_on, leaves, turn_ends, returns, stops, says_call, reading, gives_up, maps_least, xmalloc, frees, xfree, xlength, is_target, place_named, sends_block, xsend, sends_copies, xmsend_block, xmsend, spawn, ckill, KernelCall, kernel_calls, kernel_call, kernel_does, kernel}
+use Rattle.ce_model.specs.Kernel.{CallOutcome, goes_on, leaves, turn_ends, returns, stops, says_call, read_or_stop, gives_up, maps_least, xmalloc, frees, xfree, xlength, is_target, place_named, sends_block, xsend, sends_copies, xmsend_block, xmsend, spawn, ckill, KernelCall, kernel_calls, kernel_call, kernel_does, kernel}
 use Rattle.ce_model.specs.Saying.{Saying, asks, after_call, after_instruction, instruction, runs, says_in, says}
+use Rattle.ce_solo.proofs.Calls.{call_numbered}
 use Rattle.ce_script.specs.Rounds.{asks_for_work}
 
 -- ---- one kernel call
 
 -- a call in this turn leaves the turn as it is, and only a counted one leaves the node; it doesn't ask for work
-abbrev IsOf : Bool → Turn → Did → Type 0
+abbrev IsOf : Bool → Turn → CallOutcome → Type 0
 IsOf is_counted turn (goes_on node turn') = turn' ≡ turn
 IsOf is_counted turn (leaves node call) = (is_counted ≡ true) × (node.turn ≡ Some turn) × (asks_for_work call ≡ false)
 IsOf is_counted turn (turn_ends node) = Unit {0}
 
 module _ (b : Bool) (node : Node) (turn : Turn) (p : Process) where
-  reading-of : {X : Type 0} (read : Result X Stop) (onward : X → Did) → ((x : X) → IsOf b turn (onward x)) → IsOf b turn (reading node turn p read onward)
+  reading-of : {X : Type 0} (read : Result X Stop) (onward : X → CallOutcome) → ((x : X) → IsOf b turn (onward x)) → IsOf b turn (read_or_stop node turn p read onward)
   reading-of (Ok x) onward each = each x
   reading-of (Err cause) onward each = tt
 
@@ -62,7 +63,7 @@ module _ (node : Node) (turn : Turn) (p : Process) where
   xmsend-of =
       reading-of true node turn p (block_named p.space (argument p 0)) (xmsend_block node turn p)
       (λ found. cond_both (nat_lt greatest_targets (argument p 1)) (returns node turn p 3)
-      (reading node turn p (places_at p.space (argument p 2) (argument p 1)) (sends_copies node turn p found)) (IsOf true turn) (λ t. refl)
+      (read_or_stop node turn p (places_at p.space (argument p 2) (argument p 1)) (sends_copies node turn p found)) (IsOf true turn) (λ t. refl)
       (λ f. reading-of true node turn p (places_at p.space (argument p 2) (argument p 1)) (sends_copies node turn p found) (copies-of found)))
 
   spawn-of : IsOf true turn (spawn node turn p)
@@ -112,35 +113,23 @@ all_good = (
   ),
 )
 
-all-get : {X : Type 0} (P : X → Type 0) (xs : List X) (k : ℕ) (x : X) → AllByRecursion P xs → slice_get xs k ≡ Some x → P x
-all-get P [] k x all e = cc
-all-get P (y ∷ ys) zero x all e = let same : y ≡ x = cc in subst P same all.0
-all-get P (y ∷ ys) (suc k) x all e = all-get P ys k x all.1 e
-
-call_good : (number : ℕ) (call : KernelCall) → kernel_call number ≡ Some call → IsGood call
-call_good number call e = all-get IsGood kernel_calls (number - 1) call all_good (there (number == 0) e)
-  where
-    there : (b : Bool) → (if b then None else slice_get kernel_calls (number - 1)) ≡ Some call → slice_get kernel_calls (number - 1) ≡ Some call
-    there true e = cc
-    there false e = e
-
 -- a turn goes on with so many calls made, or more, or it has made one more than it had; or the node asks for work
-abbrev IsSpent : ℕ → Did → Type 0
+abbrev IsSpent : ℕ → CallOutcome → Type 0
 IsSpent calls (goes_on node turn) = calls ≤ turn.calls
 IsSpent calls (leaves node call) = (turn : Turn) × (node.turn ≡ Some turn) × (calls < turn.calls) × (turn.calls ≤ turn_calls) × (asks_for_work call ≡ false)
 IsSpent calls (turn_ends node) = Unit {0}
 
-counted-spent : (turn : Turn) (did : Did) → turn.calls < turn_calls → IsOf true (record turn { calls = turn.calls + 1 }) did → IsSpent turn.calls did
+counted-spent : (turn : Turn) (did : CallOutcome) → turn.calls < turn_calls → IsOf true (record turn { calls = turn.calls + 1 }) did → IsSpent turn.calls did
 counted-spent turn (goes_on node turn') room is = omega (arith, ap (λ (t : Turn). t.calls) is)
 counted-spent turn (leaves node call) room is = (record turn { calls = turn.calls + 1 }, is.1, omega arith, omega (arith, room), is.2)
 counted-spent turn (turn_ends node) room is = tt
 
-plain-spent : (turn : Turn) (did : Did) → IsOf false turn did → IsSpent turn.calls did
+plain-spent : (turn : Turn) (did : CallOutcome) → IsOf false turn did → IsSpent turn.calls did
 plain-spent turn (goes_on node turn') is = omega (arith, ap (λ (t : Turn). t.calls) is)
 plain-spent turn (leaves node call) is = absurd (cc)
 plain-spent turn (turn_ends node) is = tt
 
-made-spent : (is_counted : Bool) (does : Node → Turn → Process → Did) (node : Node) (turn : Turn) (p : Process)
+made-spent : (is_counted : Bool) (does : Node → Turn → Process → CallOutcome) (node : Node) (turn : Turn) (p : Process)
     → ((turn : Turn) → IsOf is_counted turn (does node turn p)) → IsSpent turn.calls (kernel_does (Some (record { is_counted = is_counted; does = does })) node turn p)
 made-spent true does node turn p good =
     cond_both (nat_lt turn.calls turn_calls) (does node (record turn { calls = turn.calls + 1 }) p) (stops node turn p TurnSpent) (IsSpent turn.calls)
@@ -148,14 +137,14 @@ made-spent true does node turn p good =
     (λ spent. tt)
 made-spent false does node turn p good = plain-spent turn (does node turn p) (good turn)
 
-does-spent : (found : Option KernelCall) (node : Node) (turn : Turn) (p : Process) → ((call : KernelCall) → found ≡ Some call → IsGood call)
+does-spent : (found : Option KernelCall) (node : Node) (turn : Turn) (p : Process) → IfSome found IsGood
     → IsSpent turn.calls (kernel_does found node turn p)
 does-spent None node turn p good = tt
-does-spent (Some call) node turn p good = made-spent call.is_counted call.does node turn p (λ turn. good call refl node turn p)
+does-spent (Some call) node turn p good = made-spent call.is_counted call.does node turn p (λ turn. good node turn p)
 
 kernel-spent : (node : Node) (turn : Turn) (p : Process) → IsSpent turn.calls (kernel node turn p)
 unfolding kernel
-kernel-spent node turn p = does-spent (kernel_call (call_number p)) node turn p (call_good (call_number p))
+kernel-spent node turn p = does-spent (kernel_call (call_number p)) node turn p (call_numbered IsGood (call_number p) all_good)
 
 -- ---- a turn
 
@@ -173,7 +162,7 @@ less-spending : (calls calls' : ℕ) (saying : Saying) → calls ≤ calls' → 
 less-spending calls calls' saying less (inl asks) = inl asks
 less-spending calls calls' saying less (inr more) = inr (record { turn = more.turn; is = more.is; more = omega (arith, more.more); within = more.within })
 
-call-spending : (left calls : ℕ) (did : Did) → ((node : Node) (turn : Turn) → IsSpending turn.calls (runs left node turn)) → IsSpent calls did
+call-spending : (left calls : ℕ) (did : CallOutcome) → ((node : Node) (turn : Turn) → IsSpending turn.calls (runs left node turn)) → IsSpent calls did
     → IsSpending calls (after_call (runs left) did)
 call-spending left calls (goes_on node turn) onward is = less-spending calls turn.calls (runs left node turn) is (onward node turn)
 call-spending left calls (leaves node call) onward is = inr (record { turn = is.0; is = is.1; more = is.2; within = is.3 })
@@ -181,10 +170,10 @@ call-spending left calls (turn_ends node) onward is = inl refl
 
 instruction-spending : (left : ℕ) (node : Node) (turn : Turn) (p : Process) (outcome : Outcome Space) → ((node : Node) (turn : Turn) → IsSpending turn.calls (runs left node turn))
     → IsSpending turn.calls (after_instruction (runs left) left node turn p outcome)
-instruction-spending left node turn p (went regs pc space) onward = onward (with_process node turn.pid (moved p regs pc space)) turn
+instruction-spending left node turn p (went regs pc space) onward = onward (with_process node turn.pid (moved_process p regs pc space)) turn
 instruction-spending left node turn p (called regs pc space) onward =
-    call-spending left turn.calls (kernel node (record turn { left = left }) (moved p regs pc space)) onward
-    (kernel-spent node (record turn { left = left }) (moved p regs pc space))
+    call-spending left turn.calls (kernel node (record turn { left = left }) (moved_process p regs pc space)) onward
+    (kernel-spent node (record turn { left = left }) (moved_process p regs pc space))
 instruction-spending left node turn p (stopped cause) onward = inl refl
 
 runs-spending : (left : ℕ) (node : Node) (turn : Turn) → IsSpending turn.calls (runs left node turn)

@@ -1,5 +1,5 @@
 -- Where all boxes of a cube are in step, its blocks are in the boxes, on the parcels that wait and in the host's store, each once.
-use Rattle.std.proofs.Common.{◌≡◌, ◌⊎◌, ℕ, zero, suc, ◌+◌, ◌^◌, ◌<◌, Bool, true, false, ◌||◌, ◌==◌, if◌then◌else◌, List, [], ◌∷◌, ◌++◌, map, flat_map, count_by, IsSomeAnd, Some, refl, ap, ap₂, sym, ◌∙◌, subst, inl, inr, arith}
+use Rattle.std.proofs.Common.{◌≡◌, ◌⊎◌, ℕ, zero, suc, ◌+◌, ◌^◌, ◌<◌, Bool, true, false, ◌||◌, ◌==◌, if◌then◌else◌, List, [], ◌∷◌, ◌++◌, map, flat_map, count_by, IsSomeAnd, refl, ap, ap₂, sym, ◌∙◌, subst, inl, inr, arith}
 use Rattle.std.specs.List.{AllByRecursion, range_with_len}
 use Rattle.std.proofs.lemmas.Bool.{cases_Bool, cases_lt, both_ways, eq-eqb, eqb-true, ne_eqb, lt-ltb, ltb-true, and_parts, and_from, or_cases, or_left, or_right}
 use Rattle.std.proofs.lemmas.List.{map-append}
@@ -18,7 +18,7 @@ use Rattle.ce_model.specs.Owners.{IsBlockOf}
 use Rattle.ce_model.specs.Subcubes.{extract, node_of, is_inside}
 use Rattle.ce_model.specs.Renaming.{CubeGrant, block_outward, item_with}
 use Rattle.ce_model.specs.Views.{view}
-use Rattle.ce_model.specs.Machine.{MachineParts, IsMachine, HeldCube, IsLawful, after, held_by, nodes_of, host_record, all_parcels, HasHeldCube, cube_of}
+use Rattle.ce_model.specs.Machine.{MachineParts, HeldCube, after, nodes_of, host_record, all_parcels, HasHeldCube, cube_of}
 use Rattle.ce_model.proofs.Subcubes.{is_inside-node_of, node_of-extract}
 use Rattle.ce_script.specs.Rounds.{asks_for_work}
 use Rattle.ce_solo.proofs.Counting.{count, count-nil, count-append, count-is, count-run, all-at_name, sum_run, sum_run-same, sum_run-add}
@@ -31,7 +31,7 @@ use Rattle.ce_solo.proofs.Projection.Numbers.{IsPlaced, few_relative, out_no_hos
 use Rattle.ce_cube.specs.Boxes.{AreInStep}
 use Rattle.ce_cube.specs.Rehoming.{is_block_of, names_in, AreAllBlocks}
 use Rattle.ce_cube.specs.Laws.{BlocksAreWhole}
-use Rattle.ce_cube.proofs.Held.{Seen, seen, by_cube}
+use Rattle.ce_cube.proofs.Held.{IsSeen, by_seen}
 use Rattle.ce_cube.proofs.Seats.{node-said}
 use Rattle.ce_cube.proofs.Names.{blocks-outward, count-outward}
 
@@ -114,12 +114,8 @@ asks-no_blocks takes_mail asks = refl
 
 -- ---- the cube that is held
 
-module _ (parts : MachineParts) (history : List Entry) (machine : IsMachine parts) (lawful : IsLawful parts history) (cube : HeldCube)
-    (holds : held_by (after history) cube.grant.user ≡ Some cube) (goes : cube.drained ≡ false) (box : ℕ → Node)
+module _ (parts : MachineParts) (history : List Entry) (cube : HeldCube) (now : IsSeen parts history cube) (box : ℕ → Node)
     (steps : AreInStep parts history cube.number cube.grant box) where
-  abbrev now : Seen parts history cube
-  now = seen parts history cube machine lawful holds goes
-
   abbrev own : Cube
   own = cube_of parts.images cube.grant
 
@@ -248,10 +244,10 @@ module _ (parts : MachineParts) (history : List Entry) (machine : IsMachine part
 
 pub blocks-are-whole : BlocksAreWhole
 blocks-are-whole parts history number grant machine lawful held box steps =
-    by_cube
+    by_seen
     (λ number grant. AreInStep parts history number grant box → HasHeldCube history grant.user (λ cube. AreAllBlocks grant
     (names_in grant box (all_parcels (after history) cube) (map (block_outward grant) (hoststore (opening (cube_of parts.images grant)) (view history number))))))
-    history number grant
-    (λ cube holds goes steps. subst (λ held. IsSomeAnd held (λ one. AreAllBlocks cube.grant
+    parts history number grant machine lawful
+    (λ cube now steps. subst (λ held. IsSomeAnd held (λ one. AreAllBlocks cube.grant
     (names_in cube.grant box (all_parcels (after history) one) (map (block_outward cube.grant) (hoststore (opening (cube_of parts.images cube.grant)) (view history cube.number))))))
-    (sym holds) (all-blocks parts history machine lawful cube holds goes box steps)) held steps
+    (sym now.holds) (all-blocks parts history cube now box steps)) held steps

@@ -14,8 +14,8 @@ use Rattle.ce_model.specs.Cube.{opening, state, hoststore}
 use Rattle.ce_model.specs.Subcubes.{node_of}
 use Rattle.ce_model.specs.Renaming.{CubeGrant, block_outward, call_with, entry_inward, node_outward}
 use Rattle.ce_model.specs.Views.{view}
-use Rattle.ce_model.specs.Machine.{MachineParts, HeldCube, IsLawful, IsFitting, HasHeldCube, in_cube, answered, after, held_by, standing_of, cube_of}
-use Rattle.rk_mail.specs.declared.talk.Heard.{Heard}
+use Rattle.ce_model.specs.Machine.{MachineParts, HeldCube, IsLawful, IsFitting, HasHeldCube, in_cube, what_of_request, after, held_by, standing_of, cube_of}
+use Rattle.rk_mail.specs.declared.talk.Hearing.{Hearing}
 use Rattle.rk_mail.specs.Talk.{IsHeardIn}
 use Rattle.ce_script.specs.Rounds.{asks_for_work}
 
@@ -71,7 +71,7 @@ pub record IsSaidBy (parts : MachineParts) (history : List Entry) (number : ℕ)
 pub record IsMadeBy (parts : MachineParts) (history : List Entry) (grant : CubeGrant) (actor : ℕ) (call : Call) (entry : Entry) : Type 0 where
   pub user : entry.user ≡ grant.user
   pub actor_is : entry.actor ≡ actor
-  pub what : answered parts (after history) grant.user actor (in_cube call) ≡ Some entry.what
+  pub what : what_of_request parts (after history) grant.user actor (in_cube call) ≡ Some entry.what
 
 -- the entry is the next of this cube; an entry of a node leaves the others and the host's store as they were, and one of the host all nodes
 pub record IsOneMore (parts : MachineParts) (history : List Entry) (number : ℕ) (grant : CubeGrant) (entry : Entry) : Type 0 where
@@ -85,7 +85,7 @@ pub record IsOneMore (parts : MachineParts) (history : List Entry) (number : ℕ
   pub store : (entry.actor == HOST) ≡ false → store_now parts (history ++ entry ∷ []) number grant ≡ store_now parts history number grant
 
 -- node r hears so in answer to a call that made an entry of this
-abbrev pub IsAnswered : List Entry → CubeGrant → ℕ → What → Heard → Type 0
+abbrev pub IsAnswered : List Entry → CubeGrant → ℕ → What → Hearing → Type 0
 IsAnswered history grant r what heard =
     HasHeldCube history grant.user (λ cube. IsHeardIn ((standing_of (after history) cube).node_record (node_of grant.sub r)).waiting what heard)
 

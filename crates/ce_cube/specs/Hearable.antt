@@ -6,9 +6,9 @@ use Rattle.ce_model.specs.Blocks.{is_same_id}
 use Rattle.ce_model.specs.Parcels.{Parcel, mail, is_eligible}
 use Rattle.ce_model.specs.Process.{is_receiving, is_stopped}
 use Rattle.ce_model.specs.Node.{Turn, Node, process_at, blocks_of, ids_of}
-use Rattle.ce_model.specs.Hearing.{Heard, start_of, mail_of, kill_of, poll_of, told, nothing}
+use Rattle.ce_model.specs.Hearing.{Hearing, start_of, mail_of, kill_of, poll_of, told, nothing}
 use Rattle.ce_model.specs.Sound.{is_unborn, is_polling}
-use Rattle.rk_mail.specs.declared.talk.Heard as program
+use Rattle.rk_mail.specs.declared.talk.Hearing as program
 use Rattle.rk_mail.specs.Talk.{heard_as, IsAnswerTo}
 use Rattle.ce_model.specs.Saying.{Saying}
 
@@ -49,7 +49,7 @@ pub record IsInTurn (node : Node) : Type 0 where
   pub is : node.turn ≡ Some turn
 
 -- the node can hear this
-abbrev pub IsHearable : List ImageParts → Node → Heard → Type 0
+abbrev pub IsHearable : List ImageParts → Node → Hearing → Type 0
 IsHearable images node (start_of pid image) = IsStartable images node pid image
 IsHearable images node (mail_of parcel) = IsDeliverable node parcel
 IsHearable images node (kill_of pid) = IsEndable node pid
@@ -58,7 +58,7 @@ IsHearable images node (told value) = IsInTurn node
 IsHearable images node nothing = Unit {0}
 
 -- what is heard is an answer to what was said, and the node can hear it
-pub record IsRightAnswer (images : List ImageParts) (said : Saying) (heard : program.Heard) : Type 0 where
+pub record IsRightAnswer (images : List ImageParts) (said : Saying) (heard : program.Hearing) : Type 0 where
   pub answers : IsAnswerTo said.call heard
   pub hearable : IsHearable images said.node (heard_as heard)
 

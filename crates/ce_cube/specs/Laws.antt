@@ -1,12 +1,12 @@
 -- The laws of the boxes of a cube that is held, each in one line.
-use Rattle.std.specs.Prelude.{◌≡◌, ◌⊎◌, ℕ, ◌^◌, ◌<◌, ◌≤◌, ◌==◌, ◌||◌, true, false, IsFalse, List, [], ◌∷◌, ◌++◌, length, map, drop, slice_get, Some}
+use Rattle.std.specs.Prelude.{◌≡◌, ◌⊎◌, ℕ, ◌^◌, ◌<◌, ◌≤◌, ◌==◌, ◌||◌, true, false, IsTrue, IsFalse, List, [], ◌∷◌, ◌++◌, length, map, drop, slice_get, Some}
 use Rattle.ce_model.specs.declared.topology.Place.{Place}
 use Rattle.ce_model.specs.declared.topology.BlockId.{BlockId}
 use Rattle.ce_model.specs.declared.entry.Entry.{Entry}
 use Rattle.ce_model.specs.Limits.{block_room, greatest_count}
 use Rattle.ce_model.specs.Parcels.{Parcel}
 use Rattle.ce_model.specs.declared.entry.What.TheVariants.{Peek, Look, HostTake}
-use Rattle.ce_model.specs.declared.entry.Found.TheVariants.{Busy}
+use Rattle.ce_model.specs.declared.entry.LookResult.TheVariants.{Busy}
 use Rattle.ce_model.specs.declared.topology.TheConstants.{HOST}
 use Rattle.ce_model.specs.Node.{Node, Call, arms, sends, takes_mail, looks, is_place}
 use Rattle.ce_model.specs.Saying.{says}
@@ -17,13 +17,14 @@ use Rattle.ce_model.specs.Trace.{standing}
 use Rattle.ce_model.specs.Answers.{is_quiet, is_used_up}
 use Rattle.ce_model.specs.Cube.{opening, node_numbers, HostCall, host_call, parcel_numbered}
 use Rattle.ce_model.specs.Views.{view}
-use Rattle.ce_model.specs.Machine.{MachineParts, IsMachine, IsLawful, IsLawfulEntry, IsWithinLimits, IsFitting, HasHeldCube, getcube, drain, freecube, in_cube, answered, after, all_parcels, cube_of}
-use Rattle.rk_mail.specs.declared.talk.Heard.{Heard}
+use Rattle.ce_model.specs.Machine.{MachineParts, IsMachine, IsLawful, IsLawfulEntry, IsWithinLimits, IsFitting, HasHeldCube, getcube, drain, freecube, in_cube, what_of_request, after, all_parcels, cube_of}
+use Rattle.rk_mail.specs.declared.talk.Hearing.{Hearing}
 use Rattle.ce_solo.specs.Laws.{OfEachTrace}
 use Rattle.rk_mail.specs.Talk.{heard_as}
-use Rattle.ce_script.specs.Rounds.{asks_for_work, AreTurnsOver, serial, IsRoundWithoutWork}
+use Rattle.ce_script.specs.Rounds.{is_take, is_dispatch, asks_for_work, AreTurnsOver, RoundKind, IsRoundWithoutWork}
 use Rattle.ce_cube.specs.Hearable.{IsRightAnswer, calls_left}
 use Rattle.ce_cube.specs.Boxes.{IsHeldAs, node_now, IsStandIn, AreInStep, IsAccepted, IsSaidBy, IsMadeBy, IsOneMore, IsAnswered, IsAside, grant_entry, drain_entry, IsBegun, store_now}
+use Rattle.ce_cube.specs.Beside.{AreNotMadeAlone, IsHeldBeside}
 use Rattle.ce_cube.specs.Rounds.{dispatches_left, IsEntryOf}
 use Rattle.ce_cube.specs.Rehoming.{names_in, AreAllBlocks}
 
@@ -36,7 +37,7 @@ OfEachHeld P = (parts : MachineParts) (history : List Entry) (number : ℕ) (gra
 abbrev pub GrantsBegin : Type 0
 GrantsBegin = (parts : MachineParts) (history : List Entry) (grant : CubeGrant) → IsMachine parts → IsLawful parts history
     → IsFitting parts history grant.user HOST (getcube grant.dim)
-    → answered parts (after history) grant.user HOST (getcube grant.dim) ≡ Some (grant_entry grant).what → IsBegun parts history grant
+    → what_of_request parts (after history) grant.user HOST (getcube grant.dim) ≡ Some (grant_entry grant).what → IsBegun parts history grant
 
 -- what a box says that stands for a node is the node's next call, which fits
 abbrev pub BoxesSay : Type 0
@@ -53,22 +54,28 @@ abbrev pub OthersKeep : Type 0
 OthersKeep = OfEachHeld (λ parts history number grant. (entry : Entry) → IsLawfulEntry parts history entry
     → ((entry.user == grant.user) ≡ false) ⊎ (entry.what ≡ Peek) → IsAside parts history number grant entry)
 
+-- Behind entries of other users, calls of the cube and peeks of its host the cube is held still; its trace has these calls more, and a node
+-- that made none of them is what it was, and so is the host's store.
+abbrev pub BesideKeeps : Type 0
+BesideKeeps = OfEachHeld (λ parts history number grant. (more : List Entry) → IsLawful parts (history ++ more) → AreNotMadeAlone grant.user more
+    → IsHeldBeside parts history number grant more)
+
 -- the box of the node that made an entry stands for the node behind it, once it has heard the answer
 abbrev pub BoxesHear : Type 0
-BoxesHear = OfEachHeld (λ parts history number grant. (r : ℕ) (box : Node) (entry : Entry) (heard : Heard) → r < 2 ^ grant.dim
+BoxesHear = OfEachHeld (λ parts history number grant. (r : ℕ) (box : Node) (entry : Entry) (heard : Hearing) → r < 2 ^ grant.dim
     → IsStandIn grant (node_now parts history number grant r) box → IsMadeBy parts history grant (node_of grant.sub r) (says box).call entry
     → IsAnswered history grant r entry.what heard
     → hears parts.images (says box).node (heard_as heard) ≡ node_outward grant (node_now parts (history ++ entry ∷ []) number grant r))
 
 -- and it can hear that answer, which is one to its call
 abbrev pub BoxesCanHear : Type 0
-BoxesCanHear = OfEachHeld (λ parts history number grant. (r : ℕ) (box : Node) (entry : Entry) (heard : Heard) → r < 2 ^ grant.dim
+BoxesCanHear = OfEachHeld (λ parts history number grant. (r : ℕ) (box : Node) (entry : Entry) (heard : Hearing) → r < 2 ^ grant.dim
     → IsStandIn grant (node_now parts history number grant r) box → IsMadeBy parts history grant (node_of grant.sub r) (says box).call entry
     → IsAnswered history grant r entry.what heard → IsRightAnswer parts.images (says box) heard)
 
 -- by each call that asks for no work a turn has fewer calls left
 abbrev pub TurnsEnd : Type 0
-TurnsEnd = OfEachHeld (λ parts history number grant. (r : ℕ) (box : Node) (entry : Entry) (heard : Heard) → r < 2 ^ grant.dim
+TurnsEnd = OfEachHeld (λ parts history number grant. (r : ℕ) (box : Node) (entry : Entry) (heard : Hearing) → r < 2 ^ grant.dim
     → IsStandIn grant (node_now parts history number grant r) box → IsMadeBy parts history grant (node_of grant.sub r) (says box).call entry
     → IsAnswered history grant r entry.what heard → IsFalse (asks_for_work (says box).call)
     → calls_left (hears parts.images (says box).node (heard_as heard)) < calls_left box)
@@ -108,24 +115,30 @@ DrainsFit = OfEachHeld (λ parts history number grant. IsFitting parts history g
 
 -- an entry of a node is of its turn, and takes a dispatch exactly where it gives work
 abbrev pub EntriesCount : Type 0
-EntriesCount = OfEachHeld (λ parts history number grant. (r : ℕ) (box : Node) (entry : Entry) (heard : Heard) → r < 2 ^ grant.dim
+EntriesCount = OfEachHeld (λ parts history number grant. (r : ℕ) (box : Node) (entry : Entry) (heard : Hearing) → r < 2 ^ grant.dim
     → IsStandIn grant (node_now parts history number grant r) box → IsMadeBy parts history grant (node_of grant.sub r) (says box).call entry
     → IsAnswered history grant r entry.what heard → IsEntryOf parts history number grant r (says box).call entry heard)
+
+-- right behind a Take that gives it no work, the last entry of the trace, a node asks for work again
+abbrev pub IdleAsks : Type 0
+IdleAsks = OfEachHeld (λ parts history number grant. (r : ℕ) (before : List Entry) (entry : Entry) → view history number ≡ before ++ entry ∷ []
+    → entry.actor ≡ r → IsTrue (is_take entry) → IsFalse (is_dispatch entry)
+    → IsTrue (asks_for_work (says (node_now parts history number grant r)).call))
 
 -- where all boxes are in step no turn is open
 abbrev pub StepsEndTurns : Type 0
 StepsEndTurns = (parts : MachineParts) (history : List Entry) (number : ℕ) (grant : CubeGrant) (box : ℕ → Node)
     → AreInStep parts history number grant box → AreTurnsOver (cube_of parts.images grant) (opening (cube_of parts.images grant)) (view history number)
 
--- behind a round without work a cube is quiet, or its dispatches are used up
+-- behind a round without work, of either kind, a cube is quiet, or its dispatches are used up
 abbrev pub RoundsRest : Type 0
-RoundsRest = OfEachTrace (λ cube o t. (before round : List Entry) → t ≡ before ++ round → IsRoundWithoutWork serial cube.dim round
-    → (is_quiet (node_numbers cube.dim) (standing o.standing t) || is_used_up (standing o.standing t)) ≡ true)
+RoundsRest = OfEachTrace (λ cube o t. (kind : RoundKind) (before round : List Entry) → t ≡ before ++ round
+    → IsRoundWithoutWork kind cube.dim round → (is_quiet (node_numbers cube.dim) (standing o.standing t) || is_used_up (standing o.standing t)) ≡ true)
 
 -- so a look right behind one never finds it busy
 abbrev pub LooksEnd : Type 0
-LooksEnd = OfEachHeld (λ parts history number grant. (before round : List Entry) (entry : Entry) → view history number ≡ before ++ round
-    → IsRoundWithoutWork serial grant.dim round → IsMadeBy parts history grant HOST looks entry → (entry.what ≡ Look Busy) → ⊥)
+LooksEnd = OfEachHeld (λ parts history number grant. (kind : RoundKind) (before round : List Entry) (entry : Entry)
+    → view history number ≡ before ++ round → IsRoundWithoutWork kind grant.dim round → IsMadeBy parts history grant HOST looks entry → (entry.what ≡ Look Busy) → ⊥)
 
 -- ---- a cube that is given back
 

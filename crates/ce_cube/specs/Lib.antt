@@ -1,5 +1,7 @@
+pub mod Beside
 pub mod Boxes
 pub mod Crews
+pub mod Dispatches
 pub mod Exchanges
 pub mod Hearable
 pub mod Homecoming

@@ -3,7 +3,7 @@ ghost use Rattle.std.specs.Prelude.{◌≡◌, MatchResult};
 ghost use Rattle.rk_mail.specs.Talk.{call_said};
 ghost use Rattle.rk_node.specs.Boxes.{Box};
 ghost use Rattle.ce_machine.specs.declared.call.Reply.TheVariants.{Heard as ReplyHeard};
-ghost use Rattle.rk_mail.specs.declared.talk.Heard.{Heard};
+ghost use Rattle.rk_mail.specs.declared.talk.Hearing.{Hearing};
 ghost use Rattle.ce_cube.specs.Exchanges.{HasSaidCall, HasExchanged, HasNode};
 ghost use Rattle.ce_cube.specs.Rounds.{is_work_heard};
 
@@ -12,7 +12,7 @@ use ce_lock::{Kept, Who};
 use ce_machine::{Call, Machine, Reply};
 use ce_model::NoMemory;
 use ce_set::node_of;
-use rk_mail::{Heard, Say};
+use rk_mail::{Hearing, Say};
 use rk_node::NodeBox;
 use rv_image::Image;
 use std::alloc::Global;
@@ -29,7 +29,8 @@ pub(crate) fn exchange(
     said: Say,
 ) -> Result<bool, NoMemory>
     requires node { HasNode machine.old grant.now r }
-    requires said { (box : Box) × HasSaidCall machine.old grant.now r box node.old (call_said said) }
+    requires said { (box : Box)
+        × HasSaidCall machine.old grant.now r box node.old (call_said said) }
     requires images { images.now ≡ machine.old.parts.images }
     ensures { MatchResult result
         (λ work. (box : Box) → HasSaidCall machine.old grant.now r box node.old (call_said said)
@@ -51,8 +52,8 @@ pub(crate) fn exchange(
 }
 
 /// What a machine's reply lets a node hear; it lets it hear something.
-fn heard_in(reply: Reply<NodeBox>) -> Heard
-    requires { (heard : Heard) × (reply ≡ ReplyHeard heard) }
+fn heard_in(reply: Reply<NodeBox>) -> Hearing
+    requires { (heard : Hearing) × (reply ≡ ReplyHeard heard) }
     ensures { reply ≡ ReplyHeard result }
 {
     match reply {
@@ -62,11 +63,11 @@ fn heard_in(reply: Reply<NodeBox>) -> Heard
 }
 
 /// Whether a node is given work by this answer.
-fn is_work(heard: &Heard) -> bool
+fn is_work(heard: &Hearing) -> bool
     ensures { result ≡ is_work_heard heard.now }
 {
     matches!(
         heard,
-        Heard::Start { .. } | Heard::Mail(_) | Heard::Kill { .. } | Heard::Poll { .. }
+        Hearing::Start { .. } | Hearing::Mail(_) | Hearing::Kill { .. } | Hearing::Poll { .. }
     )
 }

@@ -1,6 +1,6 @@
 //! What is proved of the boxes of a cube that is held after a lawful history of a machine within its limits. The functions do
 //! nothing: a contract is the law. The proofs of the code cite the lemmas that prove it.
-ghost use Rattle.ce_cube.specs.Laws.{BoxesSay, CallsAdd, BoxesHear, BoxesCanHear, TurnsEnd, OthersKeep, EntriesCount, StepsEndTurns, RoundsRest, LooksEnd, BlocksAreWhole, GrantsBegin, HostsFit, HostsSend, HostsTake, ArmsAllow, DrainsFit};
+ghost use Rattle.ce_cube.specs.Laws.{BoxesSay, CallsAdd, BoxesHear, BoxesCanHear, TurnsEnd, OthersKeep, BesideKeeps, EntriesCount, IdleAsks, StepsEndTurns, RoundsRest, LooksEnd, BlocksAreWhole, GrantsBegin, HostsFit, HostsSend, HostsTake, ArmsAllow, DrainsFit};
 ghost use Rattle.ce_cube.specs.Rehoming.{BlocksSort, StoresAreHome};
 ghost use Rattle.ce_cube.specs.Rounds.{AreMade};
 
@@ -34,9 +34,20 @@ pub fn others_keep_law()
     ensures law { OthersKeep }
 {}
 
+/// Behind entries of other users, calls of a cube and peeks of its host the cube is held still, and what made none of
+/// them is what it was.
+pub fn beside_keeps_law()
+    ensures law { BesideKeeps }
+{}
+
 /// An entry of a node is a Take exactly where its call asked for work, and takes a dispatch exactly where it gives work.
 pub fn entries_count_law()
     ensures law { EntriesCount }
+{}
+
+/// Right behind a Take that gives it no work a node asks for work again.
+pub fn idle_asks_law()
+    ensures law { IdleAsks }
 {}
 
 /// Where all boxes of a cube are in step with its nodes, no turn is open.
@@ -44,12 +55,12 @@ pub fn steps_end_turns_law()
     ensures law { StepsEndTurns }
 {}
 
-/// Turns and rounds are made entry by entry.
+/// Turns, rounds and shares of rounds are made entry by entry.
 pub fn rounds_are_made_law()
     ensures law { AreMade }
 {}
 
-/// Behind a round without work a cube is quiet, or its dispatches are used up.
+/// Behind a round without work, of either kind, a cube is quiet, or its dispatches are used up.
 pub fn rounds_rest_law()
     ensures law { RoundsRest }
 {}

@@ -8,6 +8,18 @@ use ce_model::{NoMemory, Subcube};
 use ce_set::node_of;
 use std::alloc::Global;
 
+/// The numbers of so many nodes, each of which is the box of its node. `NoMemory` may come at any time.
+pub fn node_numbers(alloc: Global, count: u32) -> Result<Vec<u32>, NoMemory>
+    ensures { IfOk result (λ boxes. AreBoxes ⟦<u32 as Homed>⟧.home ⟦<u32 as Homed>⟧.clean count
+        (λ node. node) boxes.items) }
+{
+    let mut boxes = Vec::new(alloc);
+    for node in 0..count {
+        boxes.push(node)?;
+    }
+    Ok(boxes)
+}
+
 // The boxes, each at its place.
 pub(crate) fn places_of<N: Homed>(alloc: Global, boxes: Vec<N>) -> Result<Vec<Option<N>>, NoMemory>
     ensures { IfOk result (λ places. places.items ≡ map Some boxes.items) }
@@ -34,7 +46,8 @@ pub(crate) fn take_out<N: Homed>(
     requires empty { out.old.items ≡ [] }
     ensures taken { AreBoxes N.home N.clean (2 ^ d) (node_of sub.now) out.new.items }
     ensures others { (node : ℕ) → is_inside sub.now node ≡ false
-        → HasBox N.home N.clean places.old.items node → HasBox N.home N.clean places.new.items node }
+        → HasBox N.home N.clean places.old.items node
+        → HasBox N.home N.clean places.new.items node }
     ensures all { length places.new.items ≡ length places.old.items }
 {
     for r in 0..1u32 << d {

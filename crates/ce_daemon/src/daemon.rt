@@ -8,7 +8,7 @@ ghost use Rattle.ce_daemon.specs.Holding.{held_by, is_free, next_grant, with_gra
 use crate::boxes::{places_of, put_home, take_out};
 use crate::grant::grant_in;
 use crate::nodes::{union, without};
-use crate::{Grant, Grants, Homed, Peeked};
+use crate::{Grant, Grants, Homed, PeekResult};
 use ce_model::{NoMemory, NodeSet};
 use ce_set::{first_free, nodes_of};
 use std::alloc::Global;
@@ -32,9 +32,14 @@ impl<N: Homed> Model for Daemon<N> {
 
     ghost Value = { Holding };
 
-    ghost view = { λ daemon. record { dim = daemon.dim; count = daemon.count; held = daemon.grants.items } };
+    ghost view = { λ daemon. record {
+      dim = daemon.dim;
+      count = daemon.count;
+      held = daemon.grants.items;
+    } };
 
-    ghost invariant = { λ daemon. IsSound N.home N.clean daemon.dim daemon.free daemon.grants.items daemon.places.items };
+    ghost invariant = { λ daemon. IsSound N.home N.clean daemon.dim daemon.free daemon.grants.items
+        daemon.places.items };
 }
 
 impl<N: Homed> Daemon<N> {
@@ -127,13 +132,13 @@ impl<N: Homed> Daemon<N> {
     }
 
     /// How many nodes are free, and the grants that are held. `NoMemory` may come at any time.
-    pub fn peek(&self, alloc: Global) -> Result<Peeked, NoMemory>
+    pub fn peek(&self, alloc: Global) -> Result<PeekResult, NoMemory>
         ensures free { IfOk result (λ shown. shown.free
             ≡ count_by (is_free self.now) (range_with_len 0 (2 ^ self.now.dim))) }
         ensures grants { IfOk result (λ shown. shown.grants ≡ self.now.held) }
     {
         let held = self.grants.as_slice().to_vec(alloc)?;
-        Ok(Peeked {
+        Ok(PeekResult {
             free: self.free.0.count_ones(),
             grants: Grants::from_vec(held),
         })

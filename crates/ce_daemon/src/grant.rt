@@ -49,7 +49,7 @@ impl Grants {
 
 /// What a look at the daemon shows.
 #[derive(Debug, Drop)]
-pub struct Peeked {
+pub struct PeekResult {
     /// How many nodes are free.
     pub free: u32,
     /// The grants that are held, in the order in which they were made.

@@ -13,3 +13,16 @@ pub trait Homed: Drop {
     fn home(&self) -> u32
         ensures { result ≡ home self.now };
 }
+
+/// The number of a node, where nothing else is handed out for it.
+impl Homed for u32 {
+    ghost use Rattle.std.specs.Prelude.{⊤};
+
+    ghost home = { λ node. node };
+
+    ghost clean = { λ _. ⊤ };
+
+    fn home(&self) -> u32 {
+        *self
+    }
+}

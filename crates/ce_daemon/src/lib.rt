@@ -7,8 +7,9 @@ mod grant;
 mod homed;
 mod nodes;
 
+pub use boxes::node_numbers;
 pub use daemon::Daemon;
-pub use grant::{Grant, Grants, Peeked};
+pub use grant::{Grant, Grants, PeekResult};
 pub use homed::Homed;
 
 #[cfg(test)]

@@ -1,57 +1,24 @@
-ghost use Rattle.std.specs.Prelude.{◌≡◌, ◌≤◌, ◌^◌, [], IfOk};
-ghost use Rattle.ce_model.specs.Limits.{greatest_dim};
-ghost use Rattle.ce_daemon.specs.Boxes.{AreBoxes};
+ghost use Rattle.std.specs.Prelude.{◌≡◌, [], IfOk};
 
-use crate::{Daemon, Homed};
+use crate::{Daemon, node_numbers};
 use ce_model::{NoMemory, NodeSet, Subcube};
-use std::alloc::{AllocError, Global};
+use std::alloc::Global;
 use std::test::Fail;
-
-// A box that knows its home and is always clean.
-#[derive(Debug, Drop)]
-struct Plain {
-    node: u32,
-}
-
-impl Homed for Plain {
-    ghost use Rattle.std.specs.Prelude.{⊤};
-
-    ghost home = { λ one. one.node };
-
-    ghost clean = { λ _. ⊤ };
-
-    fn home(&self) -> u32 {
-        self.node
-    }
-}
 
 // The daemon of a machine of four nodes.
 #[tactic(auto, using(ce_model::specs::Limits::greatest_dim_lem))]
-fn four_nodes(alloc: Global) -> Result<Daemon<Plain>, NoMemory>
+fn four_nodes(alloc: Global) -> Result<Daemon<u32>, NoMemory>
     ensures { IfOk result (λ daemon. daemon ≡ record { dim = 2; count = 0; held = [] }) }
 {
-    Daemon::new(alloc, 2, boxes(alloc, 2)?)
+    Daemon::new(alloc, 2, node_numbers(alloc, 4)?)
 }
 
 // The daemon of the greatest machine.
 #[tactic(auto, using(ce_model::specs::Limits::greatest_dim_lem))]
-fn most_nodes(alloc: Global) -> Result<Daemon<Plain>, NoMemory>
+fn most_nodes(alloc: Global) -> Result<Daemon<u32>, NoMemory>
     ensures { IfOk result (λ daemon. daemon ≡ record { dim = 6; count = 0; held = [] }) }
 {
-    Daemon::new(alloc, 6, boxes(alloc, 6)?)
-}
-
-// The boxes of a machine.
-fn boxes(alloc: Global, dim: u32) -> Result<Vec<Plain>, AllocError>
-    requires { dim ≤ greatest_dim }
-    ensures { IfOk result (λ made. AreBoxes ⟦<Plain as Homed>⟧.home ⟦<Plain as Homed>⟧.clean
-        (2 ^ dim) (λ node. node) made.items) }
-{
-    let mut all = Vec::new(alloc);
-    for node in 0..1u32 << dim {
-        all.push(Plain { node })?;
-    }
-    Ok(all)
+    Daemon::new(alloc, 6, node_numbers(alloc, 64)?)
 }
 
 #[test]
@@ -84,8 +51,7 @@ fn not_contiguous(rt: HostRuntime) -> Result<(), Fail> {
     let (d, of_d) = daemon.getcube(alloc, 3, 1)?.ok_or("no cube for d")?;
     assert_eq!(rt; d.sub, Subcube { mask: 2, base: 1 });
     assert_eq!(rt; d.number, 3);
-    let homes = of_d.iter().map(|one| one.node).collect::<Vec<u32>>(alloc)?;
-    assert_eq!(rt; homes.as_slice(), [1, 3].as_slice());
+    assert_eq!(rt; of_d.as_slice(), [1, 3].as_slice());
     assert_eq!(rt; daemon.peek(alloc)?.grants.as_slice(), [a, c, d].as_slice());
     assert_eq!(rt; daemon.grant_of(1), None);
     assert_eq!(rt; daemon.grant_of(3), Some(d));

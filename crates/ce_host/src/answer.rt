@@ -1,4 +1,4 @@
-use ce_daemon::Peeked;
+use ce_daemon::PeekResult;
 use ce_model::{Bytes, Place, Status, Subcube};
 
 /// What a command was answered.
@@ -13,7 +13,7 @@ pub enum Answer {
     /// The user holds this cube from now on.
     Granted(Subcube),
     /// How many nodes are free, and which cubes are held.
-    Peeked(Peeked),
+    Peeked(PeekResult),
     /// The cube was given back.
     Freed,
     /// It is done.

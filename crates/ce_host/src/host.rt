@@ -77,7 +77,10 @@ impl Host {
         ensures bytes { IfOk result (λ bytes. bytes ≡ parcel.block.bytes) }
         ensures stored { OnOk result (self.new ≡ record self.old {
           store
-              = record { blocks = with_block parcel.block self.old.store.blocks; spare = self.old.store.spare - 1 };
+              = record {
+                blocks = with_block parcel.block self.old.store.blocks;
+                spare = self.old.store.spare - 1;
+              };
         }) }
         ensures ids { OnOk result (ids_of self.new.store.blocks
             ≡ put parcel.block.id (ids_of self.old.store.blocks)) }

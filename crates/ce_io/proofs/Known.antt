@@ -5,7 +5,7 @@ use Rattle.std.specs.declared.alloc.Global.{Global}
 use Rattle.std.specs.Io.KnownBytes.{prepend_known, append_known}
 use Rattle.std.proofs.lemmas.Grind.{common_steps}
 use Rattle.std.proofs.Math.Seq.{take-add}
-use Rattle.ce_io.specs.Counts.{raised}
+use Rattle.ce_io.specs.Counts.{raised_count}
 use Rattle.ce_io.specs.ReadError.{IsMemory}
 use Rattle.ce_io.specs.Whole.{HasGiven, HasReadToEnd, reading}
 use Rattle.ce_io.specs.declared.whole.ReadError.{ReadError}
@@ -33,7 +33,7 @@ prepended xs ys (Some zs) = ap (λ l. Some l) (sym (append_assoc xs ys zs))
 module _ {S : Type 0} (left : S → Option (List ℕ)) (given faults : S → ℕ) (old mid new : S) (text into : List ℕ) (count limit : ℕ)
     (before : HasGiven (reading left given faults old mid) text) (few : length text ≤ limit)
     (within : count ≤ length into) (places : length into ≡ 4096)
-    (taken : left mid ≡ prepend_known (take count into) (left new)) (rose : given new ≡ raised (given mid) count) where
+    (taken : left mid ≡ prepend_known (take count into) (left new)) (rose : given new ≡ raised_count (given mid) count) where
   piece : length (take count into) ≡ count
   piece = grind (arith, common_steps)
 

@@ -2,5 +2,5 @@
 use Rattle.std.specs.Prelude.{ℕ, ◌+◌, ◌-◌, ◌^◌, min, max}
 
 -- a count that rose by n, or to the end of its type
-abbrev pub raised : ℕ → ℕ → ℕ
-raised count n = max count (min (count + n) (2 ^ 64 - 1))
+abbrev pub raised_count : ℕ → ℕ → ℕ
+raised_count count n = max count (min (count + n) (2 ^ 64 - 1))

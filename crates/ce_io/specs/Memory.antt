@@ -1,6 +1,6 @@
 -- What contracts see of a source and of a sink in memory, and what a call does to them.
 use Rattle.std.specs.Prelude.{ℕ, ◌-◌, min, List, ◌++◌, length, take, drop, Contains}
-use Rattle.ce_io.specs.Counts.{raised}
+use Rattle.ce_io.specs.Counts.{raised_count}
 
 -- the numbers of the calls that fail, the number of the next call, and how many bytes a call moves at most
 pub record Script : Type 0 where
@@ -14,7 +14,7 @@ IsFailingNext script = Contains script.fails script.calls
 
 -- the script after a call
 abbrev pub after_call : Script → Script
-after_call script = record script { calls = raised script.calls 1 }
+after_call script = record script { calls = raised_count script.calls 1 }
 
 -- a source in memory: its script, the bytes still to come, and its counts
 pub record SourceState : Type 0 where
@@ -29,11 +29,11 @@ read_len source places = min source.script.most (min places (length source.left)
 
 -- the source after a read of n bytes
 abbrev pub after_read : SourceState → ℕ → SourceState
-after_read source n = record source { script = after_call source.script; left = drop n source.left; given = raised source.given n }
+after_read source n = record source { script = after_call source.script; left = drop n source.left; given = raised_count source.given n }
 
 -- the source after a read that failed
 abbrev pub after_failed_read : SourceState → SourceState
-after_failed_read source = record source { script = after_call source.script; faults = raised source.faults 1 }
+after_failed_read source = record source { script = after_call source.script; faults = raised_count source.faults 1 }
 
 -- a sink in memory: its script, the bytes written, for how many there is room in all, and its count of faults
 pub record SinkState : Type 0 where
@@ -52,4 +52,4 @@ after_write sink piece n = record sink { script = after_call sink.script; writte
 
 -- the sink after a write that failed
 abbrev pub after_failed_write : SinkState → SinkState
-after_failed_write sink = record sink { script = after_call sink.script; faults = raised sink.faults 1 }
+after_failed_write sink = record sink { script = after_call sink.script; faults = raised_count sink.faults 1 }

@@ -2,11 +2,11 @@
 use Rattle.std.specs.Prelude.{◌≡◌, ◌↔◌, ℕ, List, [], take, Option, Result, Ok, Err, IfSome, MatchResult}
 use Rattle.std.specs.Io.KnownBytes.{prepend_known}
 use Rattle.ce_io.specs.declared.failed.Failed.{Failed}
-use Rattle.ce_io.specs.Counts.{raised}
+use Rattle.ce_io.specs.Counts.{raised_count}
 
 -- how many bytes were given after a read
 abbrev pub given_after : ℕ → Result ℕ Failed → ℕ
-given_after before (Ok n) = raised before n
+given_after before (Ok n) = raised_count before n
 given_after before (Err failed) = before
 
 -- Ok n: the first n bytes of into were the next ones, and are no longer left; n is 0 exactly where none was left.

@@ -2,7 +2,7 @@
 use Rattle.std.specs.Prelude.{◌≡◌, ◌↔◌, ℕ, ◌+◌, ◌<◌, ◌≤◌, List, Option, Result, Vec, IsErrOf, IfOk, length}
 use Rattle.std.specs.Io.KnownBytes.{prepend_known, IsAtEnd}
 use Rattle.std.specs.declared.alloc.Global.{Global}
-use Rattle.ce_io.specs.Counts.{raised}
+use Rattle.ce_io.specs.Counts.{raised_count}
 use Rattle.ce_io.specs.declared.whole.ReadError.{ReadError}
 use Rattle.ce_io.specs.declared.whole.ReadError.TheVariants.{TooLong}
 
@@ -32,7 +32,7 @@ writing written faults old new = record { written = written; faults = faults; ol
 -- count rose by their number, or to its end.
 pub record HasGiven {S : Type 0} (source : Reading S) (bytes : List ℕ) : Type 0 where
   pub left : source.left source.old ≡ prepend_known bytes (source.left source.new)
-  pub given : source.given source.new ≡ raised (source.given source.old) (length bytes)
+  pub given : source.given source.new ≡ raised_count (source.given source.old) (length bytes)
 
 -- how reading a source to its end went, in pieces of so many bytes, up to a limit
 pub record HasReadToEnd {S : Type 0} (source : Reading S) (limit piece : ℕ) (result : Result (Vec ℕ Global) ReadError) : Type 0 where

@@ -7,14 +7,14 @@ use Rattle.ce_model.specs.declared.topology.Place.{Place}
 use Rattle.ce_model.specs.declared.entry.Entry.{Entry}
 use Rattle.ce_model.specs.declared.entry.What.{What}
 use Rattle.ce_model.specs.declared.entry.What.TheVariants.{Arm, Look, HostTake, Spawn, Kill, Note, Take}
-use Rattle.ce_model.specs.declared.entry.Found.{Found}
-use Rattle.ce_model.specs.declared.entry.Given.{Given}
+use Rattle.ce_model.specs.declared.entry.LookResult.{LookResult}
+use Rattle.ce_model.specs.declared.entry.TakeResult.{TakeResult}
 use Rattle.ce_model.specs.declared.entry.KillFound.{KillFound}
 use Rattle.ce_model.specs.declared.entry.KillFound.TheVariants.{Killed, Unused, Already}
 use Rattle.ce_model.specs.Parcels.{Parcel, Item, start, mail, kill, is_eligible}
 use Rattle.ce_model.specs.Node.{Call, takes, spawns, kills, notes, arms, looks, takes_mail}
 use Rattle.ce_model.specs.Trace.{NodeRecord, taken_in, is_work, is_idle}
-use Rattle.ce_model.specs.Answers.{offered, is_among, kill_found, found_where, is_quiet_node, first_number}
+use Rattle.ce_model.specs.Answers.{offer_of, is_among, kill_found, found_where, is_quiet_node, first_number}
 use Rattle.ce_model.specs.Subcubes.{node_of, is_inside}
 use Rattle.ce_model.specs.Machine.{MachineParts, IsMachine, HeldCube, MachineState, held_by, nodes_of, without_taken, record_by, held_by_entry, after, IsCallOf, IsLawful}
 use Rattle.ce_solo.proofs.Sending.{place_parts}
@@ -78,7 +78,7 @@ module _ (parts : MachineParts) (machine : IsMachine parts) (h : List Entry) (la
 
   module _ (fits : IsCallOf parts h actor looks cube) where
     -- what a look finds
-    abbrev pub found : Found
+    abbrev pub found : LookResult
     found = found_where (list_all (λ node. is_quiet_node ((after h).node_record node)) (nodes_of cube.grant)) (cube.dispatched == cube.armed)
 
     pub looked : answer_to (after h) cube actor looks ≡ Look found
@@ -228,7 +228,7 @@ module _ (parts : MachineParts) (machine : IsMachine parts) (h : List Entry) (la
     no_host : (actor == HOST) ≡ false
     no_host = no_host_by call fits taker
 
-    module _ (given : Given) (e : offered (find (is_eligible asking dead) ((after h).node_record actor).waiting) poller (cube.dispatched == cube.armed) ≡ given) where
+    module _ (given : TakeResult) (e : offer_of (find (is_eligible asking dead) ((after h).node_record actor).waiting) poller (cube.dispatched == cube.armed) ≡ given) where
       pub took-as : answer_to (after h) cube actor (takes asking dead poller) ≡ Take asking dead poller given
       took-as = take-answer (after h) cube actor asking dead poller no_host ∙ ap (Take asking dead poller) e
 

@@ -9,11 +9,11 @@ use Rattle.ce_model.specs.declared.entry.What.TheVariants.{Arm, Look, HostTake, 
 use Rattle.ce_model.specs.Parcels.{is_eligible}
 use Rattle.ce_model.specs.Node.{Call, takes, sends, spawns, kills, notes, arms, looks, takes_mail}
 use Rattle.ce_model.specs.Trace.{NodeRecord}
-use Rattle.ce_model.specs.Answers.{answer, offered, is_among, kill_found, is_quiet_node, is_quiet, found_where, first_number}
+use Rattle.ce_model.specs.Answers.{answer, offer_of, is_among, kill_found, is_quiet_node, is_quiet, found_where, first_number}
 use Rattle.ce_model.specs.Cube.{node_numbers}
 use Rattle.ce_model.specs.Subcubes.{node_of}
 use Rattle.ce_model.specs.Renaming.{place_outward, targets_renamed}
-use Rattle.ce_model.specs.Machine.{MachineParts, MachineState, HeldCube, held_by, nodes_of, host_record, standing_of, with_places_outward, in_cube, answered}
+use Rattle.ce_model.specs.Machine.{MachineParts, MachineState, HeldCube, held_by, nodes_of, host_record, standing_of, with_places_outward, in_cube, what_of_request}
 use Rattle.ce_solo.proofs.Projection.Numbers.{IsPlaced, out_node, out_no_host}
 
 -- the place of the machine that a place of a cube's node is
@@ -26,7 +26,7 @@ module _ (state : MachineState) (cube : HeldCube) (actor : ℕ) where
   answer_to call = answer (nodes_of cube.grant) (standing_of state cube) actor (with_places_outward cube.grant call)
 
   -- it makes the entry of a user that holds the cube
-  pub call-answered : (parts : MachineParts) (user : ℕ) (call : Call) → held_by state user ≡ Some cube → answered parts state user actor (in_cube call) ≡ Some (answer_to call)
+  pub call-answered : (parts : MachineParts) (user : ℕ) (call : Call) → held_by state user ≡ Some cube → what_of_request parts state user actor (in_cube call) ≡ Some (answer_to call)
   call-answered parts user call holds = ap (option_map (λ cube. answer (nodes_of cube.grant) (standing_of state cube) actor (with_places_outward cube.grant call))) holds
 
   pub send-answer : (pid : ℕ) (to : List (Place × BlockId)) (bytes : List ℕ)
@@ -43,7 +43,7 @@ module _ (state : MachineState) (cube : HeldCube) (actor : ℕ) where
   arm-answer count = refl
 
   pub take-answer : (asking dead : ℕ) (poller : Option ℕ) → (actor == HOST) ≡ false → answer_to (takes asking dead poller)
-      ≡ Take asking dead poller (offered (find (is_eligible asking dead) (state.node_record actor).waiting) poller (cube.dispatched == cube.armed))
+      ≡ Take asking dead poller (offer_of (find (is_eligible asking dead) (state.node_record actor).waiting) poller (cube.dispatched == cube.armed))
   unfolding answer
   take-answer asking dead poller node = rw node refl
 

@@ -10,9 +10,9 @@ use Rattle.ce_model.specs.declared.topology.Subcube.{Subcube}
 use Rattle.ce_model.specs.declared.entry.Entry.{Entry}
 use Rattle.ce_model.specs.declared.entry.What.{What}
 use Rattle.ce_model.specs.declared.entry.What.TheVariants.{Arm, Look, HostTake, Send, Spawn, Kill, Note, Take}
-use Rattle.ce_model.specs.declared.entry.Found.{Found}
-use Rattle.ce_model.specs.declared.entry.Given.{Given}
-use Rattle.ce_model.specs.declared.entry.Given.TheVariants.{Mail}
+use Rattle.ce_model.specs.declared.entry.LookResult.{LookResult}
+use Rattle.ce_model.specs.declared.entry.TakeResult.{TakeResult}
+use Rattle.ce_model.specs.declared.entry.TakeResult.TheVariants.{Mail}
 use Rattle.ce_model.specs.declared.entry.KillFound.{KillFound}
 use Rattle.ce_model.specs.declared.entry.KillFound.TheVariants.{Killed, Unused, Already}
 use Rattle.ce_model.specs.Lists.{without_first}
@@ -134,7 +134,7 @@ module _ (sub : Subcube) (user actor node : ℕ) (kept : NodeRecord) where
   }
 
   -- what a node takes
-  pub take-own : (asking dead : ℕ) (poller : Option ℕ) (given : Given) → (actor == node) ≡ true → by (Take asking dead poller given)
+  pub take-own : (asking dead : ℕ) (poller : Option ℕ) (given : TakeResult) → (actor == node) ≡ true → by (Take asking dead poller given)
       ≡ record kept { waiting = without_taken (taken_in (Take asking dead poller given)) kept.waiting; mark = record { idle = is_idle given; asking = asking; dead = dead } }
   take-own asking dead poller given own = rw own (λ i. record {
     waiting = append-nil (without_taken (taken_in (Take asking dead poller given)) kept.waiting) i;
@@ -148,13 +148,13 @@ module _ (sub : Subcube) (user actor node : ℕ) (kept : NodeRecord) where
     quiet : record { waiting = kept.waiting ++ []; spawned = kept.spawned ++ []; killed = kept.killed ++ []; mark = kept.mark } ≡ kept
     quiet = λ i. record { waiting = append-nil kept.waiting i; spawned = append-nil kept.spawned i; killed = append-nil kept.killed i; mark = kept.mark }
 
-    pub take-other : (asking dead : ℕ) (poller : Option ℕ) (given : Given) → by (Take asking dead poller given) ≡ kept
+    pub take-other : (asking dead : ℕ) (poller : Option ℕ) (given : TakeResult) → by (Take asking dead poller given) ≡ kept
     take-other asking dead poller given = rw other quiet
 
     pub arm-record : (count : ℕ) → by (Arm count) ≡ kept
     arm-record count = rw other quiet
 
-    pub look-record : (found : Found) → by (Look found) ≡ kept
+    pub look-record : (found : LookResult) → by (Look found) ≡ kept
     look-record found = rw other quiet
 
     pub take_mail-record : (number : Option ℕ) → by (HostTake number) ≡ kept
@@ -176,7 +176,7 @@ module _ (user actor : ℕ) (cube : HeldCube) where
   pub arm-cube : (count : ℕ) → cube_by (Arm count) ≡ record cube { armed = count; dispatched = 0 }
   arm-cube count = λ i. let was = note-cube 0 0 i in record was { armed = count; dispatched = 0 }
 
-  pub look-cube : (found : Found) → cube_by (Look found) ≡ cube
+  pub look-cube : (found : LookResult) → cube_by (Look found) ≡ cube
   look-cube found = note-cube 0 0
 
   pub spawn-cube : (pid image : ℕ) (to : Place) (fresh : Bool) → (to.node == HOST) ≡ false → cube_by (Spawn pid image to fresh) ≡ cube
@@ -188,7 +188,7 @@ module _ (user actor : ℕ) (cube : HeldCube) where
   kill-cube pid to Unused node = note-cube 0 0
   kill-cube pid to Already node = note-cube 0 0
 
-  pub take-cube : (asking dead : ℕ) (poller : Option ℕ) (given : Given) → (actor == HOST) ≡ false
+  pub take-cube : (asking dead : ℕ) (poller : Option ℕ) (given : TakeResult) → (actor == HOST) ≡ false
       → cube_by (Take asking dead poller given) ≡ record cube { dispatched = if is_work given then cube.dispatched + 1 else cube.dispatched }
   take-cube asking dead poller given node =
       rw node (λ i. record cube { dispatched = if is_work given then cube.dispatched + 1 else cube.dispatched; parcel_count = none i; mail = append-nil cube.mail i })

@@ -1,5 +1,5 @@
 -- What is known of a call of a cube that fits: who makes it, how many places it names, and that they are the cube's.
-use Rattle.std.proofs.Common.{◌≡◌, ◌⊎◌, ℕ, ◌<◌, ◌≤◌, true, false, ◌==◌, List, [], ◌∷◌, length, Option, Some, None, IsSomeAnd, refl, ap, ◌∙◌, subst, inl, inr, arith}
+use Rattle.std.proofs.Common.{◌≡◌, ◌⊎◌, ℕ, ◌<◌, ◌≤◌, true, false, ◌==◌, List, [], ◌∷◌, length, Some, ap, ◌∙◌, subst, inl, inr, arith}
 use Rattle.std.specs.List.{AllByRecursion}
 use Rattle.std.proofs.lemmas.Bool.{eqb-true}
 use Rattle.std.proofs.lemmas.List.{length-map}
@@ -16,12 +16,12 @@ use Rattle.ce_model.specs.Sound.{IsSound}
 use Rattle.ce_model.specs.Subcubes.{relative, is_inside}
 use Rattle.ce_model.specs.Renaming.{targets_renamed, call_with, block_outward}
 use Rattle.ce_model.specs.Views.{trace_behind}
-use Rattle.ce_model.specs.Machine.{MachineParts, IsMachine, HeldCube, held_by, cube_of, after, HasHeldCube, IsCallOf, IsLawful}
+use Rattle.ce_model.specs.Machine.{MachineParts, IsMachine, HeldCube, held_by, cube_of, after, IsCallOf, IsLawful}
 use Rattle.ce_solo.proofs.Lists.{all-weaker}
 use Rattle.ce_solo.proofs.Words as words
 use Rattle.ce_solo.proofs.Sending.{not_host, place_parts}
 use Rattle.ce_solo.proofs.NodeSends.{target_of}
-use Rattle.ce_solo.proofs.Made.{Made, by_host, by_node, made, made-leaves}
+use Rattle.ce_solo.proofs.Made.{IsMadeCall, by_host, by_node, made, made-leaves}
 use Rattle.ce_solo.proofs.Projection.Numbers.{IsPlaced, IsNumber, relative_inside, relative_host, inside_below}
 use Rattle.ce_solo.proofs.Projection.Views.{view-is}
 use Rattle.ce_solo.proofs.Projection.Invariant.{IsHeld, IsProjected}
@@ -103,19 +103,6 @@ module _ (rename : BlockId → BlockId) where
 
 -- ---- a cube that is held
 
--- a user holds a cube, of which this holds
-pub record HasCube (h : List Entry) (user : ℕ) (P : HeldCube → Type 0) : Type 0 where
-  pub cube : HeldCube
-  pub holds : held_by (after h) user ≡ Some cube
-  pub is : P cube
-
-pub has-cube : (h : List Entry) (user : ℕ) (P : HeldCube → Type 0) → HasHeldCube h user P → HasCube h user P
-has-cube h user P some = by_held (held_by (after h) user) refl some
-  where
-    by_held : (held : Option HeldCube) → held_by (after h) user ≡ held → IsSomeAnd held P → HasCube h user P
-    by_held None is some = absurd some
-    by_held (Some cube) is some = record { cube = cube; holds = is; is = some }
-
 module _ (parts : MachineParts) (machine : IsMachine parts) (h : List Entry) (lawful : IsLawful parts h) where
   abbrev before : IsProjected parts (after h) h
   before = projected parts h machine lawful
@@ -145,7 +132,7 @@ module _ (parts : MachineParts) (machine : IsMachine parts) (h : List Entry) (la
     -- ---- a call of it that fits
 
     module _ (actor : ℕ) (call : Call) (fits : IsCallOf parts h actor call cube) where
-      is_made : Made own left_now (relative cube.grant.sub actor) (asked_by fits.made) fits.made
+      is_made : IsMadeCall own left_now (relative cube.grant.sub actor) (asked_by fits.made) fits.made
       is_made =
           made own left_now (relative cube.grant.sub actor) (asked_by fits.made) fits.made
           (subst (λ t. call_by own (opening own) t (relative cube.grant.sub actor) (asked_by fits.made) ≡ Some fits.made)
@@ -155,7 +142,7 @@ module _ (parts : MachineParts) (machine : IsMachine parts) (h : List Entry) (la
       pub call-places : HasPlacesOf cube.grant.dim call
       call-places = subst (HasPlacesOf cube.grant.dim) fits.renamed (has-places (block_outward cube.grant) cube.grant.dim fits.made (by_made is_made))
         where
-          by_made : Made own left_now (relative cube.grant.sub actor) (asked_by fits.made) fits.made → HasPlacesOf cube.grant.dim fits.made
+          by_made : IsMadeCall own left_now (relative cube.grant.sub actor) (asked_by fits.made) fits.made → HasPlacesOf cube.grant.dim fits.made
           by_made (by_host is e) = host-places cube.grant.dim fits.made (asked-host_call own left_now.hoststore (asked_by fits.made) fits.made e)
           by_made (by_node below e) =
               let r = relative cube.grant.sub actor in
@@ -166,7 +153,7 @@ module _ (parts : MachineParts) (machine : IsMachine parts) (h : List Entry) (la
       pub host-call : (actor == HOST) ≡ true → IsHostCall cube.grant.dim call
       host-call host = subst (IsHostCall cube.grant.dim) fits.renamed (host-renamed (block_outward cube.grant) cube.grant.dim fits.made (by_made is_made))
         where
-          by_made : Made own left_now (relative cube.grant.sub actor) (asked_by fits.made) fits.made → IsHostCall cube.grant.dim fits.made
+          by_made : IsMadeCall own left_now (relative cube.grant.sub actor) (asked_by fits.made) fits.made → IsHostCall cube.grant.dim fits.made
           by_made (by_host is e) = asked-host_call own left_now.hoststore (asked_by fits.made) fits.made e
           by_made (by_node below e) =
               let is : relative cube.grant.sub actor ≡ HOST = ap (relative cube.grant.sub) (eqb-true actor HOST host) ∙ relative_host parts.dim cube.grant was.placed in
@@ -176,7 +163,7 @@ module _ (parts : MachineParts) (machine : IsMachine parts) (h : List Entry) (la
       pub node-call : is_inside cube.grant.sub actor ≡ true → IsNodeCall call
       node-call inside = subst IsNodeCall fits.renamed (node-renamed (block_outward cube.grant) fits.made (by_made is_made))
         where
-          by_made : Made own left_now (relative cube.grant.sub actor) (asked_by fits.made) fits.made → IsNodeCall fits.made
+          by_made : IsMadeCall own left_now (relative cube.grant.sub actor) (asked_by fits.made) fits.made → IsNodeCall fits.made
           by_made (by_host is e) =
               absurd (omega (
                 arith,

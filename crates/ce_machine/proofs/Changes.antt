@@ -8,7 +8,7 @@ use Rattle.ce_model.specs.Node.{Call}
 use Rattle.ce_model.specs.Answers.{answer, call_of}
 use Rattle.ce_model.specs.Subcubes.{first_free}
 use Rattle.ce_model.specs.Renaming.{CubeGrant}
-use Rattle.ce_model.specs.Machine.{MachineParts, HeldCube, MachineState, held_by, is_free, nodes_of, standing_of, record_by, held_by_entry, with_cube, with_grant, with_drained, without_cube, changed_by, changed_by_call, after, Request, getcube, peek, drain, freecube, in_cube, with_places_outward, answered, IsCallOf, IsFittingIn, IsLawfulEntry}
+use Rattle.ce_model.specs.Machine.{MachineParts, HeldCube, MachineState, held_by, is_free, nodes_of, standing_of, record_by, held_by_entry, with_cube, with_grant, with_drained, without_cube, changed_by, changed_by_call, after, Request, getcube, peek, drain, freecube, in_cube, with_places_outward, what_of_request, IsCallOf, IsFittingIn, IsLawfulEntry}
 use Rattle.ce_model.proofs.AloneByEntries.{call_of-answer}
 use Rattle.ce_solo.proofs.Projection.Kinds.{entry_of}
 use Rattle.ce_solo.proofs.Projection.Law.{after-more}
@@ -71,7 +71,7 @@ module _ (parts : MachineParts) (h : List Entry) (entry : Entry) where
       let called : call_of entry.what ≡ Some made = ap call_of (sym what) ∙ call_of-answer (nodes_of cube.grant) (standing_of (after h) cube) entry.actor made in
       calls call cube is fits what (after-more h entry ∙ ap (λ call. changed_by_call call entry (after h)) called)
 
-  by_request : (request : Request) → IsFittingIn parts h entry.user entry.actor request → answered parts (after h) entry.user entry.actor request ≡ Some entry.what
+  by_request : (request : Request) → IsFittingIn parts h entry.user entry.actor request → what_of_request parts (after h) entry.user entry.actor request ≡ Some entry.what
       → Change parts h entry
   by_request (getcube dim) fits e = by_found dim (first_free (is_free (after h)) parts.dim dim) refl fits.2 e
   by_request peek fits e = nothing (by_what Peek e)

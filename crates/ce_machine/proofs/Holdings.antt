@@ -12,14 +12,14 @@ use Rattle.ce_model.proofs.Subcubes.{node_of-within, ones_of-bound}
 use Rattle.ce_solo.proofs.Projection.Numbers.{IsPlaced}
 use Rattle.ce_daemon.specs.declared.grant.Grant.{Grant}
 use Rattle.ce_daemon.specs.Holding as daemon
-use Rattle.ce_daemon.specs.Peeks.{numbered}
+use Rattle.ce_daemon.specs.Peeks.{numbered_grant}
 use Rattle.ce_machine.specs.Replies.{next_grant}
 use Rattle.ce_machine.proofs.Changes.{grant_to}
 use Rattle.ce_machine.proofs.Effects.{grant_of}
 
 -- the grants that are held, by number
 abbrev pub grants_in : MachineState → List Grant
-grants_in state = map numbered (held_grants state)
+grants_in state = map numbered_grant (held_grants state)
 
 -- what the daemon of a machine of this dimension holds
 abbrev pub holding_of : ℕ → MachineState → daemon.Holding
@@ -27,13 +27,13 @@ holding_of dim state = record { dim = dim; count = state.grant_count; held = gra
 
 -- the grant of a cube
 abbrev pub grant_held : HeldCube → Grant
-grant_held cube = numbered (grant_of cube)
+grant_held cube = numbered_grant (grant_of cube)
 
 -- the daemon has the grant of the cube that a user holds
 pub held-same : (dim : ℕ) (state : MachineState) (user : ℕ) → daemon.held_by (holding_of dim state) user ≡ option_map grant_held (held_by state user)
 held-same dim state user = by_cubes state.held
   where
-    by_cubes : (cubes : List HeldCube) → find (daemon.is_user user) (map numbered (map grant_of cubes)) ≡ option_map grant_held (find (is_held_by user) cubes)
+    by_cubes : (cubes : List HeldCube) → find (daemon.is_user user) (map numbered_grant (map grant_of cubes)) ≡ option_map grant_held (find (is_held_by user) cubes)
     by_cubes [] = refl
     by_cubes (cube ∷ cubes) = elim (cases_Bool (is_held_by user cube)) [ inl t ↦ rw t refl | inr f ↦ rw f (by_cubes cubes) ]
 
@@ -41,7 +41,7 @@ held-same dim state user = by_cubes state.held
 pub free-same : (dim : ℕ) (state : MachineState) → daemon.is_free (holding_of dim state) ≡ is_free state
 free-same dim state = λ i node. not (by_cubes node state.held i)
   where
-    by_cubes : (node : ℕ) (cubes : List HeldCube) → list_any (daemon.is_granted node) (map numbered (map grant_of cubes)) ≡ list_any (λ (cube : HeldCube). is_inside cube.grant.sub node) cubes
+    by_cubes : (node : ℕ) (cubes : List HeldCube) → list_any (daemon.is_granted node) (map numbered_grant (map grant_of cubes)) ≡ list_any (λ (cube : HeldCube). is_inside cube.grant.sub node) cubes
     by_cubes node [] = refl
     by_cubes node (cube ∷ cubes) = ap (λ b. is_inside cube.grant.sub node || b) (by_cubes node cubes)
 
@@ -51,13 +51,13 @@ pub grant-holding : (dim : ℕ) (state : MachineState) (user d : ℕ) (sub : Sub
 grant-holding dim state user d sub = λ i. record { dim = dim; count = state.grant_count + 1; held = grants i }
   where
     grants : grants_in (with_grant (grant_to user d sub) state) ≡ grants_in state ++ next_grant state user d sub ∷ []
-    grants = ap (map numbered) (map-append grant_of state.held _) ∙ map-append numbered (held_grants state) _
+    grants = ap (map numbered_grant) (map-append grant_of state.held _) ∙ map-append numbered_grant (held_grants state) _
 
 pub free-holding : (dim : ℕ) (state : MachineState) (user : ℕ) → holding_of dim (without_cube user state) ≡ daemon.without_user user (holding_of dim state)
 free-holding dim state user = λ i. record { dim = dim; count = state.grant_count; held = by_cubes state.held i }
   where
-    by_cubes : (cubes : List HeldCube) → map numbered (map grant_of (filter (λ cube. not (is_held_by user cube)) cubes))
-        ≡ filter (λ grant. not (daemon.is_user user grant)) (map numbered (map grant_of cubes))
+    by_cubes : (cubes : List HeldCube) → map numbered_grant (map grant_of (filter (λ cube. not (is_held_by user cube)) cubes))
+        ≡ filter (λ grant. not (daemon.is_user user grant)) (map numbered_grant (map grant_of cubes))
     by_cubes [] = refl
     by_cubes (cube ∷ cubes) =
         elim (cases_Bool (is_held_by user cube)) [
@@ -67,7 +67,7 @@ free-holding dim state user = λ i. record { dim = dim; count = state.grant_coun
 
 -- where the grants stay and their count does, the holding stays
 pub same-holding : (dim : ℕ) (state state' : MachineState) → state'.grant_count ≡ state.grant_count → held_grants state' ≡ held_grants state → holding_of dim state' ≡ holding_of dim state
-same-holding dim state state' count grants = λ i. record { dim = dim; count = count i; held = map numbered (grants i) }
+same-holding dim state state' count grants = λ i. record { dim = dim; count = count i; held = map numbered_grant (grants i) }
 
 -- ---- a grant of a machine of this dimension
 

@@ -1,5 +1,5 @@
 -- A message that is posted place by place.
-use Rattle.std.proofs.Common.{◌≡◌, ◌⊎◌, ℕ, ◌+◌, ◌^◌, ◌<◌, Bool, true, false, inl, inr, ◌==◌, if◌then◌else◌, List, [], ◌∷◌, ◌++◌, length, refl, ap, sym, ◌∙◌, arith, append_assoc, append-nil}
+use Rattle.std.proofs.Common.{◌≡◌, ◌⊎◌, ℕ, ◌+◌, ◌^◌, ◌<◌, Bool, true, false, inl, inr, ◌==◌, if◌then◌else◌, List, [], ◌∷◌, ◌++◌, length, refl, ap, sym, ◌∙◌, arith, append_assoc}
 use Rattle.std.proofs.lemmas.Bool.{cases_Bool, both_ways, eq-eqb, ne_eqb}
 use Rattle.std.proofs.lemmas.List.{length-append}
 use Rattle.ce_model.specs.declared.topology.TheConstants.{HOST}
@@ -28,27 +28,15 @@ pub posted-none : (sub : Subcube) (from : Place) (number : ℕ) (targets : List 
     → IsPosted sub from number targets desks host number targets desks host
 posted-none sub from number targets desks host = record { count = refl; each = λ node below. refl; mail = refl }
 
-module _ (sub : Subcube) (from : Place) (number : ℕ) (targets : List (Place × Block)) (desks : List NodeRecord) (host : HostRecord) where
-  -- nothing is left
-  pub posted-all : (number' : ℕ) (desks' : List NodeRecord) (host' : HostRecord) → IsPosted sub from number targets desks host number' [] desks' host'
-      → AreChanged desks desks' (λ node. with_items (letters sub from number targets node))
-  posted-all number' desks' host' posted = record {
-    count = posted.count;
-    each = λ node below. (λ i. record (desk_at desks' node) { waiting = sym (append-nil (desk_at desks' node).waiting) i }) ∙ posted.each node below;
-  }
-
-  pub posted-host : (number' : ℕ) (desks' : List NodeRecord) (host' : HostRecord) → IsPosted sub from number targets desks host number' [] desks' host'
-      → host' ≡ record host { mail = host.mail ++ letters sub from number targets HOST }
-  posted-host number' desks' host' posted = (λ i. record host' { mail = sym (append-nil host'.mail) i }) ∙ posted.mail
-
+module _ {sub : Subcube} {from : Place} {number : ℕ} {targets : List (Place × Block)} {desks : List NodeRecord} {host : HostRecord} where
   -- one place more
-  pub posted-more : (number' : ℕ) (target : Place × Block) (rest : List (Place × Block)) (now then_is : List NodeRecord) (host' host'' : HostRecord)
+  pub posted-more : {number' : ℕ} {target : Place × Block} {rest : List (Place × Block)} {now then_is : List NodeRecord} {host' host'' : HostRecord}
       → IsPosted sub from number targets desks host number' (target ∷ rest) now host'
       → AreChanged now then_is (at_node (number_outward sub target.0.node) (with_items (letter from number' target ∷ [])))
       → host'' ≡ record host' { mail = host'.mail ++ (if target.0.node == HOST then letter from number' target ∷ [] else []) }
       → (number_outward sub target.0.node == HOST) ≡ (target.0.node == HOST)
       → IsPosted sub from number targets desks host (number' + 1) rest then_is host''
-  posted-more number' target rest now then_is host' host'' posted changed host_is apart = record {
+  posted-more {number'} {target} {rest} {now} {then_is} {host'} {host''} posted changed host_is apart = record {
     count = changed.count ∙ posted.count;
     each = λ node below.
         ap (λ (kept : NodeRecord). with_items (letters sub from (number' + 1) rest node) kept) (changed.each node (omega (arith, posted.count)))
@@ -74,8 +62,8 @@ module _ (sub : Subcube) (from : Place) (number : ℕ) (targets : List (Place ×
           ∙ ap (λ (b : Bool). host'.mail ++ ((if b then letter from number' target ∷ [] else []) ++ letters sub from (number' + 1) rest HOST)) (sym apart)
 
 -- the host's number is the only one that becomes it
-pub out-apart : (count dim : ℕ) (sub : Subcube) (to : Place) → IsOnDesks count dim sub → IsInCube dim to → (number_outward sub to.node == HOST) ≡ (to.node == HOST)
-out-apart count dim sub to on is =
+pub out-apart : {count dim : ℕ} {sub : Subcube} (to : Place) → IsOnDesks count dim sub → IsInCube dim to → (number_outward sub to.node == HOST) ≡ (to.node == HOST)
+out-apart {count} {dim} {sub} to on is =
     elim (cases_Bool (to.node == HOST)) [
       | inl t ↦ ap (λ (b : Bool). (if b then HOST else node_of sub to.node) == HOST) t ∙ eq-eqb HOST HOST refl ∙ sym t
       | inr f ↦
@@ -87,13 +75,13 @@ out-apart count dim sub to on is =
     at_node_of (inl below) f = below
     at_node_of (inr host) f = absurd (both_ways _ f (eq-eqb to.node HOST host))
 
-pub out-own : (count dim : ℕ) (sub : Subcube) (n : ℕ) → IsOnDesks count dim sub → n < 2 ^ dim → (number_outward sub n == node_of sub n) ≡ true
-out-own count dim sub n on below =
+pub out-own : {count dim : ℕ} {sub : Subcube} (n : ℕ) → IsOnDesks count dim sub → n < 2 ^ dim → (number_outward sub n == node_of sub n) ≡ true
+out-own {count} {dim} {sub} n on below =
     let no : (n == HOST) ≡ false = ne_eqb n HOST (λ e. omega (arith, below, few_nodes dim on.small, e)) in
     rw no (eq-eqb (node_of sub n) (node_of sub n) refl)
 
-module _ (sub : Subcube) (from : Place) (number : ℕ) (targets : List (Place × Block)) (desks : List NodeRecord) (host : HostRecord) (room : HasMailRoom sub from number targets desks host)
-    (number' : ℕ) (target : Place × Block) (rest : List (Place × Block)) (desks' : List NodeRecord) (host' : HostRecord)
+module _ {sub : Subcube} {from : Place} {number : ℕ} {targets : List (Place × Block)} {desks : List NodeRecord} {host : HostRecord} (room : HasMailRoom sub from number targets desks host)
+    {number' : ℕ} {target : Place × Block} {rest : List (Place × Block)} {desks' : List NodeRecord} {host' : HostRecord}
     (posted : IsPosted sub from number targets desks host number' (target ∷ rest) desks' host') where
   -- there is room for the next
   pub node-left : (node : ℕ) → node < length desks → (number_outward sub target.0.node == node) ≡ true → length (desk_at desks' node).waiting < node_room

@@ -15,7 +15,6 @@ pub mod Letters
 pub mod Loops
 pub mod Gives
 pub mod Opening
-pub mod Asking
 pub mod Steps
 pub mod HeadSteps
 pub mod SaySteps

@@ -24,12 +24,9 @@ rest-more sub r end below = let e : end - r ≡ suc (end - (r + 1)) = omega arit
 pub rest-none : (sub : Subcube) (r end : ℕ) → end ≤ r → rest_from sub r end ≡ []
 rest-none sub r end above = let e : end - r ≡ 0 = omega arith in rw e refl
 
-pub rest-all : (sub : Subcube) (end : ℕ) → rest_from sub 0 end ≡ map (node_of sub) (range_with_len 0 end)
-rest-all sub end = let e : end - 0 ≡ end = omega arith in rw e refl
-
 -- all of them, with their number as the code has it
 pub rest-whole : (sub : Subcube) (end count : ℕ) → end ≡ count → rest_from sub 0 end ≡ map (node_of sub) (range_with_len 0 count)
-rest-whole sub end count is = rest-all sub end ∙ ap (λ n. map (node_of sub) (range_with_len 0 n)) is
+rest-whole sub end count is = let e : end - 0 ≡ count = omega (arith, is) in rw e refl
 
 -- the desk that code reads at a number, which it has computed
 pub read-at : (desks : List NodeRecord) (n at : ℕ) (desk : NodeRecord) → n < length desks → at ≡ n → desk ≡ get_or desks at desk → desk ≡ desk_at desks n

@@ -11,9 +11,9 @@ use Rattle.ce_model.specs.declared.topology.BlockId.{BlockId}
 use Rattle.ce_model.specs.Limits.{block_room, greatest_targets, greatest_targets_lem, turn_calls}
 use Rattle.ce_model.specs.Blocks.{Block}
 use Rattle.ce_model.specs.Space.{Space, has_unused_window, block_named, result_map, and_then, places_at, place_at}
-use Rattle.ce_model.specs.Process.{Process, argument, call_number, moved}
+use Rattle.ce_model.specs.Process.{Process, argument, call_number, moved_process}
 use Rattle.ce_model.specs.Node.{Turn, Node, process_at, is_place, Call, takes, sends, spawns, kills, notes, arms, looks, takes_mail}
-use Rattle.ce_model.specs.Kernel.{Did, goes_on, leaves, turn_ends, returns, says_call, reading, gives_up, with_store, maps_least, xmalloc, frees, xfree, xlength, is_target, place_named, sends_block, xsend, sends_copies, xmsend_block, xmsend, spawn, ckill, KernelCall, kernel_calls, counted_does, kernel_does, kernel}
+use Rattle.ce_model.specs.Kernel.{CallOutcome, goes_on, leaves, turn_ends, returns, says_call, read_or_stop, gives_up, with_store, maps_least, xmalloc, frees, xfree, xlength, is_target, place_named, sends_block, xsend, sends_copies, xmsend_block, xmsend, spawn, ckill, KernelCall, kernel_calls, counted_does, kernel_does, kernel}
 use Rattle.ce_model.specs.Saying.{Saying, after_call, after_instruction, instruction, runs, says_in, says}
 use Rattle.ce_model.specs.Cube.{Cube, HostCall, send_bytes, start_image, end_process, allow, look_round, take_message, host_call}
 
@@ -27,13 +27,13 @@ IsNodeCall looks = ⊥
 IsNodeCall takes_mail = ⊥
 IsNodeCall other = Unit {0}
 
-abbrev IsGood : Did → Type 0
+abbrev IsGood : CallOutcome → Type 0
 IsGood (goes_on node turn) = Unit {0}
 IsGood (leaves node call) = IsNodeCall call
 IsGood (turn_ends node) = Unit {0}
 
-reading-good : {X : Type 0} (node : Node) (turn : Turn) (p : Process) (read : Result X Stop) (P : X → Type 0) (onward : X → Did) → IfOk read P
-    → ((x : X) → P x → IsGood (onward x)) → IsGood (reading node turn p read onward)
+reading-good : {X : Type 0} (node : Node) (turn : Turn) (p : Process) (read : Result X Stop) (P : X → Type 0) (onward : X → CallOutcome) → IfOk read P
+    → ((x : X) → P x → IsGood (onward x)) → IsGood (read_or_stop node turn p read onward)
 reading-good node turn p (Ok x) P onward is good = good x is
 reading-good node turn p (Err cause) P onward is good = tt
 
@@ -155,7 +155,7 @@ kernel-good node turn p =
     cond_both (call_number p == 0) None (slice_get kernel_calls (call_number p - 1)) (λ found. IsGood (kernel_does found node turn p))
     (λ t. tt) (λ f. found-good kernel_calls (call_number p - 1) calls-good node turn p)
 
-did-good : (onward : Node → Turn → Saying) (did : Did) → ((node : Node) (turn : Turn) → IsNodeCall (onward node turn).call) → IsGood did
+did-good : (onward : Node → Turn → Saying) (did : CallOutcome) → ((node : Node) (turn : Turn) → IsNodeCall (onward node turn).call) → IsGood did
     → IsNodeCall (after_call onward did).call
 did-good onward (goes_on node turn) good is = good node turn
 did-good onward (leaves node call) good is = is
@@ -166,7 +166,7 @@ instruction-good : (onward : Node → Turn → Saying) (left : ℕ) (node : Node
 instruction-good onward left node turn p (went regs pc space) good = good _ turn
 instruction-good onward left node turn p (called regs pc space) good =
     let turn' = record turn { left = left } in
-    did-good onward (kernel node turn' (moved p regs pc space)) good (kernel-good node turn' (moved p regs pc space))
+    did-good onward (kernel node turn' (moved_process p regs pc space)) good (kernel-good node turn' (moved_process p regs pc space))
 instruction-good onward left node turn p (stopped cause) good = tt
 
 runs-good : (left : ℕ) (node : Node) (turn : Turn) → IsNodeCall (runs left node turn).call

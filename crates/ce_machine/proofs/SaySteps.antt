@@ -7,7 +7,7 @@ use Rattle.ce_model.specs.declared.topology.Place.{Place}
 use Rattle.ce_model.specs.declared.entry.Entry.{Entry}
 use Rattle.ce_model.specs.declared.entry.What.{What}
 use Rattle.ce_model.specs.declared.entry.What.TheVariants as entry
-use Rattle.ce_model.specs.declared.entry.Given.{Given}
+use Rattle.ce_model.specs.declared.entry.TakeResult.{TakeResult}
 use Rattle.ce_model.specs.declared.entry.KillFound.{KillFound}
 use Rattle.ce_model.specs.declared.entry.KillFound.TheVariants.{Killed, Unused, Already}
 use Rattle.ce_model.specs.Limits.{process_count}
@@ -17,31 +17,30 @@ use Rattle.ce_model.specs.Parcels.{is_eligible, is_named_by, given_as}
 use Rattle.ce_model.specs.Cube.{parcel_numbered}
 use Rattle.ce_model.specs.Node.{Call as NodeCall, takes, spawns, kills, notes}
 use Rattle.ce_model.specs.Trace.{Mark, NodeRecord, blank_record, taken_in, is_work, is_idle}
-use Rattle.ce_model.specs.Answers.{call_of, offered, is_among, kill_found}
+use Rattle.ce_model.specs.Answers.{call_of, offer_of, is_among, kill_found}
 use Rattle.ce_model.specs.Subcubes.{node_of, is_inside}
 use Rattle.ce_model.specs.Renaming.{place_outward}
-use Rattle.ce_model.specs.Machine.{MachineParts, MachineState, HeldCube, host_record, held_by, after, answered, without_taken, IsCallOf}
+use Rattle.ce_model.specs.Machine.{MachineState, HeldCube, host_record, held_by, after, what_of_request, without_taken, IsCallOf}
 use Rattle.ce_solo.proofs.Sending.{place_parts}
 use Rattle.ce_solo.proofs.Projection.Numbers.{inside_no_host, out_node}
 use Rattle.ce_solo.proofs.Projection.Kinds.{entry_of}
 use Rattle.ce_lock.specs.declared.who.Who.{Who}
 use Rattle.ce_daemon.specs.declared.grant.Grant.{Grant}
-use Rattle.ce_daemon.specs.Holding.{Holding}
 use Rattle.ce_daemon.specs.Holding as daemon
 use Rattle.rk_mail.specs.declared.parcel.Parcel.{Parcel}
 use Rattle.rk_mail.specs.Items.{parcel_of}
-use Rattle.rk_mail.specs.declared.talk.Heard.{Heard}
+use Rattle.rk_mail.specs.declared.talk.Hearing.{Hearing}
 use Rattle.rk_mail.specs.declared.talk.Say.TheVariants as say
-use Rattle.rk_mail.specs.declared.talk.Heard.TheVariants as heard
+use Rattle.rk_mail.specs.declared.talk.Hearing.TheVariants as heard
 use Rattle.rk_mail.specs.Talk.{is_of_take, IsGiven, heard_of_kill}
 use Rattle.ce_machine.specs.declared.call.Call.{Call}
 use Rattle.ce_machine.specs.declared.call.Call.TheVariants as call
 use Rattle.ce_machine.specs.declared.call.Reply.{Reply}
 use Rattle.ce_machine.specs.declared.call.Reply.TheVariants as reply
-use Rattle.ce_machine.specs.Rooms.{greatest_history, node_room, node_room_lem}
+use Rattle.ce_machine.specs.Rooms.{node_room, node_room_lem}
 use Rattle.ce_machine.specs.Requests.{request_of, IsFittingCall}
 use Rattle.ce_machine.specs.Replies.{IsReplyTo, IsHeard, items_for}
-use Rattle.ce_machine.specs.Tables.{HostRecord, host_of, desk_at, host_at, IsSoundMachine}
+use Rattle.ce_machine.specs.Tables.{HostRecord, host_of, desk_at, host_at}
 use Rattle.ce_machine.specs.Desks.{AreChanged, at_node, with_busy_mark, with_start, with_kill, HasStartRoom, HasKillRoom}
 use Rattle.ce_machine.specs.Gives.{item_in, given_in, item_for, items_left}
 use Rattle.ce_machine.proofs.Changes.{next}
@@ -53,12 +52,17 @@ use Rattle.ce_machine.proofs.Taking.{taken-first, taken-parcel}
 use Rattle.ce_machine.proofs.Acted as acted
 use Rattle.ce_machine.proofs.Holdings.{grant_held, placed-node}
 use Rattle.ce_machine.proofs.Firsts.{none-left}
-use Rattle.ce_machine.proofs.Steps.{IsIn, is-in, if-held, host-same, host-set, host-read, host-held, desk-read, differs, user-below, inside-below, placed, grant-is, desks-changed, tables-call, more-lawful, IsDone, done-with}
+use Rattle.ce_machine.proofs.Steps.{SoundMachine, IsIn, is-in, if-held, host-same, host-set, host-read, host-held, desk-read, differs, user-below, inside-below, placed, grant-is, desks-changed, tables-call, more-lawful, IsDone, done-with}
 
 -- a node that is busy, told in two ways
 busy-same : (actor node : ℕ) (kept : NodeRecord) → effects.with_call_mark actor node kept ≡ at_node actor with_busy_mark node kept
 busy-same actor node kept =
     cond_both (actor == node) (with_busy_mark kept) kept (λ now. effects.with_call_mark actor node kept ≡ now) (λ t. rw t refl) (λ f. rw f refl)
+
+-- a change that changes nothing
+unchanged : (b : Bool) (kept : NodeRecord) → kept ≡ (if b then kept else kept)
+unchanged true kept = refl
+unchanged false kept = refl
 
 -- one change behind another
 pub chained : (a b c : List NodeRecord) (f g : ℕ → NodeRecord → NodeRecord) → AreChanged a b f → AreChanged b c g → AreChanged a c (λ node kept. g node (f node kept))
@@ -87,7 +91,7 @@ given_one asking dead poller (model.kill pid) items = refl
 
 take-left : (asking dead : ℕ) (poller : Option ℕ) (used : Bool) (items : List model.Item) (found : Option model.Item) → find (is_eligible asking dead) items ≡ found
     → ((item : model.Item) → found ≡ Some item → without_first (is_named_by (given_as item)) items ≡ without_first (is_eligible asking dead) items)
-    → without_taken (taken_in (entry.Take asking dead poller (offered found poller used))) items ≡ items_left used asking dead items
+    → without_taken (taken_in (entry.Take asking dead poller (offer_of found poller used))) items ≡ items_left used asking dead items
 take-left asking dead poller true items (Some item) e first = refl
 take-left asking dead poller false items (Some item) e first = given_one asking dead poller item items ∙ first item refl
 take-left asking dead (Some pid) true items None e first = refl
@@ -95,7 +99,7 @@ take-left asking dead (Some pid) false items None e first = sym (none-left (is_e
 take-left asking dead None true items None e first = refl
 take-left asking dead None false items None e first = sym (none-left (is_eligible asking dead) items e)
 
-given-heard : (items : List model.Item) (h : Heard) → IsTrue (is_of_take h)
+given-heard : (items : List model.Item) (h : Hearing) → IsTrue (is_of_take h)
     → ((parcel : Parcel) → item_in h ≡ Some (model.mail (parcel_of parcel)) → parcel_numbered parcel.number items ≡ Some (parcel_of parcel)) → IsGiven items (given_in h) h
 given-heard items (heard.Start pid image) kind at = refl
 given-heard items (heard.Mail parcel) kind at = (parcel, refl, at parcel refl)
@@ -116,152 +120,52 @@ found_item true asking dead items item e = absurd (cc)
 found_item false asking dead items item e = e
 
 -- an answer with work is none where the allowed dispatches are used up
-pub no_work : (found : Option model.Item) (poller : Option ℕ) (used : Bool) → is_work (offered found poller used) ≡ true → used ≡ false
+pub no_work : (found : Option model.Item) (poller : Option ℕ) (used : Bool) → is_work (offer_of found poller used) ≡ true → used ≡ false
 no_work (Some item) poller true e = absurd (cc)
 no_work None (Some pid) true e = absurd (cc)
 no_work None None true e = absurd (cc)
 no_work found poller false e = refl
 
-module _ {N : Type 0} (home : N → ℕ) (clean : N → Type 0) (parts : MachineParts) (h : List Entry) (holding : Holding) (desks : List NodeRecord) (hosts : List HostRecord)
-    (sound : IsSoundMachine parts h holding desks hosts) (few : length h < greatest_history) (who : Who) (h' : List Entry) where
-  abbrev user : ℕ
-  user = who.family
-
-  abbrev actor : ℕ
-  actor = who.actor
+module _ (m : SoundMachine) (who : Who) where
+  open m use {parts, history as h, holding, desks, hosts, sound, few}
+  open who use {family as user, actor}
 
   abbrev now : What → MachineState
   now what = next h (entry_of who.family who.actor what)
 
-  -- a call of a cube that leaves all hosts as they are
-  stays : (call : Call N) (reply : Reply N) (what : What) (made : NodeCall) → call_of what ≡ Some made → IsFittingCall home clean parts h who call
-      → answered parts (after h) who.family who.actor (request_of call) ≡ Some what → (cube : HeldCube) → held_by (after h) who.family ≡ Some cube
-      → (desks' : List NodeRecord) (change : ℕ → NodeRecord → NodeRecord) → AreChanged desks desks' change
-      → ((node : ℕ) → (node == HOST) ≡ false → (now what).node_record node ≡ change node ((after h).node_record node))
-      → held_by (now what) who.family ≡ Some cube → IsReplyTo home clean parts (after h) who.family who.actor what reply → h' ≡ h ++ entry_of who.family who.actor what ∷ []
-      → IsDone home clean parts h h' holding desks' hosts who call reply
-  stays call reply what made called fits answer cube holds desks' change changed each held reply_is is =
-      done-with home clean parts h holding desks hosts sound few who h' call reply what fits answer reply_is is holding desks' hosts
-      (tables-call parts h holding desks hosts sound user actor what made called desks' hosts cube (host_at hosts user) changed.count
-      (desks-changed parts h holding desks hosts sound (now what) desks' change changed each) (host-same hosts user) held
-      (host-held parts h holding desks hosts sound user cube fits.fits.0 holds))
+  -- the caller is busy, and no desk changes otherwise
+  same_at : (what : What) (n : ℕ)
+      → ((node : ℕ) → (node == HOST) ≡ false → (now what).node_record node ≡ effects.with_call_mark who.actor node ((after h).node_record node)) → (node : ℕ) → (node == HOST) ≡ false
+      → (now what).node_record node ≡ at_node who.actor with_busy_mark node (at_node n (λ kept. kept) node ((after h).node_record node))
+  same_at what n each node apart =
+      each node apart ∙ busy-same actor node ((after h).node_record node) ∙ ap (at_node actor with_busy_mark node) (unchanged (n == node) ((after h).node_record node))
 
-  pub noted : (pid word : ℕ) (desks' : List NodeRecord) → IsFittingCall home clean parts h who (call.Say (say.Note pid word)) → AreChanged desks desks' (at_node who.actor with_busy_mark)
-      → h' ≡ h ++ entry_of who.family who.actor (entry.Note pid word) ∷ []
-      → IsDone home clean parts h h' holding desks' hosts who (call.Say (say.Note pid word)) (reply.Heard heard.Noted)
-  noted pid word desks' fits changed is =
-      let what = entry.Note pid word in
-      let in_cube = is-in h user (IsCallOf parts h actor (notes pid word)) fits.fits.1 in
-      let each = acted.noted-each parts sound.machine h sound.lawful user in_cube.cube in_cube.holds actor pid word in_cube.is in
-      stays (call.Say (say.Note pid word)) (reply.Heard heard.Noted) what (notes pid word) refl fits
-      (call-answered (after h) in_cube.cube actor parts user (notes pid word) in_cube.holds ∙ ap Some (note-answer (after h) in_cube.cube actor pid word))
-      in_cube.cube in_cube.holds desks' (at_node who.actor with_busy_mark) changed (λ node apart. each node apart ∙ busy-same actor node ((after h).node_record node))
-      (acted.noted-cube parts sound.machine h sound.lawful user in_cube.cube in_cube.holds actor pid word in_cube.is)
-      (if-held (after h) user (λ cube. IsHeard {N = N} (items_for (after h) cube actor) what (reply.Heard heard.Noted)) in_cube.cube in_cube.holds refl) is
-
-  -- ---- takes
-
-  module _ (asking dead : ℕ) (poller : Option ℕ) (fits : IsFittingCall home clean parts h who (call.Say (say.Take asking dead poller))) where
-    taking : IsIn h who.family (IsCallOf parts h who.actor (takes asking dead poller))
-    taking = is-in h user (IsCallOf parts h actor (takes asking dead poller)) fits.fits.1
-
-    taker : is_inside taking.cube.grant.sub who.actor ≡ true
-    taker = acted.taker parts sound.machine h sound.lawful user taking.cube taking.holds actor asking dead poller taking.is
-
-    pub taker-below : who.actor < length desks
-    taker-below = omega (arith, sound.tables.desk_count, inside-below parts h holding desks hosts sound user taking.cube actor taking.holds taker)
-
-    taker_no_host : (who.actor == HOST) ≡ false
-    taker_no_host = inside_no_host parts.dim taking.cube.grant (placed parts h holding desks hosts sound user taking.cube taking.holds) actor taker
-
-    pub took : (desk desk' : NodeRecord) (host host' : HostRecord) (heard : Heard) → desk ≡ get_or desks who.actor desk → host ≡ get_or hosts who.family host
-        → given_in heard ≡ offered (find (is_eligible asking dead) desk.waiting) poller (host.dispatched == host.armed)
-        → item_in heard ≡ item_for (host.dispatched == host.armed) asking dead desk.waiting → IsTrue (is_of_take heard)
-        → desk' ≡ record desk {
-          waiting = items_left (host.dispatched == host.armed) asking dead desk.waiting;
-          mark = record { idle = is_idle (given_in heard); asking = asking; dead = dead };
-        }
-        → host' ≡ record host { dispatched = if is_work (given_in heard) then host.dispatched + 1 else host.dispatched }
-        → h' ≡ h ++ entry_of who.family who.actor (entry.Take asking dead poller (given_in heard)) ∷ []
-        → IsDone home clean parts h h' holding (set desks who.actor desk') (set hosts who.family host') who (call.Say (say.Take asking dead poller)) (reply.Heard heard)
-    took desk desk' host host' heard read_desk read_host given item kind desk_changed host_changed is =
-        let cube = taking.cube in
-        let machine = sound.machine in
-        let kept : NodeRecord = (after h).node_record actor in
-        let used : Bool = cube.dispatched == cube.armed in
-        let what = entry.Take asking dead poller (given_in heard) in
-        let below = user-below parts h holding desks hosts sound user fits.fits.0 in
-        let desk_was : desk ≡ kept = desk-read desks actor desk taker-below read_desk ∙ sound.tables.desk_is actor (omega (arith, taker-below, sound.tables.desk_count)) in
-        let host_was : host ≡ host_of (Some cube) = host-read hosts user host below read_host ∙ host-held parts h holding desks hosts sound user cube fits.fits.0 taking.holds in
-        let used_same : (host.dispatched == host.armed) ≡ used = ap (λ (host : HostRecord). host.dispatched == host.armed) host_was in
-        let items_same : desk.waiting ≡ kept.waiting = ap (λ (kept : NodeRecord). kept.waiting) desk_was in
-        let offer : offered (find (is_eligible asking dead) kept.waiting) poller used ≡ given_in heard =
-        sym (given ∙ ap₂ (λ items used. offered (find (is_eligible asking dead) items) poller used) items_same used_same) in
-        let found : (item : model.Item) → item_in heard ≡ Some item → find (is_eligible asking dead) kept.waiting ≡ Some item =
-        λ one e. found_item used asking dead kept.waiting one (sym (item ∙ ap₂ (λ used items. item_for used asking dead items) used_same items_same) ∙ e) in
-        let left : items_left used asking dead kept.waiting ≡ without_taken (taken_in what) kept.waiting =
-        sym (take-left asking dead poller used kept.waiting (find (is_eligible asking dead) kept.waiting) refl
-        (λ one e. taken-first parts machine h sound.lawful user cube taking.holds taking.is.not_drained actor taker asking dead one e))
-        ∙ ap (λ given. without_taken (taken_in (entry.Take asking dead poller given)) kept.waiting) offer in
-        let mark : Mark = record { idle = is_idle (given_in heard); asking = asking; dead = dead } in
-        let own : desk' ≡ record kept { waiting = without_taken (taken_in what) kept.waiting; mark = mark } =
-        desk_changed ∙ ap₂ (λ (desk : NodeRecord) (used : Bool). record desk { waiting = items_left used asking dead desk.waiting; mark = mark }) desk_was used_same
-        ∙ (λ i. record kept { waiting = left i; mark = mark }) in
-        done-with home clean parts h holding desks hosts sound few who h' (call.Say (say.Take asking dead poller)) (reply.Heard heard) what fits
-        (call-answered (after h) cube actor parts user (takes asking dead poller) taking.holds
-        ∙ ap Some (acted.took-as parts machine h sound.lawful user cube taking.holds actor asking dead poller taking.is (given_in heard) offer))
-        (if-held (after h) user (λ cube. IsHeard {N = N} (items_for (after h) cube actor) what (reply.Heard heard)) cube taking.holds
-        (subst (λ (b : Bool). IsGiven (let kept : NodeRecord = if b then host_record cube else (after h).node_record actor in kept.waiting) (given_in heard) heard) (sym taker_no_host)
-        (given-heard kept.waiting heard kind (λ parcel e. taken-parcel parts machine h sound.lawful user cube taking.holds taking.is.not_drained actor taker asking dead (parcel_of parcel) (found (model.mail (parcel_of parcel)) e)))))
-        is holding (set desks actor desk') (set hosts user host')
-        (tables-call parts h holding desks hosts sound user actor what (takes asking dead poller) refl (set desks actor desk') (set hosts user host') _ host' (length-set desks actor desk')
-        (λ node node_below apart. elim (cases_Bool (actor == node)) [
-          | inl same ↦ subst (λ n. desk_at (set desks actor desk') n ≡ (now what).node_record n) (eqb-true actor node same)
-              (get_or-set_same desks actor desk' blank_record taker-below ∙ own
-              ∙ sym (acted.took-own parts machine h sound.lawful user cube taking.holds actor asking dead poller taking.is (given_in heard) offer))
-          | inr differ ↦ get_or-set_other desks actor node desk' blank_record (differs actor node differ) ∙ sound.tables.desk_is node node_below
-              ∙ sym (acted.took-other parts machine h sound.lawful user cube taking.holds actor asking dead poller taking.is (given_in heard) offer node apart differ)
-        ])
-        (host-set hosts user host' host' below refl)
-        (acted.took-cube parts machine h sound.lawful user cube taking.holds actor asking dead poller taking.is (given_in heard) offer)
-        (host_changed ∙ ap (λ (host : HostRecord). record host { dispatched = if is_work (given_in heard) then host.dispatched + 1 else host.dispatched }) host_was))
-
-    -- the same, step by step
-    pub took-by : (desk between desk' : NodeRecord) (host host' : HostRecord) (heard : Heard) (used work idle : Bool) (given : Given) → desk ≡ get_or desks who.actor desk
-        → host ≡ get_or hosts who.family host → used ≡ (host.dispatched == host.armed) → given ≡ given_in heard → work ≡ is_work given → idle ≡ is_idle given
-        → given_in heard ≡ offered (find (is_eligible asking dead) desk.waiting) poller used → item_in heard ≡ item_for used asking dead desk.waiting → IsTrue (is_of_take heard)
-        → between ≡ record desk { waiting = items_left used asking dead desk.waiting } → desk' ≡ record between { mark = record { idle = idle; asking = asking; dead = dead } }
-        → host' ≡ record host { dispatched = if work then host.dispatched + 1 else host.dispatched }
-        → h' ≡ h ++ entry_of who.family who.actor (entry.Take asking dead poller given) ∷ []
-        → IsDone home clean parts h h' holding (set desks who.actor desk') (set hosts who.family host') who (call.Say (say.Take asking dead poller)) (reply.Heard heard)
-    took-by desk between desk' host host' heard used work idle given read_desk read_host used_is given_is work_is idle_is offer item kind between_is desk_is host_is is =
-        let idle_now : idle ≡ is_idle (given_in heard) = idle_is ∙ ap is_idle given_is in
-        let work_now : work ≡ is_work (given_in heard) = work_is ∙ ap is_work given_is in
-        took desk desk' host host' heard read_desk read_host (offer ∙ ap (λ used. offered (find (is_eligible asking dead) desk.waiting) poller used) used_is)
-        (item ∙ ap (λ used. item_for used asking dead desk.waiting) used_is) kind
-        (desk_is ∙ ap (λ (between : NodeRecord). record between { mark = record { idle = idle; asking = asking; dead = dead } }) between_is
-        ∙ (λ i. record desk { waiting = items_left (used_is i) asking dead desk.waiting; mark = record { idle = idle_now i; asking = asking; dead = dead } }))
-        (host_is ∙ (λ i. record host { dispatched = if work_now i then host.dispatched + 1 else host.dispatched }))
-        (is ∙ ap (λ given. h ++ entry_of who.family who.actor (entry.Take asking dead poller given) ∷ []) given_is)
-
-    -- work is given only where dispatches are left
-    pub work-left : (items : List model.Item) (heard : Heard) (used used' work : Bool) (given : Given) → used ≡ used' → given ≡ given_in heard → work ≡ is_work given
-        → given_in heard ≡ offered (find (is_eligible asking dead) items) poller used → work ≡ true → used' ≡ false
-    work-left items heard used used' work given used_is given_is work_is offer works =
-        sym used_is ∙ no_work (find (is_eligible asking dead) items) poller used (ap is_work (sym (given_is ∙ offer)) ∙ sym work_is ∙ works)
-
-  -- ---- spawns and kills
+  -- or the desk of a node changes
+  changed_at : (what : What) (n : ℕ) (change : NodeRecord → NodeRecord) → (now what).node_record n ≡ effects.with_call_mark who.actor n (change ((after h).node_record n))
+      → ((node : ℕ) → (node == HOST) ≡ false → (n == node) ≡ false → (now what).node_record node ≡ effects.with_call_mark who.actor node ((after h).node_record node))
+      → (node : ℕ) → (node == HOST) ≡ false
+      → (now what).node_record node ≡ at_node who.actor with_busy_mark node (at_node n change node ((after h).node_record node))
+  changed_at what n change here away node apart =
+      elim (cases_Bool (n == node)) [
+        | inl same ↦
+            let own : change ((after h).node_record n) ≡ at_node n change n ((after h).node_record n) = rw (eq-eqb n n refl) refl in
+            subst (λ k. (now what).node_record k ≡ at_node actor with_busy_mark k (at_node n change k ((after h).node_record k))) (eqb-true n node same)
+            (here ∙ busy-same actor n (change ((after h).node_record n)) ∙ ap (at_node actor with_busy_mark n) own)
+        | inr differ ↦
+            away node apart differ ∙ busy-same actor node ((after h).node_record node)
+            ∙ ap (at_node actor with_busy_mark node) (sym (rw differ refl))
+      ]
 
   -- a place of the user's cube
   module _ (cube : HeldCube) (holds : held_by (after h) who.family ≡ Some cube) (to : Place) (is_in : (to.node < 2 ^ cube.grant.dim) × (to.pid < process_count)) where
     kept_at : desk_at desks (node_of cube.grant.sub to.node) ≡ (after h).node_record (node_of cube.grant.sub to.node)
     kept_at =
         sound.tables.desk_is (node_of cube.grant.sub to.node)
-        (placed-node parts.dim cube.grant (placed parts h holding desks hosts sound user cube holds) to.node)
+        (placed-node parts.dim cube.grant (placed m user cube holds) to.node)
 
     module _ (grant : Grant) (known : daemon.held_by holding who.family ≡ Some grant) where
       is_held : grant ≡ grant_held cube
-      is_held = grant-is parts h holding desks hosts sound user cube grant holds known
+      is_held = grant-is m user cube grant holds known
 
       number_below : to.node < 2 ^ grant.dim
       number_below = subst (λ (g : Grant). to.node < 2 ^ g.dim) (sym is_held) is_in.0
@@ -270,216 +174,288 @@ module _ {N : Type 0} (home : N → ℕ) (clean : N → Type 0) (parts : Machine
       at_is : (at : Place) → at ≡ place_outward grant.sub to → at ≡ place_of cube to
       at_is at is =
           is ∙ ap (λ (g : Grant). place_outward g.sub to) is_held
-          ∙ ap (λ node. record { node = node; pid = to.pid }) (out_node parts.dim cube.grant (placed parts h holding desks hosts sound user cube holds) to.node is_in.0)
+          ∙ ap (λ node. record { node = node; pid = to.pid }) (out_node parts.dim cube.grant (placed m user cube holds) to.node is_in.0)
 
       has_desk : (at : Place) → at ≡ place_outward grant.sub to → HasDesk desks at
       has_desk at is =
           subst (HasDesk desks) (sym (at_is at is)) (record {
-            node = omega (arith, sound.tables.desk_count, placed-node parts.dim cube.grant (placed parts h holding desks hosts sound user cube holds) to.node);
+            node = omega (arith, sound.tables.desk_count, placed-node parts.dim cube.grant (placed m user cube holds) to.node);
             process = is_in.1;
           })
 
-  module _ (pid image : ℕ) (to : Place) (fits : IsFittingCall home clean parts h who (call.Say (say.Spawn pid image to))) where
-    spawning : IsIn h who.family (IsCallOf parts h who.actor (spawns pid image to))
-    spawning = is-in h user (IsCallOf parts h actor (spawns pid image to)) fits.fits.1
+  module _ {N : Type 0} {home : N → ℕ} {clean : N → Type 0} where
+    -- a call of a cube that leaves all hosts as they are
+    stays : {h' : List Entry} {call : Call N} (reply : Reply N) (what : What) (made : NodeCall) → call_of what ≡ Some made → IsFittingCall home clean parts h who call
+        → what_of_request parts (after h) who.family who.actor (request_of call) ≡ Some what → (cube : HeldCube) → held_by (after h) who.family ≡ Some cube
+        → {desks' : List NodeRecord} (change : ℕ → NodeRecord → NodeRecord) → AreChanged desks desks' change
+        → ((node : ℕ) → (node == HOST) ≡ false → (now what).node_record node ≡ change node ((after h).node_record node))
+        → held_by (now what) who.family ≡ Some cube → IsReplyTo home clean parts (after h) who.family who.actor what reply → h' ≡ h ++ entry_of who.family who.actor what ∷ []
+        → IsDone home clean m h' holding desks' hosts who call reply
+    stays reply what made called fits answer cube holds {desks'} change changed each held reply_is is =
+        done-with m who reply what fits answer reply_is is
+        (tables-call m user actor what made called desks' hosts cube (host_at hosts user) changed.count
+        (desks-changed m (now what) desks' change changed each) (host-same hosts user) held
+        (host-held m user cube fits.fits.0 holds))
 
-    spawn_place : (to.node < 2 ^ spawning.cube.grant.dim) × (to.pid < process_count)
-    spawn_place =
-        place_parts spawning.cube.grant.dim to (call-places parts sound.machine h sound.lawful user spawning.cube spawning.holds actor (spawns pid image to) spawning.is)
+    pub noting : {pid word : ℕ} → IsFittingCall home clean parts h who (call.Say (say.Note pid word)) → IsIn h who.family (IsCallOf parts h who.actor (notes pid word))
+    noting {pid} {word} fits = is-in h user (IsCallOf parts h actor (notes pid word)) fits.fits.1
 
-    was_fresh : (fresh : Bool) → fresh ≡ not (is_among to.pid (desk_at desks (node_of spawning.cube.grant.sub to.node)).spawned)
-        → not (is_among to.pid ((after h).node_record (node_of spawning.cube.grant.sub to.node)).spawned) ≡ fresh
-    was_fresh fresh is = sym (is ∙ ap (λ (kept : NodeRecord). not (is_among to.pid kept.spawned)) (kept_at spawning.cube spawning.holds to spawn_place))
+    pub noted : {h' : List Entry} {pid word : ℕ} {desks' : List NodeRecord} → IsFittingCall home clean parts h who (call.Say (say.Note pid word)) → AreChanged desks desks' (at_node who.actor with_busy_mark)
+        → h' ≡ h ++ entry_of who.family who.actor (entry.Note pid word) ∷ []
+        → IsDone home clean m h' holding desks' hosts who (call.Say (say.Note pid word)) (reply.Heard heard.Noted)
+    noted {pid = pid} {word} fits changed is =
+        let what = entry.Note pid word in
+        let in_cube = noting fits in
+        let each = acted.noted-each parts sound.machine h sound.lawful user in_cube.cube in_cube.holds actor pid word in_cube.is in
+        stays (reply.Heard heard.Noted) what (notes pid word) refl fits
+        (call-answered (after h) in_cube.cube actor parts user (notes pid word) in_cube.holds ∙ ap Some (note-answer (after h) in_cube.cube actor pid word))
+        in_cube.cube in_cube.holds (at_node who.actor with_busy_mark) changed (λ node apart. each node apart ∙ busy-same actor node ((after h).node_record node))
+        (acted.noted-cube parts sound.machine h sound.lawful user in_cube.cube in_cube.holds actor pid word in_cube.is)
+        (if-held (after h) user (λ cube. IsHeard {N = N} (items_for (after h) cube actor) what (reply.Heard heard.Noted)) in_cube.cube in_cube.holds refl) is
 
-    spawn_said : (fresh : Bool) → fresh ≡ not (is_among to.pid (desk_at desks (node_of spawning.cube.grant.sub to.node)).spawned)
-        → answered parts (after h) who.family who.actor (request_of {N = N} (call.Say (say.Spawn pid image to))) ≡ Some (entry.Spawn pid image (place_of spawning.cube to) fresh)
-    spawn_said fresh is =
-        call-answered (after h) spawning.cube actor parts user (spawns pid image to) spawning.holds
-        ∙ ap Some (acted.spawned-as parts sound.machine h sound.lawful user spawning.cube spawning.holds actor pid image to spawning.is fresh (was_fresh fresh is))
+    -- ---- takes
 
-    spawn_each : (fresh : Bool) → not (is_among to.pid ((after h).node_record (node_of spawning.cube.grant.sub to.node)).spawned) ≡ fresh → (node : ℕ) → (node == HOST) ≡ false
-        → (now (entry.Spawn pid image (place_of spawning.cube to) fresh)).node_record node
-        ≡ at_node who.actor with_busy_mark node (at_node (node_of spawning.cube.grant.sub to.node) (λ kept. if fresh then with_start to.pid image kept else kept) node ((after h).node_record node))
-    spawn_each false e node apart =
-        acted.spawn_used-each parts sound.machine h sound.lawful user spawning.cube spawning.holds actor pid image to spawning.is e node apart
-        ∙ busy-same actor node ((after h).node_record node)
-        ∙ ap (at_node actor with_busy_mark node) (same_both (node_of spawning.cube.grant.sub to.node == node) ((after h).node_record node))
-      where
-        same_both : (b : Bool) (kept : NodeRecord) → kept ≡ (if b then kept else kept)
-        same_both true kept = refl
-        same_both false kept = refl
-    spawn_each true e node apart =
-        elim (cases_Bool (node_of spawning.cube.grant.sub to.node == node)) [
-          | inl here ↦
-              subst (λ n. (now (entry.Spawn pid image (place_of spawning.cube to) true)).node_record n
-              ≡ at_node actor with_busy_mark n (at_node (node_of spawning.cube.grant.sub to.node) (λ kept. with_start to.pid image kept) n ((after h).node_record n)))
-              (eqb-true (node_of spawning.cube.grant.sub to.node) node here)
-              (acted.spawned-here parts sound.machine h sound.lawful user spawning.cube spawning.holds actor pid image to spawning.is e
-              ∙ started_busy (actor == node_of spawning.cube.grant.sub to.node) (node_of spawning.cube.grant.sub to.node == node_of spawning.cube.grant.sub to.node)
-              (eq-eqb (node_of spawning.cube.grant.sub to.node) (node_of spawning.cube.grant.sub to.node) refl) ((after h).node_record (node_of spawning.cube.grant.sub to.node)))
-          | inr away ↦
-              acted.spawned-away parts sound.machine h sound.lawful user spawning.cube spawning.holds actor pid image to spawning.is true e node apart away
-              ∙ busy-same actor node ((after h).node_record node)
-              ∙ ap (at_node actor with_busy_mark node) (sym (rw away refl))
-        ]
-      where
-        started_busy : (own here : Bool) → here ≡ true → (kept : NodeRecord)
-            → record kept {
-              waiting = kept.waiting ++ model.start to.pid image ∷ [];
-              spawned = kept.spawned ++ to.pid ∷ [];
-              mark = if own then record kept.mark { idle = false } else kept.mark;
-            } ≡ (if own then with_busy_mark (if here then with_start to.pid image kept else kept) else (if here then with_start to.pid image kept else kept))
-        started_busy true true e kept = refl
-        started_busy false true e kept = refl
-        started_busy own false e kept = absurd (cc)
+    module _ {asking dead : ℕ} {poller : Option ℕ} (fits : IsFittingCall home clean parts h who (call.Say (say.Take asking dead poller))) where
+      pub taking : IsIn h who.family (IsCallOf parts h who.actor (takes asking dead poller))
+      taking = is-in h user (IsCallOf parts h actor (takes asking dead poller)) fits.fits.1
 
-    pub spawned : (grant : Grant) (at : Place) (fresh : Bool) (told : Heard) (mid desks' : List NodeRecord) → daemon.held_by holding who.family ≡ Some grant → at ≡ place_outward grant.sub to
-        → fresh ≡ not (is_among at.pid (desk_at desks at.node).spawned)
-        → AreChanged desks mid (at_node at.node (λ kept. if fresh then with_start at.pid image kept else kept)) → AreChanged mid desks' (at_node who.actor with_busy_mark)
-        → told ≡ (if fresh then heard.Spawned else heard.Used)
-        → h' ≡ h ++ entry_of who.family who.actor (entry.Spawn pid image at fresh) ∷ []
-        → IsDone home clean parts h h' holding desks' hosts who (call.Say (say.Spawn pid image to)) (reply.Heard told)
-    spawned grant at fresh told mid desks' known at_outward =
-        let cube = spawning.cube in
-        let P : Place → Type 0 = λ at. fresh ≡ not (is_among at.pid (desk_at desks at.node).spawned)
-        → AreChanged desks mid (at_node at.node (λ kept. if fresh then with_start at.pid image kept else kept)) → AreChanged mid desks' (at_node who.actor with_busy_mark)
-        → told ≡ (if fresh then heard.Spawned else heard.Used) → h' ≡ h ++ entry_of who.family who.actor (entry.Spawn pid image at fresh) ∷ []
-        → IsDone home clean parts h h' holding desks' hosts who (call.Say (say.Spawn pid image to)) (reply.Heard told) in
-        let done : P (place_of cube to) = λ fresh_is first second told_is is.
-        let what = entry.Spawn pid image (place_of cube to) fresh in
-        let change : ℕ → NodeRecord → NodeRecord = λ node kept. at_node who.actor with_busy_mark node (at_node (node_of cube.grant.sub to.node) (λ kept. if fresh then with_start to.pid image kept else kept) node kept) in
-        stays (call.Say (say.Spawn pid image to)) (reply.Heard told) what (spawns pid image (place_of cube to)) refl fits (spawn_said fresh fresh_is) cube spawning.holds desks' change
-        (chained desks mid desks' (at_node (node_of cube.grant.sub to.node) (λ kept. if fresh then with_start to.pid image kept else kept)) (at_node who.actor with_busy_mark) first second)
-        (spawn_each fresh (was_fresh fresh fresh_is))
-        (acted.spawned-cube parts sound.machine h sound.lawful user cube spawning.holds actor pid image to spawning.is fresh (was_fresh fresh fresh_is))
-        (if-held (after h) user (λ cube. IsHeard {N = N} (items_for (after h) cube actor) what (reply.Heard told)) cube spawning.holds told_is) is in
-        subst P (sym (at_is cube spawning.holds to spawn_place grant known at at_outward)) done
+      taker : is_inside taking.cube.grant.sub who.actor ≡ true
+      taker = acted.taker parts sound.machine h sound.lawful user taking.cube taking.holds actor asking dead poller taking.is
 
-    -- there is a desk for the process, and room on it
-    module _ (grant : Grant) (at : Place) (known : daemon.held_by holding who.family ≡ Some grant) (at_outward : at ≡ place_outward grant.sub to) where
-      pub spawn-desk : HasDesk desks at
-      spawn-desk = has_desk spawning.cube spawning.holds to spawn_place grant known at at_outward
+      pub taker-below : who.actor < length desks
+      taker-below = omega (arith, sound.tables.desk_count, inside-below m user taking.cube actor taking.holds taker)
 
-      pub spawn-room : not (is_among at.pid (desk_at desks at.node).spawned) ≡ true → HasStartRoom (desk_at desks at.node)
-      spawn-room = subst (λ (at : Place). not (is_among at.pid (desk_at desks at.node).spawned) ≡ true → HasStartRoom (desk_at desks at.node)) (sym (at_is spawning.cube spawning.holds to spawn_place grant known at at_outward)) (λ fresh. has_room fresh)
-        where
-          has_room : not (is_among to.pid (desk_at desks (node_of spawning.cube.grant.sub to.node)).spawned) ≡ true → HasStartRoom (desk_at desks (node_of spawning.cube.grant.sub to.node))
-          has_room fresh =
-              let n = node_of spawning.cube.grant.sub to.node in
-              let what = entry.Spawn pid image (place_of spawning.cube to) true in
-              let lawful = more-lawful parts h holding desks hosts sound home clean who (call.Say (say.Spawn pid image to)) fits few what (spawn_said true (sym fresh)) in
-              let small = node-limits parts (h ++ entry_of who.family who.actor what ∷ []) sound.machine lawful n in
-              let is = acted.spawned-here parts sound.machine h sound.lawful user spawning.cube spawning.holds actor pid image to spawning.is (was_fresh true (sym fresh)) in
-              let kept = (after h).node_record n in
-              let waits : length kept.waiting + 1 ≤ node_room =
-              omega (arith, small.waiting, ap (λ (kept : NodeRecord). length kept.waiting) is, length-append kept.waiting (model.start to.pid image ∷ []), queue_room_lem, node_room_lem) in
-              let ids : length kept.spawned + 1 ≤ process_count =
-              omega (arith, small.spawned, ap (λ (kept : NodeRecord). length kept.spawned) is, length-append kept.spawned (to.pid ∷ [])) in
-              subst HasStartRoom (sym (kept_at spawning.cube spawning.holds to spawn_place)) (omega (arith, waits), omega (arith, ids))
+      taker_no_host : (who.actor == HOST) ≡ false
+      taker_no_host = inside_no_host parts.dim taking.cube.grant (placed m user taking.cube taking.holds) actor taker
 
-    pub spawn-below : (grant : Grant) → daemon.held_by holding who.family ≡ Some grant → to.node < 2 ^ grant.dim
-    spawn-below grant known = number_below spawning.cube spawning.holds to spawn_place grant known
+      took : {h' : List Entry} (desk desk' : NodeRecord) (host host' : HostRecord) (heard : Hearing) → desk ≡ get_or desks who.actor desk → host ≡ get_or hosts who.family host
+          → given_in heard ≡ offer_of (find (is_eligible asking dead) desk.waiting) poller (host.dispatched == host.armed)
+          → item_in heard ≡ item_for (host.dispatched == host.armed) asking dead desk.waiting → IsTrue (is_of_take heard)
+          → desk' ≡ record desk {
+            waiting = items_left (host.dispatched == host.armed) asking dead desk.waiting;
+            mark = record { idle = is_idle (given_in heard); asking = asking; dead = dead };
+          }
+          → host' ≡ record host { dispatched = if is_work (given_in heard) then host.dispatched + 1 else host.dispatched }
+          → h' ≡ h ++ entry_of who.family who.actor (entry.Take asking dead poller (given_in heard)) ∷ []
+          → IsDone home clean m h' holding (set desks who.actor desk') (set hosts who.family host') who (call.Say (say.Take asking dead poller)) (reply.Heard heard)
+      took desk desk' host host' heard read_desk read_host given item kind desk_changed host_changed is =
+          let cube = taking.cube in
+          let machine = sound.machine in
+          let kept : NodeRecord = (after h).node_record actor in
+          let used : Bool = cube.dispatched == cube.armed in
+          let what = entry.Take asking dead poller (given_in heard) in
+          let below = user-below m user fits.fits.0 in
+          let desk_was : desk ≡ kept = desk-read desks actor desk taker-below read_desk ∙ sound.tables.desk_is actor (omega (arith, taker-below, sound.tables.desk_count)) in
+          let host_was : host ≡ host_of (Some cube) = host-read hosts user host below read_host ∙ host-held m user cube fits.fits.0 taking.holds in
+          let used_same : (host.dispatched == host.armed) ≡ used = ap (λ (host : HostRecord). host.dispatched == host.armed) host_was in
+          let items_same : desk.waiting ≡ kept.waiting = ap (λ (kept : NodeRecord). kept.waiting) desk_was in
+          let offer : offer_of (find (is_eligible asking dead) kept.waiting) poller used ≡ given_in heard =
+          sym (given ∙ ap₂ (λ items used. offer_of (find (is_eligible asking dead) items) poller used) items_same used_same) in
+          let found : (item : model.Item) → item_in heard ≡ Some item → find (is_eligible asking dead) kept.waiting ≡ Some item =
+          λ one e. found_item used asking dead kept.waiting one (sym (item ∙ ap₂ (λ used items. item_for used asking dead items) used_same items_same) ∙ e) in
+          let left : items_left used asking dead kept.waiting ≡ without_taken (taken_in what) kept.waiting =
+          sym (take-left asking dead poller used kept.waiting (find (is_eligible asking dead) kept.waiting) refl
+          (λ one e. taken-first parts machine h sound.lawful user cube taking.holds taking.is.not_drained actor taker asking dead one e))
+          ∙ ap (λ given. without_taken (taken_in (entry.Take asking dead poller given)) kept.waiting) offer in
+          let mark : Mark = record { idle = is_idle (given_in heard); asking = asking; dead = dead } in
+          let own : desk' ≡ record kept { waiting = without_taken (taken_in what) kept.waiting; mark = mark } =
+          desk_changed ∙ ap₂ (λ (desk : NodeRecord) (used : Bool). record desk { waiting = items_left used asking dead desk.waiting; mark = mark }) desk_was used_same
+          ∙ (λ i. record kept { waiting = left i; mark = mark }) in
+          done-with m who (reply.Heard heard) what fits
+          (call-answered (after h) cube actor parts user (takes asking dead poller) taking.holds
+          ∙ ap Some (acted.took-as parts machine h sound.lawful user cube taking.holds actor asking dead poller taking.is (given_in heard) offer))
+          (if-held (after h) user (λ cube. IsHeard {N = N} (items_for (after h) cube actor) what (reply.Heard heard)) cube taking.holds
+          (subst (λ (b : Bool). IsGiven (let kept : NodeRecord = if b then host_record cube else (after h).node_record actor in kept.waiting) (given_in heard) heard) (sym taker_no_host)
+          (given-heard kept.waiting heard kind (λ parcel e. taken-parcel parts machine h sound.lawful user cube taking.holds taking.is.not_drained actor taker asking dead (parcel_of parcel) (found (model.mail (parcel_of parcel)) e)))))
+          is
+          (tables-call m user actor what (takes asking dead poller) refl (set desks actor desk') (set hosts user host') _ host' (length-set desks actor desk')
+          (λ node node_below apart. elim (cases_Bool (actor == node)) [
+            | inl same ↦ subst (λ n. desk_at (set desks actor desk') n ≡ (now what).node_record n) (eqb-true actor node same)
+                (get_or-set_same desks actor desk' blank_record taker-below ∙ own
+                ∙ sym (acted.took-own parts machine h sound.lawful user cube taking.holds actor asking dead poller taking.is (given_in heard) offer))
+            | inr differ ↦ get_or-set_other desks actor node desk' blank_record (differs actor node differ) ∙ sound.tables.desk_is node node_below
+                ∙ sym (acted.took-other parts machine h sound.lawful user cube taking.holds actor asking dead poller taking.is (given_in heard) offer node apart differ)
+          ])
+          (host-set hosts user host' host' below refl)
+          (acted.took-cube parts machine h sound.lawful user cube taking.holds actor asking dead poller taking.is (given_in heard) offer)
+          (host_changed ∙ ap (λ (host : HostRecord). record host { dispatched = if is_work (given_in heard) then host.dispatched + 1 else host.dispatched }) host_was))
 
-  module _ (pid : ℕ) (to : Place) (fits : IsFittingCall home clean parts h who (call.Say (say.Kill pid to))) where
-    killing : IsIn h who.family (IsCallOf parts h who.actor (kills pid to))
-    killing = is-in h user (IsCallOf parts h actor (kills pid to)) fits.fits.1
+      -- the same, step by step
+      pub took-by : {h' : List Entry} {desk between desk' : NodeRecord} {host host' : HostRecord} (heard : Hearing) {used work idle : Bool} {given : TakeResult} → desk ≡ get_or desks who.actor desk
+          → host ≡ get_or hosts who.family host → used ≡ (host.dispatched == host.armed) → given ≡ given_in heard → work ≡ is_work given → idle ≡ is_idle given
+          → given_in heard ≡ offer_of (find (is_eligible asking dead) desk.waiting) poller used → item_in heard ≡ item_for used asking dead desk.waiting → IsTrue (is_of_take heard)
+          → between ≡ record desk { waiting = items_left used asking dead desk.waiting } → desk' ≡ record between { mark = record { idle = idle; asking = asking; dead = dead } }
+          → host' ≡ record host { dispatched = if work then host.dispatched + 1 else host.dispatched }
+          → h' ≡ h ++ entry_of who.family who.actor (entry.Take asking dead poller given) ∷ []
+          → IsDone home clean m h' holding (set desks who.actor desk') (set hosts who.family host') who (call.Say (say.Take asking dead poller)) (reply.Heard heard)
+      took-by {h'} {desk} {between} {desk'} {host} {host'} heard {used} {work} {idle} {given} read_desk read_host used_is given_is work_is idle_is offer item kind between_is desk_is host_is is =
+          let idle_now : idle ≡ is_idle (given_in heard) = idle_is ∙ ap is_idle given_is in
+          let work_now : work ≡ is_work (given_in heard) = work_is ∙ ap is_work given_is in
+          took desk desk' host host' heard read_desk read_host (offer ∙ ap (λ used. offer_of (find (is_eligible asking dead) desk.waiting) poller used) used_is)
+          (item ∙ ap (λ used. item_for used asking dead desk.waiting) used_is) kind
+          (desk_is ∙ ap (λ (between : NodeRecord). record between { mark = record { idle = idle; asking = asking; dead = dead } }) between_is
+          ∙ (λ i. record desk { waiting = items_left (used_is i) asking dead desk.waiting; mark = record { idle = idle_now i; asking = asking; dead = dead } }))
+          (host_is ∙ (λ i. record host { dispatched = if work_now i then host.dispatched + 1 else host.dispatched }))
+          (is ∙ ap (λ given. h ++ entry_of who.family who.actor (entry.Take asking dead poller given) ∷ []) given_is)
 
-    kill_place : (to.node < 2 ^ killing.cube.grant.dim) × (to.pid < process_count)
-    kill_place =
-        place_parts killing.cube.grant.dim to (call-places parts sound.machine h sound.lawful user killing.cube killing.holds actor (kills pid to) killing.is)
+      -- work is given only where dispatches are left
+      pub work-left : (items : List model.Item) (heard : Hearing) {used used' work : Bool} {given : TakeResult} → used ≡ used' → given ≡ given_in heard → work ≡ is_work given
+          → given_in heard ≡ offer_of (find (is_eligible asking dead) items) poller used → work ≡ true → used' ≡ false
+      work-left items heard {used} {used'} {work} {given} used_is given_is work_is offer works =
+          sym used_is ∙ no_work (find (is_eligible asking dead) items) poller used (ap is_work (sym (given_is ∙ offer)) ∙ sym work_is ∙ works)
 
-    was_found : (found : KillFound) → found ≡ kill_found (desk_at desks (node_of killing.cube.grant.sub to.node)) to.pid
-        → kill_found ((after h).node_record (node_of killing.cube.grant.sub to.node)) to.pid ≡ found
-    was_found found is = sym (is ∙ ap (λ (kept : NodeRecord). kill_found kept to.pid) (kept_at killing.cube killing.holds to kill_place))
+    -- ---- spawns and kills
 
-    kill_said : (found : KillFound) → found ≡ kill_found (desk_at desks (node_of killing.cube.grant.sub to.node)) to.pid
-        → answered parts (after h) who.family who.actor (request_of {N = N} (call.Say (say.Kill pid to))) ≡ Some (entry.Kill pid (place_of killing.cube to) found)
-    kill_said found is =
-        call-answered (after h) killing.cube actor parts user (kills pid to) killing.holds
-        ∙ ap Some (acted.killed-as parts sound.machine h sound.lawful user killing.cube killing.holds actor pid to killing.is found (was_found found is))
+    module _ {pid image : ℕ} {to : Place} (fits : IsFittingCall home clean parts h who (call.Say (say.Spawn pid image to))) where
+      pub spawning : IsIn h who.family (IsCallOf parts h who.actor (spawns pid image to))
+      spawning = is-in h user (IsCallOf parts h actor (spawns pid image to)) fits.fits.1
 
-    unchanged : (b : Bool) (kept : NodeRecord) → kept ≡ (if b then kept else kept)
-    unchanged true kept = refl
-    unchanged false kept = refl
+      spawn_place : (to.node < 2 ^ spawning.cube.grant.dim) × (to.pid < process_count)
+      spawn_place =
+          place_parts spawning.cube.grant.dim to (call-places parts sound.machine h sound.lawful user spawning.cube spawning.holds actor (spawns pid image to) spawning.is)
 
-    kill_each : (found : KillFound) → kill_found ((after h).node_record (node_of killing.cube.grant.sub to.node)) to.pid ≡ found → (node : ℕ) → (node == HOST) ≡ false
-        → (now (entry.Kill pid (place_of killing.cube to) found)).node_record node
-        ≡ at_node who.actor with_busy_mark node (at_node (node_of killing.cube.grant.sub to.node) (λ kept. with_kill found to.pid kept) node ((after h).node_record node))
-    kill_each Unused e node apart =
-        acted.kill_unused-each parts sound.machine h sound.lawful user killing.cube killing.holds actor pid to killing.is e node apart
-        ∙ busy-same actor node ((after h).node_record node)
-        ∙ ap (at_node actor with_busy_mark node) (unchanged (node_of killing.cube.grant.sub to.node == node) ((after h).node_record node))
-    kill_each Already e node apart =
-        acted.kill_already-each parts sound.machine h sound.lawful user killing.cube killing.holds actor pid to killing.is e node apart
-        ∙ busy-same actor node ((after h).node_record node)
-        ∙ ap (at_node actor with_busy_mark node) (unchanged (node_of killing.cube.grant.sub to.node == node) ((after h).node_record node))
-    kill_each Killed e node apart =
-        elim (cases_Bool (node_of killing.cube.grant.sub to.node == node)) [
-          | inl here ↦
-              subst (λ n. (now (entry.Kill pid (place_of killing.cube to) Killed)).node_record n
-              ≡ at_node actor with_busy_mark n (at_node (node_of killing.cube.grant.sub to.node) (λ kept. with_kill Killed to.pid kept) n ((after h).node_record n)))
-              (eqb-true (node_of killing.cube.grant.sub to.node) node here)
-              (acted.killed-here parts sound.machine h sound.lawful user killing.cube killing.holds actor pid to killing.is e
-              ∙ killed_busy (actor == node_of killing.cube.grant.sub to.node) (node_of killing.cube.grant.sub to.node == node_of killing.cube.grant.sub to.node)
-              (eq-eqb (node_of killing.cube.grant.sub to.node) (node_of killing.cube.grant.sub to.node) refl) ((after h).node_record (node_of killing.cube.grant.sub to.node)))
-          | inr away ↦
-              acted.killed-away parts sound.machine h sound.lawful user killing.cube killing.holds actor pid to killing.is Killed e node apart away
-              ∙ busy-same actor node ((after h).node_record node)
-              ∙ ap (at_node actor with_busy_mark node) (sym (rw away refl))
-        ]
-      where
-        killed_busy : (own here : Bool) → here ≡ true → (kept : NodeRecord)
-            → record kept {
-              waiting = kept.waiting ++ model.kill to.pid ∷ [];
-              killed = kept.killed ++ to.pid ∷ [];
-              mark = if own then record kept.mark { idle = false } else kept.mark;
-            } ≡ (if own then with_busy_mark (if here then with_kill Killed to.pid kept else kept) else (if here then with_kill Killed to.pid kept else kept))
-        killed_busy true true e kept = refl
-        killed_busy false true e kept = refl
-        killed_busy own false e kept = absurd (cc)
+      was_fresh : (fresh : Bool) → fresh ≡ not (is_among to.pid (desk_at desks (node_of spawning.cube.grant.sub to.node)).spawned)
+          → not (is_among to.pid ((after h).node_record (node_of spawning.cube.grant.sub to.node)).spawned) ≡ fresh
+      was_fresh fresh is = sym (is ∙ ap (λ (kept : NodeRecord). not (is_among to.pid kept.spawned)) (kept_at spawning.cube spawning.holds to spawn_place))
 
-    pub killed : (grant : Grant) (at : Place) (found : KillFound) (heard : Heard) (mid desks' : List NodeRecord) → daemon.held_by holding who.family ≡ Some grant → at ≡ place_outward grant.sub to
-        → found ≡ kill_found (desk_at desks at.node) at.pid
-        → AreChanged desks mid (at_node at.node (λ kept. with_kill found at.pid kept)) → AreChanged mid desks' (at_node who.actor with_busy_mark)
-        → heard ≡ heard_of_kill found
-        → h' ≡ h ++ entry_of who.family who.actor (entry.Kill pid at found) ∷ []
-        → IsDone home clean parts h h' holding desks' hosts who (call.Say (say.Kill pid to)) (reply.Heard heard)
-    killed grant at found heard mid desks' known at_outward =
-        let cube = killing.cube in
-        let P : Place → Type 0 = λ at. found ≡ kill_found (desk_at desks at.node) at.pid
-        → AreChanged desks mid (at_node at.node (λ kept. with_kill found at.pid kept)) → AreChanged mid desks' (at_node who.actor with_busy_mark)
-        → heard ≡ heard_of_kill found → h' ≡ h ++ entry_of who.family who.actor (entry.Kill pid at found) ∷ []
-        → IsDone home clean parts h h' holding desks' hosts who (call.Say (say.Kill pid to)) (reply.Heard heard) in
-        let done : P (place_of cube to) = λ found_is first second heard_is is.
-        let what = entry.Kill pid (place_of cube to) found in
-        let change : ℕ → NodeRecord → NodeRecord = λ node kept. at_node who.actor with_busy_mark node (at_node (node_of cube.grant.sub to.node) (λ kept. with_kill found to.pid kept) node kept) in
-        stays (call.Say (say.Kill pid to)) (reply.Heard heard) what (kills pid (place_of cube to)) refl fits (kill_said found found_is) cube killing.holds desks' change
-        (chained desks mid desks' (at_node (node_of cube.grant.sub to.node) (λ kept. with_kill found to.pid kept)) (at_node who.actor with_busy_mark) first second)
-        (kill_each found (was_found found found_is))
-        (acted.killed-cube parts sound.machine h sound.lawful user cube killing.holds actor pid to killing.is found (was_found found found_is))
-        (if-held (after h) user (λ cube. IsHeard {N = N} (items_for (after h) cube actor) what (reply.Heard heard)) cube killing.holds heard_is) is in
-        subst P (sym (at_is cube killing.holds to kill_place grant known at at_outward)) done
+      spawn_said : (fresh : Bool) → fresh ≡ not (is_among to.pid (desk_at desks (node_of spawning.cube.grant.sub to.node)).spawned)
+          → what_of_request parts (after h) who.family who.actor (request_of {N = N} (call.Say (say.Spawn pid image to))) ≡ Some (entry.Spawn pid image (place_of spawning.cube to) fresh)
+      spawn_said fresh is =
+          call-answered (after h) spawning.cube actor parts user (spawns pid image to) spawning.holds
+          ∙ ap Some (acted.spawned-as parts sound.machine h sound.lawful user spawning.cube spawning.holds actor pid image to spawning.is fresh (was_fresh fresh is))
 
-    pub kill-below : (grant : Grant) → daemon.held_by holding who.family ≡ Some grant → to.node < 2 ^ grant.dim
-    kill-below grant known = number_below killing.cube killing.holds to kill_place grant known
+      spawn_each : (fresh : Bool) → not (is_among to.pid ((after h).node_record (node_of spawning.cube.grant.sub to.node)).spawned) ≡ fresh → (node : ℕ) → (node == HOST) ≡ false
+          → (now (entry.Spawn pid image (place_of spawning.cube to) fresh)).node_record node
+          ≡ at_node who.actor with_busy_mark node (at_node (node_of spawning.cube.grant.sub to.node) (λ kept. if fresh then with_start to.pid image kept else kept) node ((after h).node_record node))
+      spawn_each false e =
+          same_at (entry.Spawn pid image (place_of spawning.cube to) false) (node_of spawning.cube.grant.sub to.node)
+          (acted.spawn_used-each parts sound.machine h sound.lawful user spawning.cube spawning.holds actor pid image to spawning.is e)
+      spawn_each true e =
+          changed_at (entry.Spawn pid image (place_of spawning.cube to) true) (node_of spawning.cube.grant.sub to.node) (with_start to.pid image)
+          (acted.spawned-here parts sound.machine h sound.lawful user spawning.cube spawning.holds actor pid image to spawning.is e)
+          (acted.spawned-away parts sound.machine h sound.lawful user spawning.cube spawning.holds actor pid image to spawning.is true e)
 
-    module _ (grant : Grant) (at : Place) (known : daemon.held_by holding who.family ≡ Some grant) (at_outward : at ≡ place_outward grant.sub to) where
-      pub kill-desk : HasDesk desks at
-      kill-desk = has_desk killing.cube killing.holds to kill_place grant known at at_outward
+      pub spawned : {h' : List Entry} {grant : Grant} {at : Place} {fresh : Bool} {told : Hearing} {mid desks' : List NodeRecord} → daemon.held_by holding who.family ≡ Some grant → at ≡ place_outward grant.sub to
+          → fresh ≡ not (is_among at.pid (desk_at desks at.node).spawned)
+          → AreChanged desks mid (at_node at.node (λ kept. if fresh then with_start at.pid image kept else kept)) → AreChanged mid desks' (at_node who.actor with_busy_mark)
+          → told ≡ (if fresh then heard.Spawned else heard.Used)
+          → h' ≡ h ++ entry_of who.family who.actor (entry.Spawn pid image at fresh) ∷ []
+          → IsDone home clean m h' holding desks' hosts who (call.Say (say.Spawn pid image to)) (reply.Heard told)
+      spawned {h'} {grant} {at} {fresh} {told} {mid} {desks'} known at_outward =
+          let cube = spawning.cube in
+          let P : Place → Type 0 = λ at. fresh ≡ not (is_among at.pid (desk_at desks at.node).spawned)
+          → AreChanged desks mid (at_node at.node (λ kept. if fresh then with_start at.pid image kept else kept)) → AreChanged mid desks' (at_node who.actor with_busy_mark)
+          → told ≡ (if fresh then heard.Spawned else heard.Used) → h' ≡ h ++ entry_of who.family who.actor (entry.Spawn pid image at fresh) ∷ []
+          → IsDone home clean m h' holding desks' hosts who (call.Say (say.Spawn pid image to)) (reply.Heard told) in
+          let done : P (place_of cube to) = λ fresh_is first second told_is is.
+          let what = entry.Spawn pid image (place_of cube to) fresh in
+          let change : ℕ → NodeRecord → NodeRecord = λ node kept. at_node who.actor with_busy_mark node (at_node (node_of cube.grant.sub to.node) (λ kept. if fresh then with_start to.pid image kept else kept) node kept) in
+          stays (reply.Heard told) what (spawns pid image (place_of cube to)) refl fits (spawn_said fresh fresh_is) cube spawning.holds change
+          (chained desks mid desks' (at_node (node_of cube.grant.sub to.node) (λ kept. if fresh then with_start to.pid image kept else kept)) (at_node who.actor with_busy_mark) first second)
+          (spawn_each fresh (was_fresh fresh fresh_is))
+          (acted.spawned-cube parts sound.machine h sound.lawful user cube spawning.holds actor pid image to spawning.is fresh (was_fresh fresh fresh_is))
+          (if-held (after h) user (λ cube. IsHeard {N = N} (items_for (after h) cube actor) what (reply.Heard told)) cube spawning.holds told_is) is in
+          subst P (sym (at_is cube spawning.holds to spawn_place grant known at at_outward)) done
 
-      pub kill-room : kill_found (desk_at desks at.node) at.pid ≡ Killed → HasKillRoom (desk_at desks at.node)
-      kill-room = subst (λ (at : Place). kill_found (desk_at desks at.node) at.pid ≡ Killed → HasKillRoom (desk_at desks at.node)) (sym (at_is killing.cube killing.holds to kill_place grant known at at_outward)) (λ found. has_room found)
-        where
-          has_room : kill_found (desk_at desks (node_of killing.cube.grant.sub to.node)) to.pid ≡ Killed → HasKillRoom (desk_at desks (node_of killing.cube.grant.sub to.node))
-          has_room found =
-              let n = node_of killing.cube.grant.sub to.node in
-              let what = entry.Kill pid (place_of killing.cube to) Killed in
-              let lawful = more-lawful parts h holding desks hosts sound home clean who (call.Say (say.Kill pid to)) fits few what (kill_said Killed (sym found)) in
-              let small = node-limits parts (h ++ entry_of who.family who.actor what ∷ []) sound.machine lawful n in
-              let is = acted.killed-here parts sound.machine h sound.lawful user killing.cube killing.holds actor pid to killing.is (was_found Killed (sym found)) in
-              let kept = (after h).node_record n in
-              let waits : length kept.waiting + 1 ≤ node_room =
-              omega (arith, small.waiting, ap (λ (kept : NodeRecord). length kept.waiting) is, length-append kept.waiting (model.kill to.pid ∷ []), queue_room_lem, node_room_lem) in
-              let ids : length kept.killed + 1 ≤ process_count =
-              omega (arith, small.killed, ap (λ (kept : NodeRecord). length kept.killed) is, length-append kept.killed (to.pid ∷ [])) in
-              subst HasKillRoom (sym (kept_at killing.cube killing.holds to kill_place)) (omega (arith, waits), omega (arith, ids))
+      -- there is a desk for the process, and room on it
+      module _ {grant : Grant} {at : Place} (known : daemon.held_by holding who.family ≡ Some grant) (at_outward : at ≡ place_outward grant.sub to) where
+        pub spawn-desk : HasDesk desks at
+        spawn-desk = has_desk spawning.cube spawning.holds to spawn_place grant known at at_outward
+
+        pub spawn-room : not (is_among at.pid (desk_at desks at.node).spawned) ≡ true → HasStartRoom (desk_at desks at.node)
+        spawn-room = subst (λ (at : Place). not (is_among at.pid (desk_at desks at.node).spawned) ≡ true → HasStartRoom (desk_at desks at.node)) (sym (at_is spawning.cube spawning.holds to spawn_place grant known at at_outward)) (λ fresh. has_room fresh)
+          where
+            has_room : not (is_among to.pid (desk_at desks (node_of spawning.cube.grant.sub to.node)).spawned) ≡ true → HasStartRoom (desk_at desks (node_of spawning.cube.grant.sub to.node))
+            has_room fresh =
+                let n = node_of spawning.cube.grant.sub to.node in
+                let what = entry.Spawn pid image (place_of spawning.cube to) true in
+                let lawful = more-lawful m home clean who (call.Say (say.Spawn pid image to)) fits what (spawn_said true (sym fresh)) in
+                let small = node-limits parts (h ++ entry_of who.family who.actor what ∷ []) sound.machine lawful n in
+                let is = acted.spawned-here parts sound.machine h sound.lawful user spawning.cube spawning.holds actor pid image to spawning.is (was_fresh true (sym fresh)) in
+                let kept = (after h).node_record n in
+                let waits : length kept.waiting + 1 ≤ node_room =
+                omega (arith, small.waiting, ap (λ (kept : NodeRecord). length kept.waiting) is, length-append kept.waiting (model.start to.pid image ∷ []), queue_room_lem, node_room_lem) in
+                let ids : length kept.spawned + 1 ≤ process_count =
+                omega (arith, small.spawned, ap (λ (kept : NodeRecord). length kept.spawned) is, length-append kept.spawned (to.pid ∷ [])) in
+                subst HasStartRoom (sym (kept_at spawning.cube spawning.holds to spawn_place)) (omega (arith, waits), omega (arith, ids))
+
+      pub spawn-below : {grant : Grant} → daemon.held_by holding who.family ≡ Some grant → to.node < 2 ^ grant.dim
+      spawn-below {grant} known = number_below spawning.cube spawning.holds to spawn_place grant known
+
+    module _ {pid : ℕ} {to : Place} (fits : IsFittingCall home clean parts h who (call.Say (say.Kill pid to))) where
+      pub killing : IsIn h who.family (IsCallOf parts h who.actor (kills pid to))
+      killing = is-in h user (IsCallOf parts h actor (kills pid to)) fits.fits.1
+
+      kill_place : (to.node < 2 ^ killing.cube.grant.dim) × (to.pid < process_count)
+      kill_place =
+          place_parts killing.cube.grant.dim to (call-places parts sound.machine h sound.lawful user killing.cube killing.holds actor (kills pid to) killing.is)
+
+      was_found : (found : KillFound) → found ≡ kill_found (desk_at desks (node_of killing.cube.grant.sub to.node)) to.pid
+          → kill_found ((after h).node_record (node_of killing.cube.grant.sub to.node)) to.pid ≡ found
+      was_found found is = sym (is ∙ ap (λ (kept : NodeRecord). kill_found kept to.pid) (kept_at killing.cube killing.holds to kill_place))
+
+      kill_said : (found : KillFound) → found ≡ kill_found (desk_at desks (node_of killing.cube.grant.sub to.node)) to.pid
+          → what_of_request parts (after h) who.family who.actor (request_of {N = N} (call.Say (say.Kill pid to))) ≡ Some (entry.Kill pid (place_of killing.cube to) found)
+      kill_said found is =
+          call-answered (after h) killing.cube actor parts user (kills pid to) killing.holds
+          ∙ ap Some (acted.killed-as parts sound.machine h sound.lawful user killing.cube killing.holds actor pid to killing.is found (was_found found is))
+
+      kill_each : (found : KillFound) → kill_found ((after h).node_record (node_of killing.cube.grant.sub to.node)) to.pid ≡ found → (node : ℕ) → (node == HOST) ≡ false
+          → (now (entry.Kill pid (place_of killing.cube to) found)).node_record node
+          ≡ at_node who.actor with_busy_mark node (at_node (node_of killing.cube.grant.sub to.node) (λ kept. with_kill found to.pid kept) node ((after h).node_record node))
+      kill_each Unused e =
+          same_at (entry.Kill pid (place_of killing.cube to) Unused) (node_of killing.cube.grant.sub to.node)
+          (acted.kill_unused-each parts sound.machine h sound.lawful user killing.cube killing.holds actor pid to killing.is e)
+      kill_each Already e =
+          same_at (entry.Kill pid (place_of killing.cube to) Already) (node_of killing.cube.grant.sub to.node)
+          (acted.kill_already-each parts sound.machine h sound.lawful user killing.cube killing.holds actor pid to killing.is e)
+      kill_each Killed e =
+          changed_at (entry.Kill pid (place_of killing.cube to) Killed) (node_of killing.cube.grant.sub to.node) (with_kill Killed to.pid)
+          (acted.killed-here parts sound.machine h sound.lawful user killing.cube killing.holds actor pid to killing.is e)
+          (acted.killed-away parts sound.machine h sound.lawful user killing.cube killing.holds actor pid to killing.is Killed e)
+
+      pub killed : {h' : List Entry} {grant : Grant} {at : Place} {found : KillFound} {heard : Hearing} {mid desks' : List NodeRecord} → daemon.held_by holding who.family ≡ Some grant → at ≡ place_outward grant.sub to
+          → found ≡ kill_found (desk_at desks at.node) at.pid
+          → AreChanged desks mid (at_node at.node (λ kept. with_kill found at.pid kept)) → AreChanged mid desks' (at_node who.actor with_busy_mark)
+          → heard ≡ heard_of_kill found
+          → h' ≡ h ++ entry_of who.family who.actor (entry.Kill pid at found) ∷ []
+          → IsDone home clean m h' holding desks' hosts who (call.Say (say.Kill pid to)) (reply.Heard heard)
+      killed {h'} {grant} {at} {found} {heard} {mid} {desks'} known at_outward =
+          let cube = killing.cube in
+          let P : Place → Type 0 = λ at. found ≡ kill_found (desk_at desks at.node) at.pid
+          → AreChanged desks mid (at_node at.node (λ kept. with_kill found at.pid kept)) → AreChanged mid desks' (at_node who.actor with_busy_mark)
+          → heard ≡ heard_of_kill found → h' ≡ h ++ entry_of who.family who.actor (entry.Kill pid at found) ∷ []
+          → IsDone home clean m h' holding desks' hosts who (call.Say (say.Kill pid to)) (reply.Heard heard) in
+          let done : P (place_of cube to) = λ found_is first second heard_is is.
+          let what = entry.Kill pid (place_of cube to) found in
+          let change : ℕ → NodeRecord → NodeRecord = λ node kept. at_node who.actor with_busy_mark node (at_node (node_of cube.grant.sub to.node) (λ kept. with_kill found to.pid kept) node kept) in
+          stays (reply.Heard heard) what (kills pid (place_of cube to)) refl fits (kill_said found found_is) cube killing.holds change
+          (chained desks mid desks' (at_node (node_of cube.grant.sub to.node) (λ kept. with_kill found to.pid kept)) (at_node who.actor with_busy_mark) first second)
+          (kill_each found (was_found found found_is))
+          (acted.killed-cube parts sound.machine h sound.lawful user cube killing.holds actor pid to killing.is found (was_found found found_is))
+          (if-held (after h) user (λ cube. IsHeard {N = N} (items_for (after h) cube actor) what (reply.Heard heard)) cube killing.holds heard_is) is in
+          subst P (sym (at_is cube killing.holds to kill_place grant known at at_outward)) done
+
+      pub kill-below : {grant : Grant} → daemon.held_by holding who.family ≡ Some grant → to.node < 2 ^ grant.dim
+      kill-below {grant} known = number_below killing.cube killing.holds to kill_place grant known
+
+      module _ {grant : Grant} {at : Place} (known : daemon.held_by holding who.family ≡ Some grant) (at_outward : at ≡ place_outward grant.sub to) where
+        pub kill-desk : HasDesk desks at
+        kill-desk = has_desk killing.cube killing.holds to kill_place grant known at at_outward
+
+        pub kill-room : kill_found (desk_at desks at.node) at.pid ≡ Killed → HasKillRoom (desk_at desks at.node)
+        kill-room = subst (λ (at : Place). kill_found (desk_at desks at.node) at.pid ≡ Killed → HasKillRoom (desk_at desks at.node)) (sym (at_is killing.cube killing.holds to kill_place grant known at at_outward)) (λ found. has_room found)
+          where
+            has_room : kill_found (desk_at desks (node_of killing.cube.grant.sub to.node)) to.pid ≡ Killed → HasKillRoom (desk_at desks (node_of killing.cube.grant.sub to.node))
+            has_room found =
+                let n = node_of killing.cube.grant.sub to.node in
+                let what = entry.Kill pid (place_of killing.cube to) Killed in
+                let lawful = more-lawful m home clean who (call.Say (say.Kill pid to)) fits what (kill_said Killed (sym found)) in
+                let small = node-limits parts (h ++ entry_of who.family who.actor what ∷ []) sound.machine lawful n in
+                let is = acted.killed-here parts sound.machine h sound.lawful user killing.cube killing.holds actor pid to killing.is (was_found Killed (sym found)) in
+                let kept = (after h).node_record n in
+                let waits : length kept.waiting + 1 ≤ node_room =
+                omega (arith, small.waiting, ap (λ (kept : NodeRecord). length kept.waiting) is, length-append kept.waiting (model.kill to.pid ∷ []), queue_room_lem, node_room_lem) in
+                let ids : length kept.killed + 1 ≤ process_count =
+                omega (arith, small.killed, ap (λ (kept : NodeRecord). length kept.killed) is, length-append kept.killed (to.pid ∷ [])) in
+                subst HasKillRoom (sym (kept_at killing.cube killing.holds to kill_place)) (omega (arith, waits), omega (arith, ids))

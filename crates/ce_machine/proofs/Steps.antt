@@ -11,7 +11,7 @@ use Rattle.ce_model.specs.Trace.{NodeRecord, blank_record}
 use Rattle.ce_model.specs.Answers.{call_of}
 use Rattle.ce_model.specs.Subcubes.{extract, node_of, is_inside}
 use Rattle.ce_model.proofs.Subcubes.{node_of-within, node_of-extract}
-use Rattle.ce_model.specs.Machine.{MachineParts, MachineState, HeldCube, held_by, held_grants, after, answered, IsCallOf, HasHeldCube, IsLawful}
+use Rattle.ce_model.specs.Machine.{MachineParts, MachineState, HeldCube, held_by, held_grants, after, what_of_request, IsCallOf, HasHeldCube, IsLawful}
 use Rattle.ce_model.specs.Renaming.{CubeGrant}
 use Rattle.ce_solo.proofs.Renaming.Grants.{few_nodes}
 use Rattle.ce_solo.proofs.Projection.Numbers.{IsPlaced}
@@ -21,7 +21,7 @@ use Rattle.ce_lock.specs.declared.who.Who.{Who}
 use Rattle.ce_daemon.specs.declared.grant.Grant.{Grant}
 use Rattle.ce_daemon.specs.Holding.{Holding}
 use Rattle.ce_daemon.specs.Holding as daemon
-use Rattle.ce_daemon.specs.Peeks.{numbered}
+use Rattle.ce_daemon.specs.Peeks.{numbered_grant}
 use Rattle.ce_machine.specs.declared.call.Call.{Call}
 use Rattle.ce_machine.specs.declared.call.Reply.{Reply}
 use Rattle.ce_machine.specs.Rooms.{greatest_history, greatest_history_lem}
@@ -85,7 +85,25 @@ if-held state user P cube holds is = subst (λ (held : Option HeldCube). IsSomeA
 
 -- ---- a machine
 
-module _ (parts : MachineParts) (h : List Entry) (holding : Holding) (desks : List NodeRecord) (hosts : List HostRecord) (sound : IsSoundMachine parts h holding desks hosts) where
+-- a sound machine with room for an entry
+pub record SoundMachine : Type 0 where
+  pub parts : MachineParts
+  pub history : List Entry
+  pub holding : Holding
+  pub desks : List NodeRecord
+  pub hosts : List HostRecord
+  pub sound : IsSoundMachine parts history holding desks hosts
+  pub few : length history < greatest_history
+
+-- as the code of a call has it at hand
+abbrev pub begun : {parts : MachineParts} {h : List Entry} {holding : Holding} {desks : List NodeRecord} {hosts : List HostRecord} → IsSoundMachine parts h holding desks hosts
+    → length h < greatest_history → SoundMachine
+begun {parts} {h} {holding} {desks} {hosts} sound few =
+    record { parts = parts; history = h; holding = holding; desks = desks; hosts = hosts; sound = sound; few = few }
+
+module _ (m : SoundMachine) where
+  open m use {parts, history as h, holding, desks, hosts, sound, few}
+
   pub node-below : (node : ℕ) → node < 2 ^ parts.dim → (node == HOST) ≡ false
   node-below node below = ne_eqb node HOST (λ e. omega (arith, few_nodes parts.dim sound.machine.dim))
 
@@ -98,7 +116,7 @@ module _ (parts : MachineParts) (h : List Entry) (holding : Holding) (desks : Li
 
   same_count : (state' : MachineState) → state'.grant_count ≡ (after h).grant_count → held_grants state' ≡ held_grants (after h) → holding ≡ holding_of parts state'
   same_count state' count grants =
-      sound.tables.holding_is ∙ sym (λ i. record { dim = parts.dim; count = count i; held = map numbered (grants i) })
+      sound.tables.holding_is ∙ sym (λ i. record { dim = parts.dim; count = count i; held = map numbered_grant (grants i) })
 
   pub few-desks : length desks ≤ 64
   few-desks = omega (arith, sound.tables.desk_count, few_nodes parts.dim sound.machine.dim)
@@ -192,8 +210,8 @@ module _ (parts : MachineParts) (h : List Entry) (holding : Holding) (desks : Li
 
   -- ---- a call is answered
 
-  module _ {N : Type 0} (home : N → ℕ) (clean : N → Type 0) (who : Who) (call : Call N) (fits : IsFittingCall home clean parts h who call) (few : length h < greatest_history)
-      (what : What) (answer : answered parts (after h) who.family who.actor (request_of call) ≡ Some what) where
+  module _ {N : Type 0} (home : N → ℕ) (clean : N → Type 0) (who : Who) (call : Call N) (fits : IsFittingCall home clean parts h who call)
+      (what : What) (answer : what_of_request parts (after h) who.family who.actor (request_of call) ≡ Some what) where
     abbrev made : Entry
     made = entry_of who.family who.actor what
 
@@ -220,27 +238,31 @@ module _ (parts : MachineParts) (h : List Entry) (holding : Holding) (desks : Li
         few = omega (arith, few, greatest_history_lem, ap length is, length-append h (made ∷ []));
       }
 
--- the machine is sound, and has answered the call
-pub record IsDone {N : Type 0} (home : N → ℕ) (clean : N → Type 0) (parts : MachineParts) (h h' : List Entry) (holding' : Holding) (desks' : List NodeRecord)
+-- the machine is sound, whose dimension is the daemon's, and has answered the call
+pub record IsDone {N : Type 0} (home : N → ℕ) (clean : N → Type 0) (m : SoundMachine) (h' : List Entry) (holding' : Holding) (desks' : List NodeRecord)
     (hosts' : List HostRecord) (who : Who) (call : Call N) (reply : Reply N) : Type 0 where
-  pub sound : IsSoundMachine parts h' holding' desks' hosts'
-  pub answered : HasAnswered home clean (record { parts = parts; history = h }) (record { parts = parts; history = h' }) who call reply
+  pub sound : IsSoundMachine (record m.parts { dim = holding'.dim }) h' holding' desks' hosts'
+  pub answered : HasAnswered home clean (record { parts = m.parts; history = m.history }) (record { parts = record m.parts { dim = holding'.dim }; history = h' }) who call reply
 
-module _ {N : Type 0} (home : N → ℕ) (clean : N → Type 0) (parts : MachineParts) (h : List Entry) (holding : Holding) (desks : List NodeRecord) (hosts : List HostRecord)
-    (sound : IsSoundMachine parts h holding desks hosts) (few : length h < greatest_history) (who : Who) (h' : List Entry) where
-  pub done-with : (call : Call N) (reply : Reply N) (what : What) → IsFittingCall home clean parts h who call → answered parts (after h) who.family who.actor (request_of call) ≡ Some what
-      → IsReplyTo home clean parts (after h) who.family who.actor what reply → h' ≡ h ++ entry_of who.family who.actor what ∷ []
-      → (holding' : Holding) (desks' : List NodeRecord) (hosts' : List HostRecord) → AreTables parts (next h (entry_of who.family who.actor what)) holding' desks' hosts'
-      → IsDone home clean parts h h' holding' desks' hosts' who call reply
-  done-with call reply what fits answer reply_is is holding' desks' hosts' tables = record {
-    sound = sound-more parts h holding desks hosts sound home clean who call fits few what answer h' is holding' desks' hosts' tables;
-    answered = has-answered parts h holding desks hosts sound home clean who call fits few what answer h' is reply reply_is;
-  }
+module _ (m : SoundMachine) (who : Who) {N : Type 0} {home : N → ℕ} {clean : N → Type 0} where
+  open m use {parts, history as h}
+
+  pub done-with : {h' : List Entry} {call : Call N} (reply : Reply N) (what : What) → IsFittingCall home clean parts h who call
+      → what_of_request parts (after h) who.family who.actor (request_of call) ≡ Some what → IsReplyTo home clean parts (after h) who.family who.actor what reply
+      → h' ≡ h ++ entry_of who.family who.actor what ∷ [] → {holding' : Holding} {desks' : List NodeRecord} {hosts' : List HostRecord}
+      → AreTables parts (next h (entry_of who.family who.actor what)) holding' desks' hosts' → IsDone home clean m h' holding' desks' hosts' who call reply
+  done-with {h'} {call} reply what fits answer reply_is is {holding'} {desks'} {hosts'} tables =
+      let same : parts.dim ≡ holding'.dim = sym (ap (λ (held : Holding). held.dim) tables.holding_is) in
+      record {
+        sound = subst (λ dim. IsSoundMachine (record parts { dim = dim }) h' holding' desks' hosts') same (sound-more m home clean who call fits what answer h' is holding' desks' hosts' tables);
+        answered = subst (λ dim. HasAnswered home clean (record { parts = parts; history = h }) (record { parts = record parts { dim = dim }; history = h' }) who call reply) same
+            (has-answered m home clean who call fits what answer h' is reply reply_is);
+      }
 
 -- ---- what the code has at hand
 
-pub history-is : (h h1 h2 : List Entry) (e e' : Entry) → h2 ≡ h1 ++ e ∷ [] → h1 ≡ h → e ≡ e' → h2 ≡ h ++ e' ∷ []
-history-is h h1 h2 e e' pushed same made = pushed ∙ (λ i. same i ++ made i ∷ [])
+pub history-is : {h h1 h2 : List Entry} (e : Entry) → h2 ≡ h1 ++ e ∷ [] → h1 ≡ h → h2 ≡ h ++ e ∷ []
+history-is e pushed same = pushed ∙ ap (λ l. l ++ e ∷ []) same
 
 -- blocks behind others, of which there were none
 pub blocks-joined : {X : Type 0} (none one two a b : List X) → none ≡ [] → one ≡ none ++ a → two ≡ one ++ b → two ≡ a ++ b
@@ -249,12 +271,10 @@ blocks-joined none one two a b none_is one_is two_is = two_is ∙ ap (λ l. l ++
 pub joined-none : {X : Type 0} (none all a : List X) → none ≡ [] → all ≡ none ++ a → all ≡ a
 joined-none none all a none_is is = is ∙ ap (λ l. l ++ a) none_is
 
-pub few-now : (h h1 : List Entry) → h1 ≡ h → length h1 < greatest_history → length h < greatest_history
-few-now h h1 same few = omega (arith, few, ap length same)
-
-module _ {N : Type 0} (home : N → ℕ) (clean : N → Type 0) (m m' : MachineFacts) (same : m ≡ m') (who : Who) (call : Call N) where
+-- a call fits inside, and is answered outside
+module _ {N : Type 0} {home : N → ℕ} {clean : N → Type 0} {m m' : MachineFacts} (same : m ≡ m') {who : Who} {call : Call N} where
   pub fits-inside : IsFittingCall home clean m'.parts m'.history who call → IsFittingCall home clean m.parts m.history who call
   fits-inside fits = subst (λ (m : MachineFacts). IsFittingCall home clean m.parts m.history who call) (sym same) fits
 
-  pub answered-outside : (new : MachineFacts) (reply : Reply N) → HasAnswered home clean m new who call reply → HasAnswered home clean m' new who call reply
-  answered-outside new reply is = subst (λ (m : MachineFacts). HasAnswered home clean m new who call reply) same is
+  pub answered-outside : {new : MachineFacts} {reply : Reply N} → HasAnswered home clean m new who call reply → HasAnswered home clean m' new who call reply
+  answered-outside {new} {reply} is = subst (λ (m : MachineFacts). HasAnswered home clean m new who call reply) same is

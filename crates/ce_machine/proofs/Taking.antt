@@ -3,8 +3,8 @@ use Rattle.std.proofs.Common.{◌≡◌, ℕ, ◌≤◌, Bool, true, false, ◌=
 use Rattle.std.proofs.lemmas.Bool.{cases_Bool}
 use Rattle.ce_model.specs.declared.topology.BlockId.{BlockId}
 use Rattle.ce_model.specs.declared.entry.Entry.{Entry}
-use Rattle.ce_model.specs.declared.entry.Given.{Given}
-use Rattle.ce_model.specs.declared.entry.Given.TheVariants.{Start, Mail, Kill, Poll, Idle, Spent}
+use Rattle.ce_model.specs.declared.entry.TakeResult.{TakeResult}
+use Rattle.ce_model.specs.declared.entry.TakeResult.TheVariants.{Start, Mail, Kill, Poll, Idle, Spent}
 use Rattle.ce_model.specs.Lists.{without_first}
 use Rattle.ce_model.specs.Parcels.{Parcel, Item, start, mail, kill, is_eligible, given_as, is_named_by, parcel_in}
 use Rattle.ce_model.specs.Cube.{parcel_numbered}
@@ -55,7 +55,7 @@ same-without test named (y ∷ ys) x found is once =
 
 -- ---- what waits at a node of the machine
 
-same_name : (rename : BlockId → BlockId) (given : Given) (item : Item) → is_named_by given (item_with rename item) ≡ is_named_by given item
+same_name : (rename : BlockId → BlockId) (given : TakeResult) (item : Item) → is_named_by given (item_with rename item) ≡ is_named_by given item
 same_name rename given (start pid image) = refl
 same_name rename (Mail pid number) (mail parcel) = refl
 same_name rename (Start pid image) (mail parcel) = refl
@@ -65,7 +65,7 @@ same_name rename Idle (mail parcel) = refl
 same_name rename Spent (mail parcel) = refl
 same_name rename given (kill pid) = refl
 
-count-renamed : (rename : BlockId → BlockId) (given : Given) (items : List Item) → count_by (is_named_by given) (map (item_with rename) items) ≡ count_by (is_named_by given) items
+count-renamed : (rename : BlockId → BlockId) (given : TakeResult) (items : List Item) → count_by (is_named_by given) (map (item_with rename) items) ≡ count_by (is_named_by given) items
 count-renamed rename given [] = refl
 count-renamed rename given (item ∷ items) =
     omega (

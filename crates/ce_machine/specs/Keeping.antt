@@ -9,10 +9,10 @@ use Rattle.ce_model.specs.Node as node
 use Rattle.ce_model.specs.Answers.{answer, call_of}
 use Rattle.ce_model.specs.Trace.{Standing}
 use Rattle.ce_model.specs.Renaming.{CubeGrant}
-use Rattle.ce_model.specs.Machine.{MachineParts, IsMachine, HeldCube, MachineState, is_held_by, held_by, held_grants, held_by_entry, changed_by, changed_by_call, after, Request, getcube, peek, drain, freecube, in_cube, is_alone, answered, nodes_of, standing_of, with_places_outward, IsLawfulEntry, IsLawful}
+use Rattle.ce_model.specs.Machine.{MachineParts, IsMachine, HeldCube, MachineState, is_held_by, held_by, held_grants, held_by_entry, changed_by, changed_by_call, after, Request, getcube, peek, drain, freecube, in_cube, is_alone, what_of_request, nodes_of, standing_of, with_places_outward, IsLawfulEntry, IsLawful}
 use Rattle.ce_model.proofs.Walked.{each_of_front, each_behind}
 use Rattle.ce_daemon.specs.Boxes.{AreBoxesOf}
-use Rattle.ce_daemon.specs.Peeks.{numbered}
+use Rattle.ce_daemon.specs.Peeks.{numbered_grant}
 use Rattle.ce_lock.specs.declared.who.Who.{Who}
 use Rattle.ce_lock.specs.Entries.{IsForeign}
 use Rattle.ce_solo.specs.Laws as solo
@@ -95,7 +95,7 @@ alone_some other None = other
 alone_some other (Some what) = is_alone_what what
 
 pub alone-answered : (parts : MachineParts) (state : MachineState) (user actor : ℕ) (request : Request) (what : What)
-    → answered parts state user actor request ≡ Some what → is_alone_what what ≡ is_alone request
+    → what_of_request parts state user actor request ≡ Some what → is_alone_what what ≡ is_alone request
 alone-answered parts state user actor (getcube d) what e = sym (ap (alone_some true) e)
 alone-answered parts state user actor peek what e = sym (ap (alone_some false) e)
 alone-answered parts state user actor drain what e = sym (ap (alone_some true) e)
@@ -157,7 +157,7 @@ module _ {N : Type 0} (home : N → ℕ) (clean : N → Type 0) (parts : Machine
       → option_map grant_of (held_by (after behind) user) ≡ option_map grant_of (held_by (after before) user)
       → HasBroughtBoxes home clean before user call → HasBroughtBoxes home clean behind user call
   boxes_stay before behind user (asked.Freecube boxes) e some =
-      boxes_held (held_by (after before) user) (held_by (after behind) user) (λ grant. AreBoxesOf home clean (numbered grant) boxes.items) e some
+      boxes_held (held_by (after before) user) (held_by (after behind) user) (λ grant. AreBoxesOf home clean (numbered_grant grant) boxes.items) e some
   boxes_stay before behind user other e some = some
 
   pub still_fits : (before : List Entry) (entry : Entry) (who : Who) (call : Call N) → IsLawful parts (before ++ entry ∷ [])

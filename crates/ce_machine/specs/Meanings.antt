@@ -3,7 +3,7 @@ use Rattle.std.specs.Prelude.{◌≡◌, ℕ, Bool, true, false, List, Some}
 use Rattle.ce_model.specs.declared.entry.Entry.{Entry}
 use Rattle.ce_model.specs.declared.entry.What.{What}
 use Rattle.ce_model.specs.declared.entry.What.TheVariants.{Getcube, Drain, Freecube}
-use Rattle.ce_model.specs.Machine.{MachineParts, is_alone, after, answered}
+use Rattle.ce_model.specs.Machine.{MachineParts, is_alone, after, what_of_request}
 use Rattle.ce_lock.specs.declared.who.Who.{Who}
 use Rattle.ce_machine.specs.declared.call.Call.{Call}
 use Rattle.ce_machine.specs.declared.call.Reply.{Reply}
@@ -36,5 +36,5 @@ is_alone_entry entry = is_alone_what entry.what
 -- behind this history the entry is the one of the call of this user or of its node, and the reply is the one that the call gets
 pub record IsAnsweredBy {N : Type 0} (home : N → ℕ) (clean : N → Type 0) (parts : MachineParts) (before : List Entry) (entry : Entry) (who : Who) (call : Call N) (reply : Reply N) : Type 0 where
   pub whose_is : whose entry ≡ who
-  pub answer : answered parts (after before) who.family who.actor (request_of call) ≡ Some entry.what
+  pub answer : what_of_request parts (after before) who.family who.actor (request_of call) ≡ Some entry.what
   pub reply_is : IsReplyTo home clean parts (after before) who.family who.actor entry.what reply

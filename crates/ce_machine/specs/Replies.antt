@@ -3,14 +3,14 @@ use Rattle.std.specs.Prelude.{◌≡◌, ℕ, List, map, Option, Some, None, IsS
 use Rattle.ce_model.specs.declared.topology.Subcube.{Subcube}
 use Rattle.ce_model.specs.declared.entry.What.{What}
 use Rattle.ce_model.specs.declared.entry.What.TheVariants as entry
-use Rattle.ce_model.specs.declared.entry.Found.{Found}
-use Rattle.ce_model.specs.declared.entry.Found.TheVariants as found
+use Rattle.ce_model.specs.declared.entry.LookResult.{LookResult}
+use Rattle.ce_model.specs.declared.entry.LookResult.TheVariants as found
 use Rattle.ce_model.specs.Parcels.{Item, Parcel}
 use Rattle.ce_model.specs.Cube.{parcel_numbered}
 use Rattle.ce_model.specs.Machine.{MachineParts, MachineState, HeldCube, held_by, standing_of, all_parcels}
 use Rattle.ce_daemon.specs.declared.grant.Grant.{Grant}
 use Rattle.ce_daemon.specs.Boxes.{AreBoxesOf}
-use Rattle.ce_daemon.specs.Peeks.{peeked}
+use Rattle.ce_daemon.specs.Peeks.{peek_result}
 use Rattle.rk_mail.specs.Items.{parcel_of}
 use Rattle.rk_mail.specs.Talk.{IsHeardIn}
 use Rattle.ce_machine.specs.declared.call.Reply.{Reply}
@@ -36,7 +36,7 @@ IsDrained parcels (Drained blocks) = blocks.items ≡ map (λ parcel. parcel.blo
 IsDrained parcels other = ⊥
 
 -- the answer to a look by what it found
-abbrev pub found_reply : {N : Type 0} → Found → Reply N
+abbrev pub found_reply : {N : Type 0} → LookResult → Reply N
 found_reply found.Quiet = Quiet
 found_reply found.Spent = Spent
 found_reply found.Busy = Busy
@@ -62,7 +62,7 @@ OfHeldCube state user P = IsSomeAnd (held_by state user) P
 -- the reply that a call gets in this state whose entry, of this user and this actor, is this
 abbrev pub IsReplyTo : {N : Type 0} → (N → ℕ) → (N → Type 0) → MachineParts → MachineState → (user actor : ℕ) → What → Reply N → Type 0
 IsReplyTo home clean parts state user actor (entry.Getcube dim sub) reply = IsGrantReply home clean state user dim sub reply
-IsReplyTo home clean parts state user actor entry.Peek reply = reply ≡ Peeked (peeked parts state)
+IsReplyTo home clean parts state user actor entry.Peek reply = reply ≡ Peeked (peek_result parts state)
 IsReplyTo home clean parts state user actor entry.Drain reply = OfHeldCube state user (λ cube. IsDrained (all_parcels state cube) reply)
 IsReplyTo home clean parts state user actor entry.Freecube reply = reply ≡ Freed
 IsReplyTo home clean parts state user actor (entry.Arm count) reply = reply ≡ Armed

@@ -4,7 +4,7 @@ use Rattle.ce_model.specs.declared.entry.Entry.{Entry}
 use Rattle.ce_model.specs.Node.{arms, looks, takes_mail}
 use Rattle.ce_model.specs.Machine.{MachineParts, IsMachine, Request, getcube, peek, drain, freecube, in_cube, IsFitting, HasHeldCube}
 use Rattle.ce_daemon.specs.Boxes.{AreBoxesOf}
-use Rattle.ce_daemon.specs.Peeks.{numbered}
+use Rattle.ce_daemon.specs.Peeks.{numbered_grant}
 use Rattle.ce_lock.specs.declared.who.Who.{Who}
 use Rattle.rk_mail.specs.Talk.{call_said}
 use Rattle.ce_machine.specs.declared.call.Call.{Call}
@@ -24,7 +24,7 @@ request_of (Say said) = in_cube (call_said said)
 -- who gives a cube back brings the clean boxes of its nodes
 abbrev pub HasBroughtBoxes : {N : Type 0} → (N → ℕ) → (N → Type 0) → List Entry → ℕ → Call N → Type 0
 HasBroughtBoxes home clean history user (Freecube boxes) =
-    HasHeldCube history user (λ cube. AreBoxesOf home clean (numbered (cube.number, cube.grant)) boxes.items)
+    HasHeldCube history user (λ cube. AreBoxesOf home clean (numbered_grant (cube.number, cube.grant)) boxes.items)
 HasBroughtBoxes home clean history user other = Unit {0}
 
 -- a call of an actor of a family, which is a user of the machine, fits the history before it; the machine is within its limits

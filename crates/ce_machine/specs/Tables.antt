@@ -5,7 +5,7 @@ use Rattle.ce_model.specs.Parcels.{Item}
 use Rattle.ce_model.specs.Trace.{NodeRecord, blank_record}
 use Rattle.ce_model.specs.Machine.{MachineParts, MachineState, HeldCube, IsMachine, IsLawful, held_by, held_grants, after}
 use Rattle.ce_daemon.specs.Holding.{Holding}
-use Rattle.ce_daemon.specs.Peeks.{numbered}
+use Rattle.ce_daemon.specs.Peeks.{numbered_grant}
 
 -- what the machine keeps for a user's host: whether the user's cube is drained, its counts, and what waits for the host
 pub record HostRecord : Type 0 where
@@ -39,7 +39,7 @@ host_at hosts user = slice_index_or hosts user blank_host
 
 -- what the daemon of a machine in this state has granted
 abbrev pub holding_of : MachineParts → MachineState → Holding
-holding_of parts state = record { dim = parts.dim; count = state.grant_count; held = map numbered (held_grants state) }
+holding_of parts state = record { dim = parts.dim; count = state.grant_count; held = map numbered_grant (held_grants state) }
 
 -- the tables of a machine show this state
 pub record AreTables (parts : MachineParts) (state : MachineState) (holding : Holding) (desks : List NodeRecord) (hosts : List HostRecord) : Type 0 where

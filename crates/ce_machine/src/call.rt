@@ -1,6 +1,6 @@
 //! What is asked of a machine, and what it answers.
-use ce_daemon::{Grant, Homed, Peeked};
-use rk_mail::{Heard, Parcel, Say};
+use ce_daemon::{Grant, Homed, PeekResult};
+use rk_mail::{Hearing, Parcel, Say};
 use xm_block::Block;
 
 /// What an actor of a user asks of the machine. Places are the cube's, blocks have the machine's names.
@@ -46,7 +46,7 @@ pub enum Reply<N: Homed> {
     /// To a Getcube: no subcube of this dimension is free.
     NoneFree,
     /// To a Peek.
-    Peeked(Peeked),
+    Peeked(PeekResult),
     /// To a Drain: the blocks of all messages that waited, at the nodes in relative order and then for the host.
     Drained(Vec<Block>),
     /// To a Freecube.
@@ -64,5 +64,5 @@ pub enum Reply<N: Homed> {
     /// To a HostTake: none waited.
     NoMail,
     /// To what a node or a host said.
-    Heard(Heard),
+    Heard(Hearing),
 }

@@ -102,8 +102,7 @@ pub(crate) fn is_quiet(desks: &Vec<Desk>, grant: &Grant) -> bool
         (map (node_of grant.now.sub) (range_with_len 0 (2 ^ grant.now.dim))) }
 {
     for r in 0..node_count(grant) {
-        let desk = &desks[node_at(grant, r)];
-        if !desk.is_quiet() {
+        if !desk_of(desks, grant, r).is_quiet() {
             return false;
         }
     }
@@ -119,8 +118,7 @@ pub(crate) fn waiting_count(desks: &Vec<Desk>, grant: &Grant) -> usize
 {
     let mut count = 0;
     for r in 0..node_count(grant) {
-        let desk = &desks[node_at(grant, r)];
-        count += desk.count() as usize;
+        count += desk_of(desks, grant, r).count() as usize;
     }
     count
 }
@@ -258,6 +256,16 @@ fn node_count(grant: &Grant) -> u32
     ensures { result ≡ 2 ^ grant.now.dim }
 {
     1 << grant.dim
+}
+
+// The desk of a cube's node.
+fn desk_of<'a>(desks: &'a Vec<Desk>, grant: &Grant, r: u32) -> &'a Desk
+    requires sub { IsOnDesks (length desks.now.items) grant.now.dim grant.now.sub }
+    requires node { r < 2 ^ grant.now.dim }
+    ensures { result.now ≡ desk_at desks.now.items (node_of grant.now.sub r) }
+{
+    let desk = &desks[node_at(grant, r)];
+    desk
 }
 
 // The place of the desk of a cube's node.

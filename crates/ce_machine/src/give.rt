@@ -2,12 +2,12 @@ ghost use Rattle.std.specs.Prelude.{◌≡◌, IsTrue, find};
 ghost use Rattle.rk_mail.specs.Talk.{is_of_take};
 ghost use Rattle.ce_model.specs.Parcels.{is_eligible};
 ghost use Rattle.ce_model.specs.Trace.{is_work, is_idle};
-ghost use Rattle.ce_model.specs.Answers.{offered};
+ghost use Rattle.ce_model.specs.Answers.{offer_of};
 ghost use Rattle.ce_machine.specs.Gives.{item_in, given_in, item_for, items_left};
 
 use crate::desk::Desk;
-use ce_model::Given;
-use rk_mail::{Heard, Item};
+use ce_model::TakeResult;
+use rk_mail::{Hearing, Item};
 
 // Gives a node that asks for work the first item that it can be given, or else tells the process that polls longest that no
 // message is there. Nothing is given where the allowed dispatches are used up.
@@ -18,9 +18,9 @@ pub(crate) fn offer(
     dead: u32,
     poller: Option<u32>,
     is_used_up: bool,
-) -> Heard
+) -> Hearing
     ensures given { given_in result
-        ≡ offered (find (is_eligible asking dead) desk.old.waiting) poller is_used_up }
+        ≡ offer_of (find (is_eligible asking dead) desk.old.waiting) poller is_used_up }
     ensures item { item_in result ≡ item_for is_used_up asking dead desk.old.waiting }
     ensures kind { IsTrue (is_of_take result) }
     ensures desk { desk.new
@@ -28,59 +28,59 @@ pub(crate) fn offer(
 {
     if is_used_up {
         return match poller {
-            Some(_) => Heard::Spent,
-            None if desk.has(asking, dead) => Heard::Spent,
-            None => Heard::Idle,
+            Some(_) => Hearing::Spent,
+            None if desk.has(asking, dead) => Hearing::Spent,
+            None => Hearing::Idle,
         };
     }
     match desk.next(asking, dead) {
-        Some(Item::Start { pid, image }) => Heard::Start { pid, image },
-        Some(Item::Mail(parcel)) => Heard::Mail(parcel),
-        Some(Item::Kill { pid }) => Heard::Kill { pid },
+        Some(Item::Start { pid, image }) => Hearing::Start { pid, image },
+        Some(Item::Mail(parcel)) => Hearing::Mail(parcel),
+        Some(Item::Kill { pid }) => Hearing::Kill { pid },
         None => match poller {
-            Some(pid) => Heard::Poll { pid },
-            None => Heard::Idle,
+            Some(pid) => Hearing::Poll { pid },
+            None => Hearing::Idle,
         },
     }
 }
 
 // How an entry names what a node hears that asked for work.
-pub(crate) fn given_of(heard: &Heard) -> Given
+pub(crate) fn given_of(heard: &Hearing) -> TakeResult
     ensures { result ≡ given_in heard.now }
 {
     match heard {
-        Heard::Start { pid, image } => Given::Start {
+        Hearing::Start { pid, image } => TakeResult::Start {
             pid: *pid,
             image: *image,
         },
-        Heard::Mail(parcel) => Given::Mail {
+        Hearing::Mail(parcel) => TakeResult::Mail {
             pid: parcel.to.pid,
             number: parcel.number,
         },
-        Heard::Kill { pid } => Given::Kill { pid: *pid },
-        Heard::Poll { pid } => Given::Poll { pid: *pid },
-        Heard::Spent => Given::Spent,
-        Heard::Idle
-        | Heard::Posted(_)
-        | Heard::Spawned
-        | Heard::Used
-        | Heard::Killed
-        | Heard::Unused
-        | Heard::Already
-        | Heard::Noted => Given::Idle,
+        Hearing::Kill { pid } => TakeResult::Kill { pid: *pid },
+        Hearing::Poll { pid } => TakeResult::Poll { pid: *pid },
+        Hearing::Spent => TakeResult::Spent,
+        Hearing::Idle
+        | Hearing::Posted(_)
+        | Hearing::Spawned
+        | Hearing::Used
+        | Hearing::Killed
+        | Hearing::Unused
+        | Hearing::Already
+        | Hearing::Noted => TakeResult::Idle,
     }
 }
 
 // Whether the node is given work: an item, or leave to go on.
-pub(crate) fn is_work(given: Given) -> bool
+pub(crate) fn is_work(given: TakeResult) -> bool
     ensures { result ≡ is_work given }
 {
-    !matches!(given, Given::Idle | Given::Spent)
+    !matches!(given, TakeResult::Idle | TakeResult::Spent)
 }
 
 // Whether the node is told that there is nothing to do.
-pub(crate) fn is_idle(given: Given) -> bool
+pub(crate) fn is_idle(given: TakeResult) -> bool
     ensures { result ≡ is_idle given }
 {
-    matches!(given, Given::Idle)
+    matches!(given, TakeResult::Idle)
 }

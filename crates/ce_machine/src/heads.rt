@@ -6,11 +6,11 @@ ghost use Rattle.ce_machine.specs.Requests.{IsFittingCall};
 ghost use Rattle.ce_machine.specs.Answering.{HasAnswered};
 
 use crate::desks::{clear_nodes, drain_nodes, is_quiet, waiting_count};
-use crate::machine::{entry, grant_of, make_room};
+use crate::machine::{add_entry, grant_of, make_room};
 use crate::{Call, Machine, Reply};
 use ce_daemon::Homed;
 use ce_lock::Who;
-use ce_model::{Found, NoMemory, What};
+use ce_model::{LookResult, NoMemory, What};
 use rk_mail::Item;
 use std::alloc::Global;
 
@@ -32,14 +32,12 @@ impl<N: Homed> Machine<N> {
         match self.daemon.getcube(alloc, who.family, dim)? {
             Some((grant, boxes)) => {
                 let sub = Some(grant.sub);
-                self.history
-                    .push_reserved(entry(who, What::Getcube { dim, sub }));
+                add_entry(&mut self.history, who, What::Getcube { dim, sub });
                 Ok(Reply::Granted { grant, boxes })
             }
             None => {
                 let sub = None;
-                self.history
-                    .push_reserved(entry(who, What::Getcube { dim, sub }));
+                add_entry(&mut self.history, who, What::Getcube { dim, sub });
                 Ok(Reply::NoneFree)
             }
         }
@@ -54,7 +52,7 @@ impl<N: Homed> Machine<N> {
     {
         make_room(&mut self.history)?;
         let peeked = self.daemon.peek(alloc)?;
-        self.history.push_reserved(entry(who, What::Peek));
+        add_entry(&mut self.history, who, What::Peek);
         Ok(Reply::Peeked(peeked))
     }
 
@@ -72,7 +70,7 @@ impl<N: Homed> Machine<N> {
         let mut blocks = Vec::with_capacity(alloc, count)?;
         drain_nodes(&mut self.desks, &grant, &mut blocks);
         host.drain(&mut blocks);
-        self.history.push_reserved(entry(who, What::Drain));
+        add_entry(&mut self.history, who, What::Drain);
         Ok(Reply::Drained(blocks))
     }
 
@@ -96,13 +94,14 @@ impl<N: Homed> Machine<N> {
         clear_nodes(&mut self.desks, &grant);
         let host = &mut self.hosts[who.family as usize];
         host.clear();
-        self.history.push_reserved(entry(who, What::Freecube));
+        add_entry(&mut self.history, who, What::Freecube);
         Ok(Reply::Freed)
     }
 
     // The host allows so many dispatches.
     pub(crate) fn arm(&mut self, who: Who, count: u32) -> Result<Reply<N>, NoMemory>
-        requires { IsFittingCall N.home N.clean self.old.parts self.old.history who (Call.Arm count) }
+        requires { IsFittingCall N.home N.clean self.old.parts self.old.history who
+            (Call.Arm count) }
         ensures answered { IfOk result (λ reply.
             HasAnswered N.home N.clean self.old self.new who (Call.Arm count) reply) }
         ensures refused { OnErr result (self.new ≡ self.old) }
@@ -110,7 +109,7 @@ impl<N: Homed> Machine<N> {
         make_room(&mut self.history)?;
         let host = &mut self.hosts[who.family as usize];
         host.arm(count);
-        self.history.push_reserved(entry(who, What::Arm { count }));
+        add_entry(&mut self.history, who, What::Arm { count });
         Ok(Reply::Armed)
     }
 
@@ -125,8 +124,9 @@ impl<N: Homed> Machine<N> {
         let grant = grant_of(&self.daemon, who.family);
         let host = &self.hosts[who.family as usize];
         let found = found_where(is_quiet(&self.desks, &grant), host.is_used_up());
-        self.history.push_reserved(entry(who, What::Look { found }));
-        Ok(found_reply(found))
+        let reply = found_reply(found);
+        add_entry(&mut self.history, who, What::Look { found });
+        Ok(reply)
     }
 
     // The host takes its next message.
@@ -141,16 +141,14 @@ impl<N: Homed> Machine<N> {
         match host.take_first() {
             Some(Item::Mail(parcel)) => {
                 let number = Some(parcel.number);
-                self.history
-                    .push_reserved(entry(who, What::HostTake { number }));
+                add_entry(&mut self.history, who, What::HostTake { number });
                 Ok(Reply::Mail(parcel))
             }
             Some(Item::Start { .. }) => unreachable!(),
             Some(Item::Kill { .. }) => unreachable!(),
             None => {
                 let number = None;
-                self.history
-                    .push_reserved(entry(who, What::HostTake { number }));
+                add_entry(&mut self.history, who, What::HostTake { number });
                 Ok(Reply::NoMail)
             }
         }
@@ -158,25 +156,25 @@ impl<N: Homed> Machine<N> {
 }
 
 // What a look finds.
-fn found_where(is_quiet: bool, is_used_up: bool) -> Found
+fn found_where(is_quiet: bool, is_used_up: bool) -> LookResult
     ensures { result ≡ found_where is_quiet is_used_up }
 {
     if is_quiet {
-        Found::Quiet
+        LookResult::Quiet
     } else if is_used_up {
-        Found::Spent
+        LookResult::Spent
     } else {
-        Found::Busy
+        LookResult::Busy
     }
 }
 
 // What a look is answered.
-fn found_reply<N: Homed>(found: Found) -> Reply<N>
+fn found_reply<N: Homed>(found: LookResult) -> Reply<N>
     ensures { result ≡ found_reply found }
 {
     match found {
-        Found::Quiet => Reply::Quiet,
-        Found::Spent => Reply::Spent,
-        Found::Busy => Reply::Busy,
+        LookResult::Quiet => Reply::Quiet,
+        LookResult::Spent => Reply::Spent,
+        LookResult::Busy => Reply::Busy,
     }
 }

@@ -15,6 +15,3 @@ mod says;
 
 pub use call::{Call, Reply};
 pub use machine::Machine;
-
-#[cfg(test)]
-mod tests;

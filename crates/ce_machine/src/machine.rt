@@ -1,5 +1,5 @@
 //! The machine that users share.
-ghost use Rattle.std.specs.Prelude.{◌≡◌, ℕ, ◌+◌, ◌^◌, ◌<◌, ◌≤◌, List, [], length, vec_len, vec_capacity, IfOk, OnErr, OnOk, IsSome, Some};
+ghost use Rattle.std.specs.Prelude.{◌≡◌, ℕ, ◌+◌, ◌^◌, ◌<◌, ◌≤◌, List, [], ◌∷◌, ◌++◌, length, vec_len, vec_capacity, IfOk, OnErr, OnOk, IsSome, Some};
 ghost use Rattle.ce_model.specs.Machine.{IsMachine, IsLawful};
 ghost use Rattle.ce_daemon.specs.Boxes.{AreBoxes};
 ghost use Rattle.ce_daemon.specs.Holding.{held_by};
@@ -104,7 +104,7 @@ impl<N: Homed> Machine<N> {
 pub(crate) fn make_room(history: &mut Vec<Entry>) -> Result<(), NoMemory>
     ensures same { history.new.items ≡ history.old.items }
     ensures room { OnOk result (vec_len history.new < vec_capacity history.new) }
-    ensures few { OnOk result (length history.new.items < greatest_history) }
+    ensures few { OnOk result (length history.old.items < greatest_history) }
 {
     if history.len() as u64 >= GREATEST_HISTORY {
         return Err(NoMemory);
@@ -113,15 +113,17 @@ pub(crate) fn make_room(history: &mut Vec<Entry>) -> Result<(), NoMemory>
     Ok(())
 }
 
-// The entry that an actor makes.
-pub(crate) fn entry(who: Who, what: What) -> Entry
-    ensures { result ≡ record { user = who.family; actor = who.actor; what = what } }
+// Adds the entry that an actor makes. There is room.
+pub(crate) fn add_entry(history: &mut Vec<Entry>, who: Who, what: What)
+    requires { vec_len history.old < vec_capacity history.old }
+    ensures { history.new.items ≡ history.old.items
+        ++ record { user = who.family; actor = who.actor; what = what } ∷ [] }
 {
-    Entry {
+    history.push_reserved(Entry {
         user: who.family,
         actor: who.actor,
         what,
-    }
+    });
 }
 
 // The grant that a user holds.

@@ -8,12 +8,12 @@ ghost use Rattle.ce_machine.specs.Answering.{HasAnswered};
 
 use crate::desks::{kill, mark_busy, outward, post_all, relative, start};
 use crate::give::{given_of, is_idle, is_work, offer};
-use crate::machine::{entry, grant_of, make_room};
+use crate::machine::{add_entry, grant_of, make_room};
 use crate::{Call, Machine, Reply};
 use ce_daemon::Homed;
 use ce_lock::Who;
 use ce_model::{BlockId, Bytes, KillFound, NoMemory, Place, Targets, What};
-use rk_mail::{Batch, Heard, Say};
+use rk_mail::{Batch, Hearing, Say};
 use std::alloc::Global;
 
 impl<N: Homed> Machine<N> {
@@ -24,7 +24,8 @@ impl<N: Homed> Machine<N> {
         who: Who,
         said: Say,
     ) -> Result<Reply<N>, (Say, NoMemory)>
-        requires { IsFittingCall N.home N.clean self.old.parts self.old.history who (Call.Say said) }
+        requires { IsFittingCall N.home N.clean self.old.parts self.old.history who
+            (Call.Say said) }
         ensures answered { IfOk result (λ reply.
             HasAnswered N.home N.clean self.old self.new who (Call.Say said) reply) }
         ensures refused { IfErr result (λ back. (self.new ≡ self.old) × (back.0 ≡ said)) }
@@ -72,7 +73,7 @@ impl<N: Homed> Machine<N> {
         asking: u32,
         dead: u32,
         poller: Option<u32>,
-    ) -> Result<Heard, NoMemory>
+    ) -> Result<Hearing, NoMemory>
         requires { IsFittingCall N.home N.clean self.old.parts self.old.history who
             (Call.Say (Say.Take asking dead poller)) }
         ensures answered { IfOk result (λ heard. HasAnswered N.home N.clean self.old self.new who
@@ -86,7 +87,8 @@ impl<N: Homed> Machine<N> {
         let given = given_of(&heard);
         host.dispatch(is_work(given));
         desk.mark_take(asking, dead, is_idle(given));
-        self.history.push_reserved(entry(
+        add_entry(
+            &mut self.history,
             who,
             What::Take {
                 asking,
@@ -94,7 +96,7 @@ impl<N: Homed> Machine<N> {
                 poller,
                 given,
             },
-        ));
+        );
         Ok(heard)
     }
 
@@ -105,7 +107,7 @@ impl<N: Homed> Machine<N> {
         who: Who,
         pid: u32,
         batch: Batch,
-    ) -> Result<Heard, (Batch, NoMemory)>
+    ) -> Result<Hearing, (Batch, NoMemory)>
         requires { IsFittingCall N.home N.clean self.old.parts self.old.history who
             (Call.Say (Say.Send pid batch)) }
         ensures answered { IfOk result (λ heard. HasAnswered N.home N.clean self.old self.new who
@@ -128,7 +130,8 @@ impl<N: Homed> Machine<N> {
         let batch = post_all(&mut self.desks, host, &grant, from, first, batch, &mut to);
         mark_busy(&mut self.desks, who.actor);
         let to = Targets::from_vec(to);
-        self.history.push_reserved(entry(
+        add_entry(
+            &mut self.history,
             who,
             What::Send {
                 pid,
@@ -136,12 +139,12 @@ impl<N: Homed> Machine<N> {
                 to,
                 bytes,
             },
-        ));
-        Ok(Heard::Posted(batch))
+        );
+        Ok(Hearing::Posted(batch))
     }
 
     // A process is to be started.
-    fn spawn(&mut self, who: Who, pid: u32, image: u32, to: Place) -> Result<Heard, NoMemory>
+    fn spawn(&mut self, who: Who, pid: u32, image: u32, to: Place) -> Result<Hearing, NoMemory>
         requires { IsFittingCall N.home N.clean self.old.parts self.old.history who
             (Call.Say (Say.Spawn pid image to)) }
         ensures answered { IfOk result (λ heard. HasAnswered N.home N.clean self.old self.new who
@@ -153,7 +156,9 @@ impl<N: Homed> Machine<N> {
         let place = outward(&grant, to);
         let fresh = start(&mut self.desks, place, image);
         mark_busy(&mut self.desks, who.actor);
-        self.history.push_reserved(entry(
+        let heard = heard_of_spawn(fresh);
+        add_entry(
+            &mut self.history,
             who,
             What::Spawn {
                 pid,
@@ -161,12 +166,12 @@ impl<N: Homed> Machine<N> {
                 to: place,
                 fresh,
             },
-        ));
-        Ok(heard_of_spawn(fresh))
+        );
+        Ok(heard)
     }
 
     // A process is to be stopped.
-    fn kill(&mut self, who: Who, pid: u32, to: Place) -> Result<Heard, NoMemory>
+    fn kill(&mut self, who: Who, pid: u32, to: Place) -> Result<Hearing, NoMemory>
         requires { IsFittingCall N.home N.clean self.old.parts self.old.history who
             (Call.Say (Say.Kill pid to)) }
         ensures answered { IfOk result (λ heard. HasAnswered N.home N.clean self.old self.new who
@@ -178,19 +183,21 @@ impl<N: Homed> Machine<N> {
         let place = outward(&grant, to);
         let found = kill(&mut self.desks, place);
         mark_busy(&mut self.desks, who.actor);
-        self.history.push_reserved(entry(
+        let heard = heard_of_kill(found);
+        add_entry(
+            &mut self.history,
             who,
             What::Kill {
                 pid,
                 to: place,
                 found,
             },
-        ));
-        Ok(heard_of_kill(found))
+        );
+        Ok(heard)
     }
 
     // A word goes into the trace.
-    fn note(&mut self, who: Who, pid: u32, word: u32) -> Result<Heard, NoMemory>
+    fn note(&mut self, who: Who, pid: u32, word: u32) -> Result<Hearing, NoMemory>
         requires { IsFittingCall N.home N.clean self.old.parts self.old.history who
             (Call.Say (Say.Note pid word)) }
         ensures answered { IfOk result (λ heard. HasAnswered N.home N.clean self.old self.new who
@@ -199,9 +206,8 @@ impl<N: Homed> Machine<N> {
     {
         make_room(&mut self.history)?;
         mark_busy(&mut self.desks, who.actor);
-        self.history
-            .push_reserved(entry(who, What::Note { pid, word }));
-        Ok(Heard::Noted)
+        add_entry(&mut self.history, who, What::Note { pid, word });
+        Ok(Hearing::Noted)
     }
 }
 
@@ -225,19 +231,23 @@ fn room_for(alloc: Global, batch: &Batch) -> Result<(Vec<(Place, BlockId)>, Byte
 }
 
 // What a process hears of its spawn.
-fn heard_of_spawn(fresh: bool) -> Heard
-    ensures { result ≡ (if fresh then Heard.Spawned else Heard.Used) }
+fn heard_of_spawn(fresh: bool) -> Hearing
+    ensures { result ≡ (if fresh then Hearing.Spawned else Hearing.Used) }
 {
-    if fresh { Heard::Spawned } else { Heard::Used }
+    if fresh {
+        Hearing::Spawned
+    } else {
+        Hearing::Used
+    }
 }
 
 // What a process hears of its kill.
-fn heard_of_kill(found: KillFound) -> Heard
+fn heard_of_kill(found: KillFound) -> Hearing
     ensures { result ≡ heard_of_kill found }
 {
     match found {
-        KillFound::Killed => Heard::Killed,
-        KillFound::Unused => Heard::Unused,
-        KillFound::Already => Heard::Already,
+        KillFound::Killed => Hearing::Killed,
+        KillFound::Unused => Hearing::Unused,
+        KillFound::Already => Hearing::Already,
     }
 }

@@ -8,7 +8,7 @@ use Rattle.ce_model.specs.Lists.{EachAfter}
 use Rattle.ce_model.specs.Node.{Call, takes, sends, spawns, kills, notes, arms, looks, takes_mail, is_place}
 use Rattle.ce_model.specs.Trace.{Standing, standing}
 use Rattle.ce_model.specs.Answers.{answer, call_of}
-use Rattle.ce_model.specs.Cube.{Cube, CubeState, HostCall, send_bytes, start_image, end_process, allow, look_round, take_message, host_call, asked_by, call_by, entry_by, next_entry, Solo, acts, acted, whole_trace, solo, asked_in, host_calls, actors, hoststore, is_node, next_call, node_numbers, IsNext, IsAloneFrom}
+use Rattle.ce_model.specs.Cube.{Cube, CubeState, HostCall, send_bytes, start_image, end_process, allow, look_round, take_message, host_call, asked_by, call_by, entry_by, next_entry, Solo, acts, solo_from, whole_trace, solo, asked_in, host_calls, actors, hoststore, is_node, next_call, node_numbers, IsNext, IsAloneFrom}
 use Rattle.ce_model.proofs.Walked.{one_further}
 
 -- ---- what an entry tells of its call
@@ -147,7 +147,7 @@ entries_act cube o more before (entry ∷ behind) each =
     ∙ ap (λ t. Some (solo_at t more)) (one_further before entry behind)
 
 pub alone_by_entries : (cube : Cube) (o : CubeState) (t : List Entry) → EachAfter (IsNext cube o) [] t → IsAloneFrom cube o t
-unfolding solo acted
+unfolding solo solo_from
 alone_by_entries cube o t each =
     ap (λ calls. option_and_then end_trace (fold (acts_more cube o) (Some (solo_at [] calls)) (actors t))) (sym (append-nil (host_calls t)))
     ∙ ap (option_and_then end_trace) (entries_act cube o [] [] t each)
@@ -251,7 +251,7 @@ ended_with cube o asked schedule t (Some now) f e = ended_at now.asked f e
     ended_at (call ∷ calls) f e = cc
 
 pub entries_of_alone : (cube : Cube) (o : CubeState) (t : List Entry) → IsAloneFrom cube o t → EachAfter (IsNext cube o) [] t
-unfolding solo acted
+unfolding solo solo_from
 entries_of_alone cube o t e =
     let added = ended_with cube o (host_calls t) (actors t) t (fold (acts_more cube o) (Some (solo_at [] (host_calls t))) (actors t)) refl e in
     subst (EachAfter (IsNext cube o) []) added.whole added.each

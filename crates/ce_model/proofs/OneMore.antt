@@ -11,11 +11,11 @@ use Rattle.ce_model.specs.declared.topology.TheConstants.{HOST}
 use Rattle.ce_model.specs.declared.topology.Place.{Place}
 use Rattle.ce_model.specs.declared.topology.BlockId.{BlockId}
 use Rattle.ce_model.specs.declared.entry.Entry.{Entry}
-use Rattle.ce_model.specs.declared.entry.Given.{Given}
+use Rattle.ce_model.specs.declared.entry.TakeResult.{TakeResult}
 use Rattle.ce_model.specs.Parcels.{Item, is_named_by}
-use Rattle.ce_model.specs.Trace.{Standing, items_to, taken_in, spawned_in, killed_in, parcels_of, armed_by, dispatched_by, marked_by, sent_to, taken_by, waiting, spawned, killed, mark, armed, dispatched, parcels}
+use Rattle.ce_model.specs.Trace.{Standing, items_to, taken_in, spawned_in, killed_in, parcels_of, armed_by, dispatched_by, marked_by, sent_to, taken_by, waiting_items, spawned_ids, killed_ids, mark, allowed_dispatches, made_dispatches, parcels}
 use Rattle.ce_model.specs.Cube.{Cube, CubeState, state, after_entry, stored_by, hoststore}
-use Rattle.ce_model.specs.Order.{got, sent, bytes_between, bytes_handed}
+use Rattle.ce_model.specs.Order.{messages_got, messages_sent, bytes_between, bytes_handed}
 use Rattle.ce_model.proofs.Walked.{walked-more}
 
 -- a list made of the pieces of each entry has the piece of the last one at its end
@@ -28,14 +28,14 @@ sent_to-more o r t entry =
     ap (λ more. (o.node_record r).waiting ++ more) (flat-more (items_to r) t entry)
     ∙ sym (append_assoc (o.node_record r).waiting (flat_map (items_to r) t) (items_to r entry))
 
-pub spawned-more : (o : Standing) (r : ℕ) (t : List Entry) (entry : Entry) → spawned o r (t ++ entry ∷ []) ≡ spawned o r t ++ spawned_in r entry.what
-unfolding spawned
+pub spawned-more : (o : Standing) (r : ℕ) (t : List Entry) (entry : Entry) → spawned_ids o r (t ++ entry ∷ []) ≡ spawned_ids o r t ++ spawned_in r entry.what
+unfolding spawned_ids
 spawned-more o r t entry =
     ap (λ more. (o.node_record r).spawned ++ more) (flat-more (λ e. spawned_in r e.what) t entry)
     ∙ sym (append_assoc (o.node_record r).spawned (flat_map (λ (e : Entry). spawned_in r e.what) t) (spawned_in r entry.what))
 
-pub killed-more : (o : Standing) (r : ℕ) (t : List Entry) (entry : Entry) → killed o r (t ++ entry ∷ []) ≡ killed o r t ++ killed_in r entry.what
-unfolding killed
+pub killed-more : (o : Standing) (r : ℕ) (t : List Entry) (entry : Entry) → killed_ids o r (t ++ entry ∷ []) ≡ killed_ids o r t ++ killed_in r entry.what
+unfolding killed_ids
 killed-more o r t entry =
     ap (λ more. (o.node_record r).killed ++ more) (flat-more (λ e. killed_in r e.what) t entry)
     ∙ sym (append_assoc (o.node_record r).killed (flat_map (λ (e : Entry). killed_in r e.what) t) (killed_in r entry.what))
@@ -51,12 +51,12 @@ parcel_count-more first t entry =
     rw (parcels-more t entry, length-append (parcels t) (parcels_of entry.actor entry.what))
     (sym (add_assoc first (length (parcels t)) (length (parcels_of entry.actor entry.what))))
 
-pub armed-more : (o : Standing) (t : List Entry) (entry : Entry) → armed o (t ++ entry ∷ []) ≡ armed_by (armed o t) entry.what
-unfolding armed
+pub armed-more : (o : Standing) (t : List Entry) (entry : Entry) → allowed_dispatches o (t ++ entry ∷ []) ≡ armed_by (allowed_dispatches o t) entry.what
+unfolding allowed_dispatches
 armed-more o t entry = fold-append (λ (count : ℕ) (e : Entry). armed_by count e.what) o.armed t (entry ∷ [])
 
-pub dispatched-more : (o : Standing) (t : List Entry) (entry : Entry) → dispatched o (t ++ entry ∷ []) ≡ dispatched_by (dispatched o t) entry.what
-unfolding dispatched
+pub dispatched-more : (o : Standing) (t : List Entry) (entry : Entry) → made_dispatches o (t ++ entry ∷ []) ≡ dispatched_by (made_dispatches o t) entry.what
+unfolding made_dispatches
 dispatched-more o t entry = fold-append (λ (count : ℕ) (e : Entry). dispatched_by count e.what) o.dispatched t (entry ∷ [])
 
 pub mark-more : (o : Standing) (r : ℕ) (t : List Entry) (entry : Entry)
@@ -66,7 +66,7 @@ mark-more o r t entry =
     fold-append (λ now (e : Entry). if e.actor == r then marked_by now e.what else now) (o.node_record r).mark t (entry ∷ [])
 
 -- what an entry takes for node r
-abbrev pub taken_for : ℕ → Entry → Option Given
+abbrev pub taken_for : ℕ → Entry → Option TakeResult
 taken_for r entry = if entry.actor == r then taken_in entry.what else None
 
 option_list-more : {A : Type 0} (f : Entry → Option A) (t : List Entry) (entry : Entry)
@@ -78,19 +78,19 @@ pub taken_by-stays : (r : ℕ) (t : List Entry) (entry : Entry) → taken_for r 
 unfolding taken_by
 taken_by-stays r t entry e = option_list-more (taken_for r) t entry ∙ rw e (append-nil (filter_map (taken_for r) t))
 
-pub taken_by-more : (r : ℕ) (t : List Entry) (entry : Entry) (given : Given) → taken_for r entry ≡ Some given
+pub taken_by-more : (r : ℕ) (t : List Entry) (entry : Entry) (given : TakeResult) → taken_for r entry ≡ Some given
     → taken_by r (t ++ entry ∷ []) ≡ taken_by r t ++ given ∷ []
 unfolding taken_by
 taken_by-more r t entry given e = option_list-more (taken_for r) t entry ∙ rw e refl
 
 -- an item that some entry has not named among these
-abbrev pub is_untaken : List Given → Item → Bool
+abbrev pub is_untaken : List TakeResult → Item → Bool
 is_untaken taken item = not (list_any (λ given. is_named_by given item) taken)
 
 -- what waits once an entry is made that takes nothing for node r: of what it sends there, all that was not taken before
 pub waiting-stays : (o : Standing) (r : ℕ) (t : List Entry) (entry : Entry) → taken_for r entry ≡ None
-    → waiting o r (t ++ entry ∷ []) ≡ waiting o r t ++ filter (is_untaken (taken_by r t)) (items_to r entry)
-unfolding waiting
+    → waiting_items o r (t ++ entry ∷ []) ≡ waiting_items o r t ++ filter (is_untaken (taken_by r t)) (items_to r entry)
+unfolding waiting_items
 waiting-stays o r t entry e =
     rw (taken_by-stays r t entry e, sent_to-more o r t entry) (filter-append (is_untaken (taken_by r t)) (sent_to o r t) (items_to r entry))
 
@@ -100,11 +100,11 @@ neither false true = refl
 neither false false = refl
 
 -- what one more item taken leaves
-untaken-more : (taken : List Given) (given : Given) (item : Item)
+untaken-more : (taken : List TakeResult) (given : TakeResult) (item : Item)
     → is_untaken (taken ++ given ∷ []) item ≡ (if is_untaken taken item then not (is_named_by given item) else false)
 untaken-more taken given item =
-    ap not (list_any-append (λ (g : Given). is_named_by g item) taken (given ∷ []))
-    ∙ neither (list_any (λ (g : Given). is_named_by g item) taken) (is_named_by given item)
+    ap not (list_any-append (λ (g : TakeResult). is_named_by g item) taken (given ∷ []))
+    ∙ neither (list_any (λ (g : TakeResult). is_named_by g item) taken) (is_named_by given item)
 
 one_item : (b c : Bool) (item : Item) (xs : List Item)
     → (if (if b then c else false) then item ∷ xs else xs) ≡ (if b then (if c then item ∷ xs else xs) else xs)
@@ -116,7 +116,7 @@ kept_item : (p : Item → Bool) (b : Bool) (item : Item) (xs : List Item)
 kept_item p true item xs = refl
 kept_item p false item xs = refl
 
-untaken_items : (taken : List Given) (given : Given) (items : List Item)
+untaken_items : (taken : List TakeResult) (given : TakeResult) (items : List Item)
     → filter (is_untaken (taken ++ given ∷ [])) items ≡ filter (λ item. not (is_named_by given item)) (filter (is_untaken taken) items)
 untaken_items taken given [] = refl
 untaken_items taken given (item ∷ items) =
@@ -125,9 +125,9 @@ untaken_items taken given (item ∷ items) =
     ∙ kept_item (λ x. not (is_named_by given x)) (is_untaken taken item) item (filter (is_untaken taken) items))
 
 -- what waits once node r has taken an item by an entry that sends it nothing: what isn't named so
-pub waiting-taken : (o : Standing) (r : ℕ) (t : List Entry) (entry : Entry) (given : Given) → taken_for r entry ≡ Some given
-    → items_to r entry ≡ [] → waiting o r (t ++ entry ∷ []) ≡ filter (λ item. not (is_named_by given item)) (waiting o r t)
-unfolding waiting
+pub waiting-taken : (o : Standing) (r : ℕ) (t : List Entry) (entry : Entry) (given : TakeResult) → taken_for r entry ≡ Some given
+    → items_to r entry ≡ [] → waiting_items o r (t ++ entry ∷ []) ≡ filter (λ item. not (is_named_by given item)) (waiting_items o r t)
+unfolding waiting_items
 waiting-taken o r t entry given e s =
     rw (taken_by-more r t entry given e, sent_to-more o r t entry, s, append-nil (sent_to o r t)) (untaken_items (taken_by r t) given (sent_to o r t))
 
@@ -140,19 +140,19 @@ state-more cube o r t entry = walked-more (after_entry cube o r) (o.node r) t en
 
 pub hoststore-more : (o : CubeState) (t : List Entry) (entry : Entry)
     → hoststore o (t ++ entry ∷ [])
-    ≡ (if entry.actor == HOST then stored_by (waiting o.standing HOST t) (hoststore o t) entry.what else hoststore o t)
+    ≡ (if entry.actor == HOST then stored_by (waiting_items o.standing HOST t) (hoststore o t) entry.what else hoststore o t)
 unfolding hoststore
 hoststore-more o t entry =
-    walked-more (λ before (store : List BlockId) (e : Entry). if e.actor == HOST then stored_by (waiting o.standing HOST before) store e.what else store)
+    walked-more (λ before (store : List BlockId) (e : Entry). if e.actor == HOST then stored_by (waiting_items o.standing HOST before) store e.what else store)
     o.hoststore t entry
 
 pub sent-more : (o : Standing) (from to : Place) (t : List Entry) (entry : Entry)
-    → sent o from to (t ++ entry ∷ []) ≡ bytes_between from to (sent_to o to.node t ++ items_to to.node entry)
-unfolding sent
+    → messages_sent o from to (t ++ entry ∷ []) ≡ bytes_between from to (sent_to o to.node t ++ items_to to.node entry)
+unfolding messages_sent
 sent-more o from to t entry = ap (bytes_between from to) (sent_to-more o to.node t entry)
 
 pub got-more : (o : Standing) (from to : Place) (t : List Entry) (entry : Entry)
-    → got o from to (t ++ entry ∷ []) ≡ got o from to t ++ bytes_handed from to (waiting o to.node t) entry
-unfolding got
+    → messages_got o from to (t ++ entry ∷ []) ≡ messages_got o from to t ++ bytes_handed from to (waiting_items o to.node t) entry
+unfolding messages_got
 got-more o from to t entry =
-    walked-more (λ before messages e. messages ++ bytes_handed from to (waiting o to.node before) e) [] t entry
+    walked-more (λ before messages e. messages ++ bytes_handed from to (waiting_items o to.node before) e) [] t entry

@@ -6,7 +6,6 @@ pub mod Grants
 pub mod Hello
 pub mod Holders
 pub mod KernelCalls
-pub mod Machines
 pub mod Polling
 pub mod SixEntries
 pub mod Unborn

@@ -1,13 +1,13 @@
 -- What holds of the numbers of a subcube's nodes, for masks of any number of bits.
-use Rattle.std.proofs.Common.{◌≡◌, ℕ, zero, suc, ◌+◌, ◌*◌, ◌/◌, ◌%◌, ◌^◌, ◌<◌, ◌≤◌, Bool, true, false, not, refl, ap, sym, ◌∙◌, arith, pow-suc, lit<, inl, inr, subst, List, [], ◌∷◌, ◌++◌, Option, Some, None, ◌&&◌, ◌==◌}
+use Rattle.std.proofs.Common.{◌≡◌, ℕ, zero, suc, ◌+◌, ◌*◌, ◌/◌, ◌%◌, ◌^◌, ◌<◌, ◌≤◌, Bool, true, false, not, refl, ap, sym, ◌∙◌, arith, pow-suc, lit<, inl, inr, subst, List, [], ◌∷◌, ◌++◌, Some, None, ◌&&◌, ◌==◌}
 use Rattle.std.specs.Prelude.{map, filter, find, flat_map, All}
 use Rattle.std.specs.List.{list_all, range_with_len}
-use Rattle.std.proofs.lemmas.Bool.{cases_lt, cases_order, eq-eqb, eqb-true, and_parts, and_from, not-true, cases_Bool, false≢true}
+use Rattle.std.proofs.lemmas.Bool.{cases_lt, cases_order, eq-eqb, eqb-true, and_parts, and_from, not-true, cases_Bool}
 use Rattle.std.proofs.lemmas.List.Elements.{All-append, All-nil, All-cons, All-head, All-tail, All-weaker}
 use Rattle.std.proofs.lemmas.Nat.Bits.{bit_at_lowest, bit_at-suc, bit_at-zero}
 use Rattle.ce_model.specs.declared.topology.Subcube.{Subcube}
 use Rattle.ce_model.specs.Limits.{greatest_dim}
-use Rattle.ce_model.specs.Subcubes.{extracted, extract, deposited, deposit, node_of, is_inside, ones_of, IsPart, all_nodes, IsSubcube, is_base, subcube_at, with_mask, subcubes, first_free}
+use Rattle.ce_model.specs.Subcubes.{extracted_bits, extract, deposited_bits, deposit, node_of, is_inside, ones_of, IsPart, all_nodes, IsSubcube, is_base, subcube_at, with_mask, subcubes, first_free}
 
 -- ---- one bit of the mask after the other
 
@@ -15,16 +15,16 @@ use Rattle.ce_model.specs.Subcubes.{extracted, extract, deposited, deposit, node
 pub by_low_bit : (n : ℕ) (P : Type 0) → (n % 2 ≡ 1 → P) → (n % 2 ≡ 0 → P) → P
 by_low_bit n P one none = elim (cases_lt (n % 2) 1) [ inl h ↦ none (omega arith) | inr h ↦ one (omega arith) ]
 
-pub extracted-one : (bits n mask : ℕ) → mask % 2 ≡ 1 → extracted (suc bits) n mask ≡ n % 2 + 2 * extracted bits (n / 2) (mask / 2)
+pub extracted-one : (bits n mask : ℕ) → mask % 2 ≡ 1 → extracted_bits (suc bits) n mask ≡ n % 2 + 2 * extracted_bits bits (n / 2) (mask / 2)
 extracted-one bits n mask one = rw one refl
 
-pub extracted-none : (bits n mask : ℕ) → mask % 2 ≡ 0 → extracted (suc bits) n mask ≡ extracted bits (n / 2) (mask / 2)
+pub extracted-none : (bits n mask : ℕ) → mask % 2 ≡ 0 → extracted_bits (suc bits) n mask ≡ extracted_bits bits (n / 2) (mask / 2)
 extracted-none bits n mask none = rw none refl
 
-pub deposited-one : (bits r mask : ℕ) → mask % 2 ≡ 1 → deposited (suc bits) r mask ≡ r % 2 + 2 * deposited bits (r / 2) (mask / 2)
+pub deposited-one : (bits r mask : ℕ) → mask % 2 ≡ 1 → deposited_bits (suc bits) r mask ≡ r % 2 + 2 * deposited_bits bits (r / 2) (mask / 2)
 deposited-one bits r mask one = rw one refl
 
-pub deposited-none : (bits r mask : ℕ) → mask % 2 ≡ 0 → deposited (suc bits) r mask ≡ 2 * deposited bits r (mask / 2)
+pub deposited-none : (bits r mask : ℕ) → mask % 2 ≡ 0 → deposited_bits (suc bits) r mask ≡ 2 * deposited_bits bits r (mask / 2)
 deposited-none bits r mask none = rw none refl
 
 pub count_of-one : (bits mask : ℕ) → mask % 2 ≡ 1 → 2 ^ ones_of (suc bits) mask ≡ 2 * 2 ^ ones_of bits (mask / 2)
@@ -42,7 +42,7 @@ pub ones_of-bound : (bits n : ℕ) → ones_of bits n ≤ bits
 ones_of-bound zero n = omega arith
 ones_of-bound (suc bits) n = omega (arith, ones_of-bound bits (n / 2))
 
-pub deposited-below : (bits r mask : ℕ) → deposited bits r mask < 2 ^ bits
+pub deposited-below : (bits r mask : ℕ) → deposited_bits bits r mask < 2 ^ bits
 deposited-below zero r mask = lit< tt
 deposited-below (suc bits) r mask =
     by_low_bit mask _
@@ -50,7 +50,7 @@ deposited-below (suc bits) r mask =
     (λ none. omega (arith, pow-suc 2 bits, deposited-none bits r mask none, deposited-below bits r (mask / 2)))
 
 -- the bits that a mask takes out of a number are a number of as many bits as the mask has ones
-pub extracted-below : (bits n mask : ℕ) → extracted bits n mask < 2 ^ ones_of bits mask
+pub extracted-below : (bits n mask : ℕ) → extracted_bits bits n mask < 2 ^ ones_of bits mask
 extracted-below zero n mask = lit< tt
 extracted-below (suc bits) n mask =
     let rest = extracted-below bits (n / 2) (mask / 2) in
@@ -58,82 +58,82 @@ extracted-below (suc bits) n mask =
     (λ one. omega (arith, rest, count_of-one bits mask one, extracted-one bits n mask one))
     (λ none. omega (arith, rest, count_of-none bits mask none, extracted-none bits n mask none))
 
-pub extracted-zero : (bits mask : ℕ) → extracted bits 0 mask ≡ 0
+pub extracted-zero : (bits mask : ℕ) → extracted_bits bits 0 mask ≡ 0
 extracted-zero zero mask = refl
 extracted-zero (suc bits) mask =
     let rest = extracted-zero bits (mask / 2) in
     by_low_bit mask _
     (λ one. omega (arith, rest, extracted-one bits 0 mask one)) (λ none. extracted-none bits 0 mask none ∙ rest)
 
-pub deposited-no_mask : (bits r : ℕ) → deposited bits r 0 ≡ 0
+pub deposited-no_mask : (bits r : ℕ) → deposited_bits bits r 0 ≡ 0
 deposited-no_mask zero r = refl
 deposited-no_mask (suc bits) r = omega (arith, deposited-no_mask bits r)
 
 -- ---- deposit and extract are inverse
 
 -- the bits that were put on the mask come back, whatever bits stand beside them
-pub extracted-placed : (bits base r mask : ℕ) → extracted bits base mask ≡ 0 → r < 2 ^ ones_of bits mask
-    → extracted bits (base + deposited bits r mask) mask ≡ r
+pub extracted-placed : (bits base r mask : ℕ) → extracted_bits bits base mask ≡ 0 → r < 2 ^ ones_of bits mask
+    → extracted_bits bits (base + deposited_bits bits r mask) mask ≡ r
 extracted-placed zero base r mask apart small = omega arith
 extracted-placed (suc bits) base r mask apart small =
     by_low_bit mask _
     (λ one.
-    let rest : extracted bits (base / 2 + deposited bits (r / 2) (mask / 2)) (mask / 2) ≡ r / 2 =
+    let rest : extracted_bits bits (base / 2 + deposited_bits bits (r / 2) (mask / 2)) (mask / 2) ≡ r / 2 =
     extracted-placed bits (base / 2) (r / 2) (mask / 2) (omega (arith, extracted-one bits base mask one)) (omega (arith, count_of-one bits mask one)) in
     let even : base % 2 ≡ 0 = omega (arith, extracted-one bits base mask one) in
-    let half : (base + (r % 2 + 2 * deposited bits (r / 2) (mask / 2))) / 2 ≡ base / 2 + deposited bits (r / 2) (mask / 2) = omega arith in
-    rw (deposited-one bits r mask one, extracted-one bits (base + (r % 2 + 2 * deposited bits (r / 2) (mask / 2))) mask one, half, rest) (omega arith))
+    let half : (base + (r % 2 + 2 * deposited_bits bits (r / 2) (mask / 2))) / 2 ≡ base / 2 + deposited_bits bits (r / 2) (mask / 2) = omega arith in
+    rw (deposited-one bits r mask one, extracted-one bits (base + (r % 2 + 2 * deposited_bits bits (r / 2) (mask / 2))) mask one, half, rest) (omega arith))
     (λ none.
-    let rest : extracted bits (base / 2 + deposited bits r (mask / 2)) (mask / 2) ≡ r =
+    let rest : extracted_bits bits (base / 2 + deposited_bits bits r (mask / 2)) (mask / 2) ≡ r =
     extracted-placed bits (base / 2) r (mask / 2) (omega (arith, extracted-none bits base mask none)) (omega (arith, count_of-none bits mask none)) in
-    let half : (base + 2 * deposited bits r (mask / 2)) / 2 ≡ base / 2 + deposited bits r (mask / 2) = omega arith in
-    rw (deposited-none bits r mask none, extracted-none bits (base + 2 * deposited bits r (mask / 2)) mask none, half) rest)
+    let half : (base + 2 * deposited_bits bits r (mask / 2)) / 2 ≡ base / 2 + deposited_bits bits r (mask / 2) = omega arith in
+    rw (deposited-none bits r mask none, extracted-none bits (base + 2 * deposited_bits bits r (mask / 2)) mask none, half) rest)
 
-pub extracted-deposited : (bits r mask : ℕ) → r < 2 ^ ones_of bits mask → extracted bits (deposited bits r mask) mask ≡ r
+pub extracted-deposited : (bits r mask : ℕ) → r < 2 ^ ones_of bits mask → extracted_bits bits (deposited_bits bits r mask) mask ≡ r
 extracted-deposited bits r mask small =
-    ap (λ n. extracted bits n mask) (omega arith) ∙ extracted-placed bits 0 r mask (extracted-zero bits mask) small
+    ap (λ n. extracted_bits bits n mask) (omega arith) ∙ extracted-placed bits 0 r mask (extracted-zero bits mask) small
 
 half_part : (n mask : ℕ) → IsPart n mask → IsPart (n / 2) (mask / 2)
 half_part n mask part = record {
   ones = λ place h. sym (bit_at-suc mask place) ∙ part.ones (suc place) (bit_at-suc n place ∙ h);
 }
 
-pub deposited-extracted : (bits n mask : ℕ) → n < 2 ^ bits → IsPart n mask → deposited bits (extracted bits n mask) mask ≡ n
+pub deposited-extracted : (bits n mask : ℕ) → n < 2 ^ bits → IsPart n mask → deposited_bits bits (extracted_bits bits n mask) mask ≡ n
 deposited-extracted zero n mask small part = omega arith
 deposited-extracted (suc bits) n mask small part =
     let rest = deposited-extracted bits (n / 2) (mask / 2) (omega (arith, pow-suc 2 bits)) (half_part n mask part) in
     by_low_bit mask _
     (λ one.
-    let e = extracted bits (n / 2) (mask / 2) in
+    let e = extracted_bits bits (n / 2) (mask / 2) in
     let half : (n % 2 + 2 * e) / 2 ≡ e = omega arith in
     rw (extracted-one bits n mask one, deposited-one bits (n % 2 + 2 * e) mask one, half, rest) (omega arith))
     (λ none.
     let even : n % 2 ≡ 0 = by_low_bit n _ (λ odd. omega (arith, bit_at_lowest mask, part.ones 0 (bit_at_lowest n ∙ odd))) (λ h. h) in
-    rw (extracted-none bits n mask none, deposited-none bits (extracted bits (n / 2) (mask / 2)) mask none, rest) (omega arith))
+    rw (extracted-none bits n mask none, deposited-none bits (extracted_bits bits (n / 2) (mask / 2)) mask none, rest) (omega arith))
 
 -- what is put on a mask has its ones there
-deposited-part_at : (bits r mask place : ℕ) → deposited bits r mask / 2 ^ place % 2 ≡ 1 → mask / 2 ^ place % 2 ≡ 1
+deposited-part_at : (bits r mask place : ℕ) → deposited_bits bits r mask / 2 ^ place % 2 ≡ 1 → mask / 2 ^ place % 2 ≡ 1
 deposited-part_at zero r mask place h = absurd (omega (arith, bit_at-zero place))
 deposited-part_at (suc bits) r mask zero h =
     by_low_bit mask _ (λ one. bit_at_lowest mask ∙ one)
-    (λ none. absurd (omega (arith, deposited-none bits r mask none, bit_at_lowest (deposited (suc bits) r mask))))
+    (λ none. absurd (omega (arith, deposited-none bits r mask none, bit_at_lowest (deposited_bits (suc bits) r mask))))
 deposited-part_at (suc bits) r mask (suc place) h =
     by_low_bit mask _
     (λ one.
-    let half : deposited (suc bits) r mask / 2 ≡ deposited bits (r / 2) (mask / 2) = omega (arith, deposited-one bits r mask one) in
+    let half : deposited_bits (suc bits) r mask / 2 ≡ deposited_bits bits (r / 2) (mask / 2) = omega (arith, deposited-one bits r mask one) in
     bit_at-suc mask place
-    ∙ deposited-part_at bits (r / 2) (mask / 2) place (ap (λ n. n / 2 ^ place % 2) (sym half) ∙ sym (bit_at-suc (deposited (suc bits) r mask) place) ∙ h))
+    ∙ deposited-part_at bits (r / 2) (mask / 2) place (ap (λ n. n / 2 ^ place % 2) (sym half) ∙ sym (bit_at-suc (deposited_bits (suc bits) r mask) place) ∙ h))
     (λ none.
-    let half : deposited (suc bits) r mask / 2 ≡ deposited bits r (mask / 2) = omega (arith, deposited-none bits r mask none) in
+    let half : deposited_bits (suc bits) r mask / 2 ≡ deposited_bits bits r (mask / 2) = omega (arith, deposited-none bits r mask none) in
     bit_at-suc mask place
-    ∙ deposited-part_at bits r (mask / 2) place (ap (λ n. n / 2 ^ place % 2) (sym half) ∙ sym (bit_at-suc (deposited (suc bits) r mask) place) ∙ h))
+    ∙ deposited-part_at bits r (mask / 2) place (ap (λ n. n / 2 ^ place % 2) (sym half) ∙ sym (bit_at-suc (deposited_bits (suc bits) r mask) place) ∙ h))
 
-pub deposited-part : (bits r mask : ℕ) → IsPart (deposited bits r mask) mask
+pub deposited-part : (bits r mask : ℕ) → IsPart (deposited_bits bits r mask) mask
 deposited-part bits r mask = record { ones = deposited-part_at bits r mask }
 
 -- ---- they keep order
 
-pub deposited-rises : (bits r s mask : ℕ) → s < 2 ^ ones_of bits mask → r < s → deposited bits r mask < deposited bits s mask
+pub deposited-rises : (bits r s mask : ℕ) → s < 2 ^ ones_of bits mask → r < s → deposited_bits bits r mask < deposited_bits bits s mask
 deposited-rises zero r s mask small less = absurd (omega arith)
 deposited-rises (suc bits) r s mask small less =
     by_low_bit mask _
@@ -143,26 +143,26 @@ deposited-rises (suc bits) r s mask small less =
           omega (arith, deposited-one bits r mask one, deposited-one bits s mask one, deposited-rises bits (r / 2) (s / 2) (mask / 2) (omega (arith, count_of-one bits mask one)) below)
       | inr above ↦
           let same : r / 2 ≡ s / 2 = omega arith in
-          omega (arith, deposited-one bits r mask one, deposited-one bits s mask one, ap (λ n. deposited bits n (mask / 2)) same)
+          omega (arith, deposited-one bits r mask one, deposited-one bits s mask one, ap (λ n. deposited_bits bits n (mask / 2)) same)
     ])
     (λ none.
     omega (arith, deposited-none bits r mask none, deposited-none bits s mask none, deposited-rises bits r s (mask / 2) (omega (arith, count_of-none bits mask none)) less))
 
-pub extracted-rises : (bits n m mask : ℕ) → m < 2 ^ bits → IsPart n mask → IsPart m mask → n < m → extracted bits n mask < extracted bits m mask
+pub extracted-rises : (bits n m mask : ℕ) → m < 2 ^ bits → IsPart n mask → IsPart m mask → n < m → extracted_bits bits n mask < extracted_bits bits m mask
 extracted-rises bits n m mask small of_n of_m less =
     let back_n = deposited-extracted bits n mask (omega arith) of_n in
     let back_m = deposited-extracted bits m mask small of_m in
-    elim (cases_order (extracted bits n mask) (extracted bits m mask)) [
-      | inl same ↦ absurd (omega (arith, ap (λ r. deposited bits r mask) same, back_n, back_m))
+    elim (cases_order (extracted_bits bits n mask) (extracted_bits bits m mask)) [
+      | inl same ↦ absurd (omega (arith, ap (λ r. deposited_bits bits r mask) same, back_n, back_m))
       | inr (inl below) ↦ below
       | inr (inr above) ↦
-          absurd (omega (arith, deposited-rises bits (extracted bits m mask) (extracted bits n mask) mask (extracted-below bits n mask) above, back_n, back_m))
+          absurd (omega (arith, deposited-rises bits (extracted_bits bits m mask) (extracted_bits bits n mask) mask (extracted-below bits n mask) above, back_n, back_m))
     ]
 
 -- ---- the nodes of a subcube
 
 -- with a base that has no bit of the mask a node stays within the machine
-pub placed-within : (bits dim base r mask : ℕ) → base < 2 ^ dim → mask < 2 ^ dim → extracted bits base mask ≡ 0 → base + deposited bits r mask < 2 ^ dim
+pub placed-within : (bits dim base r mask : ℕ) → base < 2 ^ dim → mask < 2 ^ dim → extracted_bits bits base mask ≡ 0 → base + deposited_bits bits r mask < 2 ^ dim
 placed-within zero dim base r mask base_in mask_in apart = omega arith
 placed-within (suc bits) zero base r mask base_in mask_in apart =
     let none : mask ≡ 0 = omega arith in rw none (omega (arith, deposited-no_mask (suc bits) r))

@@ -3,12 +3,12 @@ use Rattle.std.specs.Prelude.{ℕ, Bool, not, ◌&&◌, ◌==◌, if◌then◌el
 use Rattle.std.specs.List.{list_any, list_all}
 use Rattle.ce_model.specs.declared.entry.What.{What}
 use Rattle.ce_model.specs.declared.entry.What.TheVariants.{Arm, Look, HostTake, Send, Spawn, Kill, Note, Take}
-use Rattle.ce_model.specs.declared.entry.Found.{Found}
-use Rattle.ce_model.specs.declared.entry.Found.TheVariants.{Quiet, Spent as FoundSpent, Busy}
+use Rattle.ce_model.specs.declared.entry.LookResult.{LookResult}
+use Rattle.ce_model.specs.declared.entry.LookResult.TheVariants.{Quiet, Spent as FoundSpent, Busy}
 use Rattle.ce_model.specs.declared.entry.KillFound.{KillFound}
 use Rattle.ce_model.specs.declared.entry.KillFound.TheVariants.{Killed, Unused, Already}
-use Rattle.ce_model.specs.declared.entry.Given.{Given}
-use Rattle.ce_model.specs.declared.entry.Given.TheVariants.{Poll, Idle, Spent}
+use Rattle.ce_model.specs.declared.entry.TakeResult.{TakeResult}
+use Rattle.ce_model.specs.declared.entry.TakeResult.TheVariants.{Poll, Idle, Spent}
 use Rattle.ce_model.specs.Parcels.{Item, is_eligible, given_as, parcel_in}
 use Rattle.ce_model.specs.Node.{Call, takes, sends, spawns, kills, notes, arms, looks, takes_mail}
 use Rattle.ce_model.specs.Trace.{NodeRecord, Standing}
@@ -19,10 +19,10 @@ is_used_up standing = standing.dispatched == standing.armed
 
 -- what a node is given, by the first item that it can be given, the process that polls longest, and whether the allowed
 -- dispatches are used up
-abbrev pub offered : Option Item → Option ℕ → Bool → Given
-offered (Some item) poller used = if used then Spent else given_as item
-offered None (Some pid) used = if used then Spent else Poll pid
-offered None None used = Idle
+abbrev pub offer_of : Option Item → Option ℕ → Bool → TakeResult
+offer_of (Some item) poller used = if used then Spent else given_as item
+offer_of None (Some pid) used = if used then Spent else Poll pid
+offer_of None None used = Idle
 
 -- an id is among those that were spawned, or whose kill was accepted
 abbrev pub is_among : ℕ → List ℕ → Bool
@@ -42,7 +42,7 @@ unfoldable pub is_quiet : List ℕ → Standing → Bool
 is_quiet nodes standing = list_all (λ r. is_quiet_node (standing.node_record r)) nodes
 
 -- what a look finds, by whether the cube is quiet and whether the allowed dispatches are used up
-abbrev pub found_where : Bool → Bool → Found
+abbrev pub found_where : Bool → Bool → LookResult
 found_where quiet used = if quiet then Quiet else (if used then FoundSpent else Busy)
 
 -- the number of the first parcel that waits
@@ -52,7 +52,7 @@ first_number items = option_map (λ parcel. parcel.number) (option_and_then parc
 -- the entry that an actor's call makes, with its answer, in a cube of these nodes that stands so
 unfoldable pub answer : List ℕ → Standing → ℕ → Call → What
 answer nodes standing actor (takes asking dead poller) =
-    Take asking dead poller (offered (find (is_eligible asking dead) (standing.node_record actor).waiting) poller (is_used_up standing))
+    Take asking dead poller (offer_of (find (is_eligible asking dead) (standing.node_record actor).waiting) poller (is_used_up standing))
 answer nodes standing actor (sends pid to bytes) = Send pid standing.parcel_count to bytes
 answer nodes standing actor (spawns pid image to) = Spawn pid image to (not (is_among to.pid (standing.node_record to.node).spawned))
 answer nodes standing actor (kills pid to) = Kill pid to (kill_found (standing.node_record to.node) to.pid)

@@ -10,16 +10,16 @@ use Rattle.ce_model.specs.declared.entry.What.{What}
 use Rattle.ce_model.specs.declared.entry.What.TheVariants.{HostTake, Send, Spawn, Kill, Take}
 use Rattle.ce_model.specs.declared.entry.KillFound.{KillFound}
 use Rattle.ce_model.specs.declared.entry.KillFound.TheVariants.{Killed, Unused, Already}
-use Rattle.ce_model.specs.declared.entry.Given.{Given}
-use Rattle.ce_model.specs.declared.entry.Given.TheVariants.{Start as GivenStart, Mail as GivenMail, Kill as GivenKill, Poll as GivenPoll, Idle, Spent}
+use Rattle.ce_model.specs.declared.entry.TakeResult.{TakeResult}
+use Rattle.ce_model.specs.declared.entry.TakeResult.TheVariants.{Start as GivenStart, Mail as GivenMail, Kill as GivenKill, Poll as GivenPoll, Idle, Spent}
 use Rattle.ce_model.specs.Limits.{greatest_dim, greatest_users, greatest_images, host_home}
-use Rattle.ce_model.specs.Lists.{walked}
+use Rattle.ce_model.specs.Lists.{walk}
 use Rattle.ce_model.specs.Blocks.{put, without_id, blocks_of_home}
 use Rattle.ce_model.specs.Parcels.{Parcel, Item, is_named_by, parcel_in}
 use Rattle.ce_model.specs.Node.{Node, fresh, is_place, Call, sends, spawns, kills, arms, looks, takes_mail, takes, notes}
 use Rattle.ce_model.specs.Saying.{says}
-use Rattle.ce_model.specs.Hearing.{Heard, start_of, mail_of, kill_of, poll_of, told, nothing, hears}
-use Rattle.ce_model.specs.Trace.{Standing, blank_record, waiting, standing}
+use Rattle.ce_model.specs.Hearing.{Hearing, start_of, mail_of, kill_of, poll_of, told, nothing, hears}
+use Rattle.ce_model.specs.Trace.{Standing, blank_record, waiting_items, standing}
 use Rattle.ce_model.specs.Answers.{answer, call_of}
 
 -- a cube: whose it is, its dimension, and the images that its processes start from
@@ -69,12 +69,12 @@ abbrev pub parcel_numbered : ℕ → List Item → Option Parcel
 parcel_numbered number items = option_and_then parcel_in (find (is_named_by (GivenMail 0 number)) items)
 
 -- a parcel is handed to the node, if there is one
-abbrev pub heard_parcel : Option Parcel → Heard
+abbrev pub heard_parcel : Option Parcel → Hearing
 heard_parcel None = nothing
 heard_parcel (Some parcel) = mail_of parcel
 
 -- what a node hears that is given this; of a parcel the entry has the number alone
-abbrev pub heard_given : List Item → Given → Heard
+abbrev pub heard_given : List Item → TakeResult → Hearing
 heard_given items (GivenStart pid image) = start_of pid image
 heard_given items (GivenMail pid number) = heard_parcel (parcel_numbered number items)
 heard_given items (GivenKill pid) = kill_of pid
@@ -89,7 +89,7 @@ kill_answer Unused = 2
 kill_answer Already = 3
 
 -- what the node hears that made this entry, with these items waiting for it
-abbrev pub heard_in : List Item → What → Heard
+abbrev pub heard_in : List Item → What → Hearing
 heard_in items (Take asking dead poller given) = heard_given items given
 heard_in items (Send pid first to bytes) = told 0
 heard_in items (Spawn pid image to fresh) = told (if fresh then 0 else 2)
@@ -99,11 +99,11 @@ heard_in items other = nothing
 -- node r, once the cube has made an entry behind these: by one of its own it says its call and hears the answer
 abbrev pub after_entry : Cube → CubeState → ℕ → List Entry → Node → Entry → Node
 after_entry cube o r before node entry =
-    if entry.actor == r then hears cube.images (says node).node (heard_in (waiting o.standing r before) entry.what) else node
+    if entry.actor == r then hears cube.images (says node).node (heard_in (waiting_items o.standing r before) entry.what) else node
 
 -- node r after a trace
 unfoldable pub state : Cube → CubeState → ℕ → List Entry → Node
-state cube o r t = walked (after_entry cube o r) (o.node r) t
+state cube o r t = walk (after_entry cube o r) (o.node r) t
 
 -- node r after a trace and after its turn was run up to its next call that leaves it, and that call
 abbrev pub rest : Cube → CubeState → ℕ → List Entry → Node
@@ -127,7 +127,7 @@ stored_by items store other = store
 -- the blocks in the host's store after a trace
 unfoldable pub hoststore : CubeState → List Entry → List BlockId
 hoststore o t =
-    walked (λ before store entry. if entry.actor == HOST then stored_by (waiting o.standing HOST before) store entry.what else store) o.hoststore t
+    walk (λ before store entry. if entry.actor == HOST then stored_by (waiting_items o.standing HOST before) store entry.what else store) o.hoststore t
 
 -- all that the cube is after a trace
 abbrev pub left_by : Cube → CubeState → List Entry → CubeState
@@ -202,8 +202,8 @@ acts cube o now actor =
     (next_entry cube o now.trace actor (slice_get now.asked 0))
 
 -- the actors of a schedule act one after another
-unfoldable pub acted : Cube → CubeState → List HostCall → List ℕ → Option Solo
-acted cube o asked schedule =
+unfoldable pub solo_from : Cube → CubeState → List HostCall → List ℕ → Option Solo
+solo_from cube o asked schedule =
     fold (λ now actor. option_and_then (λ solo. acts cube o solo actor) now) (Some (record { trace = []; asked = asked })) schedule
 
 -- the trace, where nothing more is asked of the host
@@ -214,7 +214,7 @@ whole_trace t (call ∷ calls) = None
 -- the trace of the cube alone, by what its user asks of its host and by the order in which its actors act; none where that is too
 -- little or too much, or can't be done
 unfoldable pub solo : Cube → CubeState → List HostCall → List ℕ → Option (List Entry)
-solo cube o asked schedule = option_and_then (λ end. whole_trace end.trace end.asked) (acted cube o asked schedule)
+solo cube o asked schedule = option_and_then (λ end. whole_trace end.trace end.asked) (solo_from cube o asked schedule)
 
 -- what was asked of the host in a trace
 abbrev pub asked_in : Entry → Option HostCall

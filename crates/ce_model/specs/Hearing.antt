@@ -6,24 +6,24 @@ use Rattle.ce_model.specs.declared.process.Status.TheVariants.{Running}
 use Rattle.ce_model.specs.Limits.{turn_instructions}
 use Rattle.ce_model.specs.Blocks.{put}
 use Rattle.ce_model.specs.Parcels.{Parcel}
-use Rattle.ce_model.specs.Space.{window_start, has_unused_window, mapped}
-use Rattle.ce_model.specs.Process.{Process, started, with_answer, is_receiving, is_stopped}
+use Rattle.ce_model.specs.Space.{window_start, has_unused_window, mapped_space}
+use Rattle.ce_model.specs.Process.{Process, started_process, with_answer, is_receiving, is_stopped}
 use Rattle.ce_model.specs.Node.{Turn, Node, process_at, with_process, without_poller, with_stopped}
 
 -- what a node hears in answer to its call
-pub data Heard : Type 0 where
+pub data Hearing : Type 0 where
   -- an image is to be started as a process
-  start_of : ℕ → ℕ → Heard
+  start_of : ℕ → ℕ → Hearing
   -- a parcel is here
-  mail_of : Parcel → Heard
+  mail_of : Parcel → Hearing
   -- a process is to be ended
-  kill_of : ℕ → Heard
+  kill_of : ℕ → Hearing
   -- a process that polls is told that nothing is here
-  poll_of : ℕ → Heard
+  poll_of : ℕ → Hearing
   -- the call of the turn's process is answered by this number
-  told : ℕ → Heard
+  told : ℕ → Hearing
   -- there is nothing to do, or the word was noted
-  nothing : Heard
+  nothing : Hearing
 
 -- the image of a number; the machine gives no other number than those of its images
 abbrev pub image_at : List ImageParts → ℕ → ImageParts
@@ -50,7 +50,7 @@ with_stored node parcel = record node { store = put parcel.block.id node.store }
 abbrev pub gets : Node → Parcel → Process → Node
 gets node parcel p =
     if has_unused_window p.space
-    then begins_with node parcel.to.pid (record p { space = mapped parcel.block p.space }) (window_start (length p.space.windows))
+    then begins_with node parcel.to.pid (record p { space = mapped_space parcel.block p.space }) (window_start (length p.space.windows))
     else with_stopped (with_stored node parcel) parcel.to.pid p WindowsSpent
 
 -- the call of the turn's process is answered, where there is a turn
@@ -59,8 +59,8 @@ tells value node None = node
 tells value node (Some turn) = with_process node turn.pid (with_answer value (process_at node turn.pid))
 
 -- what a node that made a call becomes by the answer; mail for a process that doesn't wait for a message goes to the store
-unfoldable pub hears : List ImageParts → Node → Heard → Node
-hears images node (start_of pid image) = begins node pid (started (image_at images image))
+unfoldable pub hears : List ImageParts → Node → Hearing → Node
+hears images node (start_of pid image) = begins node pid (started_process (image_at images image))
 hears images node (mail_of parcel) =
     if is_receiving (process_at node parcel.to.pid).status then gets node parcel (process_at node parcel.to.pid) else with_stored node parcel
 hears images node (kill_of pid) =

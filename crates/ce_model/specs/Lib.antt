@@ -5,6 +5,7 @@ pub mod Hearing
 pub mod Kernel
 pub mod Limits
 pub mod Lists
+pub mod Literals
 pub mod Machine
 pub mod Node
 pub mod Order

@@ -8,7 +8,7 @@ use Rattle.ce_model.specs.declared.topology.Subcube.{Subcube}
 use Rattle.ce_model.specs.declared.entry.Entry.{Entry}
 use Rattle.ce_model.specs.declared.entry.What.{What}
 use Rattle.ce_model.specs.declared.entry.What.TheVariants.{Getcube, Peek, Drain, Freecube}
-use Rattle.ce_model.specs.declared.entry.Given.{Given}
+use Rattle.ce_model.specs.declared.entry.TakeResult.{TakeResult}
 use Rattle.ce_model.specs.Limits.{greatest_dim, greatest_users, greatest_images, greatest_count, block_room}
 use Rattle.ce_model.specs.Lists.{without_first, EachAfter}
 use Rattle.ce_model.specs.Parcels.{Parcel, Item, mail, parcels_among, is_named_by}
@@ -104,7 +104,7 @@ item_inward sub (mail parcel) = mail (record parcel { from = place_inward sub pa
 item_inward sub other = other
 
 -- what waits for an actor once it has taken an item, if any: the first of this name is gone
-abbrev pub without_taken : Option Given → List Item → List Item
+abbrev pub without_taken : Option TakeResult → List Item → List Item
 without_taken None items = items
 without_taken (Some given) items = without_first (is_named_by given) items
 
@@ -207,12 +207,12 @@ abbrev pub with_places_outward : CubeGrant → Call → Call
 with_places_outward grant call = call_renamed (place_outward grant.sub) (λ id. id) call
 
 -- the entry that a request makes in this state, with its answer; a call of a cube makes none where no cube is held
-abbrev pub answered : MachineParts → MachineState → ℕ → ℕ → Request → Option What
-answered parts state user actor (getcube dim) = Some (Getcube dim (first_free (is_free state) parts.dim dim))
-answered parts state user actor peek = Some Peek
-answered parts state user actor drain = Some Drain
-answered parts state user actor freecube = Some Freecube
-answered parts state user actor (in_cube call) =
+abbrev pub what_of_request : MachineParts → MachineState → ℕ → ℕ → Request → Option What
+what_of_request parts state user actor (getcube dim) = Some (Getcube dim (first_free (is_free state) parts.dim dim))
+what_of_request parts state user actor peek = Some Peek
+what_of_request parts state user actor drain = Some Drain
+what_of_request parts state user actor freecube = Some Freecube
+what_of_request parts state user actor (in_cube call) =
     option_map (λ cube. answer (nodes_of cube.grant) (standing_of state cube) actor (with_places_outward cube.grant call)) (held_by state user)
 
 -- ---- what fits
@@ -261,7 +261,7 @@ IsFitting parts history user actor request = (user < parts.users) × IsFittingIn
 pub record IsLawfulEntry (parts : MachineParts) (history : List Entry) (entry : Entry) : Type 0 where
   pub request : Request
   pub fits : IsFitting parts history entry.user entry.actor request
-  pub answer : answered parts (after history) entry.user entry.actor request ≡ Some entry.what
+  pub answer : what_of_request parts (after history) entry.user entry.actor request ≡ Some entry.what
 
 -- the machine allows the history
 abbrev pub IsLawful : MachineParts → List Entry → Type 0

@@ -9,7 +9,7 @@ use Rattle.ce_model.specs.Limits.{process_count}
 use Rattle.ce_model.specs.Lists.{without_first}
 use Rattle.ce_model.specs.Blocks.{put_all, blocks_of_home}
 use Rattle.ce_model.specs.Space.{mapped_ids}
-use Rattle.ce_model.specs.Process.{Process, unborn, ended, is_receiving, is_stopped}
+use Rattle.ce_model.specs.Process.{Process, unborn_process, ended_process, is_receiving, is_stopped}
 
 -- the turn of a process: its id, how many instructions it may still run, and how many counted calls it has made
 pub record Turn : Type 0 where
@@ -36,7 +36,7 @@ fresh r dim images = record {
   dim = dim;
   home = r;
   images = images;
-  processes = replicate process_count unborn;
+  processes = replicate process_count unborn_process;
   store = blocks_of_home r;
   polling = [];
   turn = None;
@@ -58,7 +58,7 @@ is_host_place to = to.node == HOST && to.pid == 0
 -- ---- processes
 
 abbrev pub process_at : Node → ℕ → Process
-process_at node pid = slice_index_or node.processes pid unborn
+process_at node pid = slice_index_or node.processes pid unborn_process
 
 -- the node once this process is as given
 abbrev pub with_process : Node → ℕ → Process → Node
@@ -71,7 +71,7 @@ without_poller pid polling = without_first (λ other. other == pid) polling
 -- a process stops: its blocks go to the store, it polls no longer, and the turn is over
 abbrev pub with_stopped : Node → ℕ → Process → Stop → Node
 with_stopped node pid p cause = record node {
-  processes = slice_set node.processes pid (ended cause p);
+  processes = slice_set node.processes pid (ended_process cause p);
   store = put_all (mapped_ids p.space) node.store;
   polling = without_poller pid node.polling;
   turn = None;

@@ -4,11 +4,11 @@ use Rattle.ce_model.specs.declared.topology.Place.{Place}
 use Rattle.ce_model.specs.declared.entry.Entry.{Entry}
 use Rattle.ce_model.specs.declared.entry.What.{What}
 use Rattle.ce_model.specs.declared.entry.What.TheVariants.{HostTake, Take}
-use Rattle.ce_model.specs.declared.entry.Given.TheVariants.{Mail}
-use Rattle.ce_model.specs.Lists.{walked, IsFront}
+use Rattle.ce_model.specs.declared.entry.TakeResult.TheVariants.{Mail}
+use Rattle.ce_model.specs.Lists.{walk, IsFront}
 use Rattle.ce_model.specs.Parcels.{Parcel, Item, parcels_among, is_same_place, is_member}
 use Rattle.ce_model.specs.Cube.{parcel_numbered}
-use Rattle.ce_model.specs.Trace.{Standing, waiting, sent_to}
+use Rattle.ce_model.specs.Trace.{Standing, waiting_items, sent_to}
 
 -- the parcel goes from the one place to the other
 abbrev pub is_between : Place → Place → Parcel → Bool
@@ -19,8 +19,8 @@ abbrev pub bytes_between : Place → Place → List Item → List (List ℕ)
 bytes_between from to items = map (λ parcel. parcel.block.bytes) (filter (is_between from to) (parcels_among items))
 
 -- what was sent from the one place to the other, in order; what waited at first counts as sent
-unfoldable pub sent : Standing → Place → Place → List Entry → List (List ℕ)
-sent o from to t = bytes_between from to (sent_to o to.node t)
+unfoldable pub messages_sent : Standing → Place → Place → List Entry → List (List ℕ)
+messages_sent o from to t = bytes_between from to (sent_to o to.node t)
 
 -- the number of the parcel that an entry of its actor hands to a process there: to one that asked for a message, or to the host
 abbrev pub number_handed : ℕ → What → Option ℕ
@@ -39,9 +39,9 @@ bytes_handed from to items entry =
     map (λ parcel. parcel.block.bytes) (filter (is_between from to) (option_to_list (parcel_handed to items entry)))
 
 -- what the one got from the other, in the order of the trace
-unfoldable pub got : Standing → Place → Place → List Entry → List (List ℕ)
-got o from to t = walked (λ before messages entry. messages ++ bytes_handed from to (waiting o to.node before) entry) [] t
+unfoldable pub messages_got : Standing → Place → Place → List Entry → List (List ℕ)
+messages_got o from to t = walk (λ before messages entry. messages ++ bytes_handed from to (waiting_items o to.node before) entry) [] t
 
 -- after every front of the trace, what any one got from another is a front of what that one sent it
 abbrev pub IsInOrder : Standing → List Entry → Type 0
-IsInOrder o t = (front : List Entry) → IsFront front t → (from to : Place) → IsFront (got o from to front) (sent o from to front)
+IsInOrder o t = (front : List Entry) → IsFront front t → (from to : Place) → IsFront (messages_got o from to front) (messages_sent o from to front)

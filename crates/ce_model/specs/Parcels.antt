@@ -2,8 +2,8 @@
 use Rattle.std.specs.Prelude.{ℕ, ◌+◌, ◌/◌, ◌%◌, ◌^◌, Bool, true, false, ◌&&◌, ◌||◌, ◌==◌, List, [], ◌∷◌, filter_map, Option, Some, None}
 use Rattle.ce_model.specs.declared.topology.Place.{Place}
 use Rattle.ce_model.specs.declared.topology.BlockId.{BlockId}
-use Rattle.ce_model.specs.declared.entry.Given.{Given}
-use Rattle.ce_model.specs.declared.entry.Given.TheVariants.{Start, Mail, Kill}
+use Rattle.ce_model.specs.declared.entry.TakeResult.{TakeResult}
+use Rattle.ce_model.specs.declared.entry.TakeResult.TheVariants.{Start, Mail, Kill}
 use Rattle.ce_model.specs.Blocks.{Block}
 
 -- a parcel: who sent it to whom, its number among all parcels of its cube, and the block that carries its bytes
@@ -34,13 +34,13 @@ is_eligible asking dead (mail parcel) = is_member parcel.to.pid asking || is_mem
 is_eligible asking dead (kill pid) = true
 
 -- how an entry names the item that a node is given
-abbrev pub given_as : Item → Given
+abbrev pub given_as : Item → TakeResult
 given_as (start pid image) = Start pid image
 given_as (mail parcel) = Mail parcel.to.pid parcel.number
 given_as (kill pid) = Kill pid
 
 -- an entry names this item: a process is started once and killed once, and a parcel has its number
-abbrev pub is_named_by : Given → Item → Bool
+abbrev pub is_named_by : TakeResult → Item → Bool
 is_named_by (Start pid image) (start pid' image') = pid == pid'
 is_named_by (Mail pid number) (mail parcel) = number == parcel.number
 is_named_by (Kill pid) (kill pid') = pid == pid'
@@ -61,7 +61,7 @@ abbrev pub parcels_among : List Item → List Parcel
 parcels_among items = filter_map parcel_in items
 
 -- what a node is given is an item, and not only leave to go on or none
-abbrev pub is_item : Given → Bool
+abbrev pub is_item : TakeResult → Bool
 is_item (Start pid image) = true
 is_item (Mail pid number) = true
 is_item (Kill pid) = true

@@ -8,7 +8,7 @@ use Rattle.rv_model.specs.Private.{with_loaded}
 use Rattle.rv_model.specs.declared.limits.TheConstants.{PRIVATE_END}
 use Rattle.ce_model.specs.declared.process.Status.{Status}
 use Rattle.ce_model.specs.declared.process.Status.TheVariants.{Unborn, Running, Asking, Polling, Stopped}
-use Rattle.ce_model.specs.Space.{Space, process_access, emptied}
+use Rattle.ce_model.specs.Space.{Space, process_access, emptied_space}
 
 -- what a process does, its registers, its pc, and its memory
 pub record Process : Type 0 where
@@ -34,13 +34,13 @@ is_stopped (Stopped cause) = true
 is_stopped other = false
 
 -- a process that wasn't started yet
-abbrev pub unborn : Process
-unborn = record { status = Unborn; regs = replicate register_count 0; pc = 0; space = record { private = with_loaded []; windows = [] } }
+abbrev pub unborn_process : Process
+unborn_process = record { status = Unborn; regs = replicate register_count 0; pc = 0; space = record { private = with_loaded []; windows = [] } }
 
 -- a process as it starts: its image's bytes and zeros behind them, the pc at the image's entry, `sp` at the end of private
 -- memory, all other registers 0, and no window used
-abbrev pub started : ImageParts → Process
-started image = record {
+abbrev pub started_process : ImageParts → Process
+started_process image = record {
   status = Running;
   regs = slice_set (replicate register_count 0) 2 PRIVATE_END;
   pc = image.entry;
@@ -48,8 +48,8 @@ started image = record {
 }
 
 -- a process that has stopped for this cause: its windows hold nothing any longer
-abbrev pub ended : Stop → Process → Process
-ended cause p = record p { status = Stopped cause; space = emptied p.space }
+abbrev pub ended_process : Stop → Process → Process
+ended_process cause p = record p { status = Stopped cause; space = emptied_space p.space }
 
 -- ---- registers that a kernel call uses
 
@@ -68,21 +68,21 @@ with_answer value p = record p { regs = slice_set p.regs 10 value }
 -- ---- the run to the next call
 
 -- a process once an instruction has left these registers, this pc and this memory
-abbrev pub moved : Process → List ℕ → ℕ → Space → Process
-moved p regs pc space = record { status = p.status; regs = regs; pc = pc; space = space }
+abbrev pub moved_process : Process → List ℕ → ℕ → Space → Process
+moved_process p regs pc space = record { status = p.status; regs = regs; pc = pc; space = space }
 
 -- what a run comes to: a call of the kernel, with the instructions that the turn has left, or why the process stops there
-pub data Reached : Type 0 where
-  at_call : ℕ → Process → Reached
-  at_stop : ℕ → Process → Stop → Reached
+pub data TurnEnd : Type 0 where
+  at_call : ℕ → Process → TurnEnd
+  at_stop : ℕ → Process → Stop → TurnEnd
 
 -- where an instruction leads, behind which `left` more may be run
-abbrev pub led_to : (Process → Reached) → ℕ → Process → Outcome Space → Reached
-led_to onward left p (went regs pc space) = onward (moved p regs pc space)
-led_to onward left p (called regs pc space) = at_call left (moved p regs pc space)
+abbrev pub led_to : (Process → TurnEnd) → ℕ → Process → Outcome Space → TurnEnd
+led_to onward left p (went regs pc space) = onward (moved_process p regs pc space)
+led_to onward left p (called regs pc space) = at_call left (moved_process p regs pc space)
 led_to onward left p (stopped cause) = at_stop left p cause
 
 -- what a process comes to that may run so many instructions more: its next kernel call, its stop, or the end of its turn
-unfoldable pub reached : ℕ → Process → Reached
-reached zero p = at_stop 0 p TurnSpent
-reached (suc left) p = led_to (reached left) left p (exec process_access p.regs p.pc p.space)
+unfoldable pub turn_end : ℕ → Process → TurnEnd
+turn_end zero p = at_stop 0 p TurnSpent
+turn_end (suc left) p = led_to (turn_end left) left p (exec process_access p.regs p.pc p.space)

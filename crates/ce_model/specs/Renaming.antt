@@ -14,7 +14,7 @@ use Rattle.ce_model.specs.Parcels.{Parcel, Item, mail}
 use Rattle.ce_model.specs.Space.{Space}
 use Rattle.ce_model.specs.Process.{Process}
 use Rattle.ce_model.specs.Node.{Node, Call, sends, spawns, kills}
-use Rattle.ce_model.specs.Hearing.{Heard, mail_of}
+use Rattle.ce_model.specs.Hearing.{Hearing, mail_of}
 use Rattle.ce_model.specs.Saying.{Saying}
 use Rattle.ce_model.specs.Trace.{NodeRecord}
 use Rattle.ce_model.specs.Subcubes.{relative, node_of}
@@ -98,7 +98,7 @@ process_with rename p = record p { space = space_with rename p.space }
 abbrev pub call_with : (BlockId → BlockId) → Call → Call
 call_with rename call = call_renamed (λ place. place) rename call
 
-abbrev pub heard_with : (BlockId → BlockId) → Heard → Heard
+abbrev pub heard_with : (BlockId → BlockId) → Hearing → Hearing
 heard_with rename (mail_of parcel) = mail_of (parcel_with rename parcel)
 heard_with rename other = other
 

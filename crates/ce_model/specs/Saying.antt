@@ -3,9 +3,9 @@ use Rattle.std.specs.Prelude.{ℕ, zero, suc, Option, Some, None}
 use Rattle.rv_model.specs.declared.stop.Stop.TheVariants.{TurnSpent}
 use Rattle.rv_model.specs.Exec.{Outcome, went, called, stopped, exec}
 use Rattle.ce_model.specs.Space.{Space, process_access}
-use Rattle.ce_model.specs.Process.{Process, moved}
+use Rattle.ce_model.specs.Process.{Process, moved_process}
 use Rattle.ce_model.specs.Node.{Turn, Node, process_at, with_process, with_stopped, Call, take_of}
-use Rattle.ce_model.specs.Kernel.{Did, goes_on, leaves, turn_ends, kernel}
+use Rattle.ce_model.specs.Kernel.{CallOutcome, goes_on, leaves, turn_ends, kernel}
 
 -- a node, and the call that it makes
 pub record Saying : Type 0 where
@@ -17,16 +17,16 @@ abbrev pub asks : Node → Saying
 asks node = record { node = node; call = take_of node }
 
 -- what the node says once a kernel call came to this
-abbrev pub after_call : (Node → Turn → Saying) → Did → Saying
+abbrev pub after_call : (Node → Turn → Saying) → CallOutcome → Saying
 after_call onward (goes_on node turn) = onward node turn
 after_call onward (leaves node call) = record { node = node; call = call }
 after_call onward (turn_ends node) = asks node
 
 -- what the node says once an instruction of its process came to this, behind which `left` more may be run
 abbrev pub after_instruction : (Node → Turn → Saying) → ℕ → Node → Turn → Process → Outcome Space → Saying
-after_instruction onward left node turn p (went regs pc space) = onward (with_process node turn.pid (moved p regs pc space)) turn
+after_instruction onward left node turn p (went regs pc space) = onward (with_process node turn.pid (moved_process p regs pc space)) turn
 after_instruction onward left node turn p (called regs pc space) =
-    after_call onward (kernel node (record turn { left = left }) (moved p regs pc space))
+    after_call onward (kernel node (record turn { left = left }) (moved_process p regs pc space))
 after_instruction onward left node turn p (stopped cause) = asks (with_stopped node turn.pid p cause)
 
 -- what a process's next instruction comes to

@@ -35,16 +35,16 @@ abbrev pub has_unused_window : Space → Bool
 has_unused_window space = nat_lt (length space.windows) window_count
 
 -- the block is mapped at the next window
-abbrev pub mapped : Block → Space → Space
-mapped block space = record space { windows = space.windows ++ Some block ∷ [] }
+abbrev pub mapped_space : Block → Space → Space
+mapped_space block space = record space { windows = space.windows ++ Some block ∷ [] }
 
 -- the window holds its block no longer
-abbrev pub unmapped : ℕ → Space → Space
-unmapped k space = record space { windows = slice_set space.windows k None }
+abbrev pub unmapped_space : ℕ → Space → Space
+unmapped_space k space = record space { windows = slice_set space.windows k None }
 
 -- no window holds a block any longer
-abbrev pub emptied : Space → Space
-emptied space = record space { windows = map (λ window. None) space.windows }
+abbrev pub emptied_space : Space → Space
+emptied_space space = record space { windows = map (λ window. None) space.windows }
 
 -- the names of the blocks that are mapped, by window
 abbrev pub mapped_ids : Space → List BlockId

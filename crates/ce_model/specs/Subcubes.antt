@@ -7,27 +7,27 @@ use Rattle.ce_model.specs.declared.topology.Subcube.{Subcube}
 use Rattle.ce_model.specs.Limits.{greatest_dim}
 
 -- the bits of n at the one bits of the mask, moved together from the lowest up; for numbers of so many bits
-abbrev pub extracted : ℕ → ℕ → ℕ → ℕ
-extracted zero n mask = 0
-extracted (suc bits) n mask =
-    if mask % 2 == 1 then n % 2 + 2 * extracted bits (n / 2) (mask / 2) else extracted bits (n / 2) (mask / 2)
+abbrev pub extracted_bits : ℕ → ℕ → ℕ → ℕ
+extracted_bits zero n mask = 0
+extracted_bits (suc bits) n mask =
+    if mask % 2 == 1 then n % 2 + 2 * extracted_bits bits (n / 2) (mask / 2) else extracted_bits bits (n / 2) (mask / 2)
 
 -- the relative number of a node of a subcube
 unfoldable pub extract : ℕ → ℕ → ℕ
-extract n mask = extracted greatest_dim n mask
+extract n mask = extracted_bits greatest_dim n mask
 
 -- the number by which a cube knows a node of the machine; its host keeps the number
 unfoldable pub relative : Subcube → ℕ → ℕ
 relative sub node = if node == HOST then HOST else extract node sub.mask
 
 -- the bits of r, put on the one bits of the mask from the lowest up; for masks of so many bits
-abbrev pub deposited : ℕ → ℕ → ℕ → ℕ
-deposited zero r mask = 0
-deposited (suc bits) r mask =
-    if mask % 2 == 1 then r % 2 + 2 * deposited bits (r / 2) (mask / 2) else 2 * deposited bits r (mask / 2)
+abbrev pub deposited_bits : ℕ → ℕ → ℕ → ℕ
+deposited_bits zero r mask = 0
+deposited_bits (suc bits) r mask =
+    if mask % 2 == 1 then r % 2 + 2 * deposited_bits bits (r / 2) (mask / 2) else 2 * deposited_bits bits r (mask / 2)
 
 unfoldable pub deposit : ℕ → ℕ → ℕ
-deposit r mask = deposited greatest_dim r mask
+deposit r mask = deposited_bits greatest_dim r mask
 
 -- the node of the machine that a cube knows as r
 abbrev pub node_of : Subcube → ℕ → ℕ

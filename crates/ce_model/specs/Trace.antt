@@ -6,8 +6,8 @@ use Rattle.ce_model.specs.declared.entry.Entry.{Entry}
 use Rattle.ce_model.specs.declared.entry.What.{What}
 use Rattle.ce_model.specs.declared.entry.What.TheVariants.{Arm, HostTake, Send, Spawn, Kill, Take}
 use Rattle.ce_model.specs.declared.entry.KillFound.TheVariants.{Killed}
-use Rattle.ce_model.specs.declared.entry.Given.{Given}
-use Rattle.ce_model.specs.declared.entry.Given.TheVariants.{Mail, Idle, Spent}
+use Rattle.ce_model.specs.declared.entry.TakeResult.{TakeResult}
+use Rattle.ce_model.specs.declared.entry.TakeResult.TheVariants.{Mail, Idle, Spent}
 use Rattle.ce_model.specs.Parcels.{Parcel, Item, start, mail, kill, item_id, is_item, is_named_by, parcels_from}
 
 -- ---- what an entry does
@@ -36,7 +36,7 @@ abbrev pub items_to : ℕ → Entry → List Item
 items_to r entry = starts_in r entry.what ++ (kills_in r entry.what ++ mails_in r entry)
 
 -- what an entry takes out of what waits for its actor, as it names it; a host's messages are for process 0
-abbrev pub taken_in : What → Option Given
+abbrev pub taken_in : What → Option TakeResult
 taken_in (Take asking dead poller given) = if is_item given then Some given else None
 taken_in (HostTake number) = option_map (λ n. Mail 0 n) number
 taken_in other = None
@@ -49,7 +49,7 @@ abbrev pub killed_in : ℕ → What → List ℕ
 killed_in r what = map item_id (kills_in r what)
 
 -- a node is given work: an item, or leave to go on
-abbrev pub is_work : Given → Bool
+abbrev pub is_work : TakeResult → Bool
 is_work Idle = false
 is_work Spent = false
 is_work other = true
@@ -76,7 +76,7 @@ pub record Mark : Type 0 where
 abbrev pub blank_mark : Mark
 blank_mark = record { idle = true; asking = 0; dead = 0 }
 
-abbrev pub is_idle : Given → Bool
+abbrev pub is_idle : TakeResult → Bool
 is_idle Idle = true
 is_idle other = false
 
@@ -112,30 +112,30 @@ unfoldable pub sent_to : Standing → ℕ → List Entry → List Item
 sent_to o r t = (o.node_record r).waiting ++ flat_map (items_to r) t
 
 -- what node r has taken, as its entries name it
-unfoldable pub taken_by : ℕ → List Entry → List Given
+unfoldable pub taken_by : ℕ → List Entry → List TakeResult
 taken_by r t = filter_map (λ entry. if entry.actor == r then taken_in entry.what else None) t
 
 -- what waits at node r: what was sent to it, and what it has not taken
-unfoldable pub waiting : Standing → ℕ → List Entry → List Item
-waiting o r t = filter (λ item. not (list_any (λ given. is_named_by given item) (taken_by r t))) (sent_to o r t)
+unfoldable pub waiting_items : Standing → ℕ → List Entry → List Item
+waiting_items o r t = filter (λ item. not (list_any (λ given. is_named_by given item) (taken_by r t))) (sent_to o r t)
 
 -- the ids that were spawned on node r, and those whose kill was accepted
-unfoldable pub spawned : Standing → ℕ → List Entry → List ℕ
-spawned o r t = (o.node_record r).spawned ++ flat_map (λ entry. spawned_in r entry.what) t
+unfoldable pub spawned_ids : Standing → ℕ → List Entry → List ℕ
+spawned_ids o r t = (o.node_record r).spawned ++ flat_map (λ entry. spawned_in r entry.what) t
 
-unfoldable pub killed : Standing → ℕ → List Entry → List ℕ
-killed o r t = (o.node_record r).killed ++ flat_map (λ entry. killed_in r entry.what) t
+unfoldable pub killed_ids : Standing → ℕ → List Entry → List ℕ
+killed_ids o r t = (o.node_record r).killed ++ flat_map (λ entry. killed_in r entry.what) t
 
 -- the mark of node r
 unfoldable pub mark : Standing → ℕ → List Entry → Mark
 mark o r t = fold (λ now entry. if entry.actor == r then marked_by now entry.what else now) (o.node_record r).mark t
 
 -- the dispatches that the last Arm allows, and those made since
-unfoldable pub armed : Standing → List Entry → ℕ
-armed o t = fold (λ count entry. armed_by count entry.what) o.armed t
+unfoldable pub allowed_dispatches : Standing → List Entry → ℕ
+allowed_dispatches o t = fold (λ count entry. armed_by count entry.what) o.armed t
 
-unfoldable pub dispatched : Standing → List Entry → ℕ
-dispatched o t = fold (λ count entry. dispatched_by count entry.what) o.dispatched t
+unfoldable pub made_dispatches : Standing → List Entry → ℕ
+made_dispatches o t = fold (λ count entry. dispatched_by count entry.what) o.dispatched t
 
 -- the parcels that a trace sends, in order
 unfoldable pub parcels : List Entry → List Parcel
@@ -144,8 +144,8 @@ parcels t = flat_map (λ entry. parcels_of entry.actor entry.what) t
 -- how the cube stands after a trace
 abbrev pub standing : Standing → List Entry → Standing
 standing o t = record {
-  node_record = λ r. record { waiting = waiting o r t; spawned = spawned o r t; killed = killed o r t; mark = mark o r t };
-  armed = armed o t;
-  dispatched = dispatched o t;
+  node_record = λ r. record { waiting = waiting_items o r t; spawned = spawned_ids o r t; killed = killed_ids o r t; mark = mark o r t };
+  armed = allowed_dispatches o t;
+  dispatched = made_dispatches o t;
   parcel_count = o.parcel_count + length (parcels t);
 }

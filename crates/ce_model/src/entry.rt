@@ -32,7 +32,7 @@ pub enum What {
     },
     /// The host looked whether its cube is at rest.
     Look {
-        found: Found,
+        found: LookResult,
     },
     /// The host took its next message, which has this number, or found none.
     HostTake {
@@ -71,13 +71,13 @@ pub enum What {
         asking: u32,
         dead: u32,
         poller: Option<u32>,
-        given: Given,
+        given: TakeResult,
     },
 }
 
 /// What a look at a cube finds.
 #[derive(Clone, Copy, Debug, PartialEq, Eq)]
-pub enum Found {
+pub enum LookResult {
     /// Each node was found idle by its last entry, or has none, and nothing that waits can be given to it.
     Quiet,
     /// It isn't quiet, and the allowed dispatches are used up.
@@ -99,7 +99,7 @@ pub enum KillFound {
 
 /// What a node is given to do.
 #[derive(Clone, Copy, Debug, PartialEq, Eq)]
-pub enum Given {
+pub enum TakeResult {
     /// Start process `pid` from image `image`.
     Start { pid: u32, image: u32 },
     /// The message of this number is for process `pid`.

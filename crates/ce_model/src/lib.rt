@@ -8,7 +8,7 @@ mod lists;
 mod process;
 mod topology;
 
-pub use entry::{Entry, Found, Given, KillFound, What};
+pub use entry::{Entry, KillFound, LookResult, TakeResult, What};
 pub use limits::{
     BLOCK_ROOM, GREATEST_BLOCKS, GREATEST_COUNT, GREATEST_DIMENSION, GREATEST_IMAGES,
     GREATEST_TARGETS, GREATEST_USERS, HOME_BLOCKS, HOST_HOME, PROCESS_COUNT, TURN_CALLS,

@@ -1,5 +1,5 @@
 -- Commands that make one entry: the machine's answer is theirs.
-use Rattle.std.proofs.Common.{◌≡◌, ℕ, Bool, true, false, ◌&&◌, not, nat_lt, if◌then◌else◌, List, [], ◌∷◌, ◌++◌, length, slice_get, Option, Some, None, IsSomeAnd, option_map, option_and_then, refl, ap, sym, ◌∙◌, subst, inl}
+use Rattle.std.proofs.Common.{◌≡◌, ℕ, Bool, true, false, ◌&&◌, not, nat_lt, if◌then◌else◌, List, [], ◌∷◌, length, slice_get, Option, Some, None, IsSomeAnd, option_map, option_and_then, refl, ap, sym, ◌∙◌, subst, inl}
 use Rattle.std.proofs.lemmas.Bool.{and_parts}
 use Rattle.ce_model.specs.declared.topology.TheConstants.{HOST}
 use Rattle.ce_model.specs.declared.topology.Place.{Place}
@@ -7,7 +7,7 @@ use Rattle.ce_model.specs.declared.topology.BlockId.{BlockId}
 use Rattle.ce_model.specs.declared.topology.Subcube.{Subcube}
 use Rattle.ce_model.specs.declared.entry.Entry.{Entry}
 use Rattle.ce_model.specs.declared.entry.What.{What}
-use Rattle.ce_model.specs.declared.entry.What.TheVariants.{Getcube as GetcubeMade, Peek as PeekMade, Drain, Send as SendMade, Spawn as SpawnMade, Kill as KillMade}
+use Rattle.ce_model.specs.declared.entry.What.TheVariants.{Getcube as GetcubeMade, Peek as PeekMade, Send as SendMade, Spawn as SpawnMade, Kill as KillMade}
 use Rattle.ce_model.specs.declared.entry.KillFound.{KillFound}
 use Rattle.ce_model.specs.Node.{Call, sends, spawns, kills, is_place}
 use Rattle.ce_model.specs.Trace.{Standing}
@@ -16,29 +16,27 @@ use Rattle.ce_model.specs.Cube.{Cube, opening, left_by, hoststore, asked_by, cal
 use Rattle.ce_model.specs.Owners.{IsBlockOf}
 use Rattle.ce_model.specs.Subcubes.{relative, first_free}
 use Rattle.ce_model.specs.Renaming.{place_inward, place_outward, block_outward, call_with, entry_inward}
-use Rattle.ce_model.specs.Views.{is_drain, trace_behind, view}
-use Rattle.ce_model.specs.Machine.{MachineParts, IsMachine, IsLawful, IsLawfulEntry, MachineState, HeldCube, after, held_by, is_free, nodes_of, standing_of, with_places_outward, Request, getcube, peek, drain, freecube, in_cube, IsCallOf}
-use Rattle.ce_model.proofs.Walked.{each-more}
+use Rattle.ce_model.specs.Views.{trace_behind, view}
+use Rattle.ce_model.specs.Machine.{MachineParts, IsMachine, IsLawful, HeldCube, after, held_by, is_free, nodes_of, standing_of, with_places_outward, Request, getcube, peek, drain, freecube, in_cube, IsCallOf}
 use Rattle.ce_solo.proofs.Sending.{place_parts}
 use Rattle.ce_solo.proofs.Made.{made}
 use Rattle.ce_solo.proofs.Projection.Numbers.{IsPlaced, relative_host, place_in_out, block_in_out}
 use Rattle.ce_solo.proofs.Projection.Calls.{IsCallWithin, made-within}
 use Rattle.ce_solo.proofs.Projection.Views.{view-is}
 use Rattle.ce_solo.proofs.Projection.Own.{own_cube, stands}
-use Rattle.ce_solo.proofs.Projection.Law.{Holds, projected}
+use Rattle.ce_solo.proofs.Projection.Law.{IsProjectedHistory, projected}
 use Rattle.ce_host.specs.declared.command.Command.TheVariants.{Getcube, Peek, Spawn, Kill, Send}
 use Rattle.ce_host.specs.declared.command.Command.{Command}
 use Rattle.ce_host.specs.declared.answer.Answer.{Answer}
 use Rattle.ce_host.specs.declared.answer.Answer.TheVariants.{Peeked as PeekFound, Ok as Done, Used}
 use Rattle.ce_script.specs.Rounds.{RoundKind}
-use Rattle.ce_daemon.specs.Peeks.{peeked}
+use Rattle.ce_daemon.specs.Peeks.{peek_result}
 use Rattle.ce_script.specs.Commands.{by_host, getcube_reply, kill_reply, IsAtPlace, IsSpawn, IsKill, IsSend}
 use Rattle.ce_record.specs.Asked.{request_of, reply_by, IsAsked}
-use Rattle.ce_record.specs.Held.{holding_of, held_now, cube_in, AreAtRest}
+use Rattle.ce_record.specs.Held.{holding_of, held_now, cube_in}
 use Rattle.ce_record.specs.Run.{IsNextCommand}
 use Rattle.ce_record.specs.Laws.{AskedIsNext}
 use Rattle.ce_record.proofs.Held.{own-user}
-use Rattle.ce_record.proofs.Resting.{entry-rests, rest-by}
 use Rattle.ce_record.proofs.AtOnce.{next-by, holder-next, at-place}
 
 -- ---- what is called
@@ -107,10 +105,9 @@ some_what x y e = cc
 -- ---- what is answered
 
 module _ (kind : RoundKind) (parts : MachineParts) (history : List Entry) (user : ℕ) where
-  -- a command has this answer and makes this entry, which leaves cubes at rest
+  -- a command has this answer and makes this entry
   abbrev HasAnswer : Command → Answer → What → Type 0
-  HasAnswer command answer what =
-      (AreAtRest parts history → AreAtRest parts (history ++ by_host user what ∷ [])) → IsNextCommand kind parts history user command answer (by_host user what ∷ [])
+  HasAnswer command answer what = IsNextCommand kind parts history user command answer (by_host user what ∷ [])
 
   -- a command has the answer that its entry gives
   by_entry : (command : Command) (what what' : What) (answer answer' : Answer) → what ≡ what' → reply_by parts (after history) what ≡ Some answer
@@ -133,15 +130,15 @@ module _ (kind : RoundKind) (parts : MachineParts) (history : List Entry) (user 
       (refl, tt) (Some sub, refl, refl)
       (record { held = (λ e. absurd (cc), λ some. absurd (cc)); none = (λ e. absurd (cc), λ nothing. let no = nothing.1 in absurd (cc)) })
 
-  looked : HasAnswer Peek (PeekFound (peeked parts (after history))) PeekMade
+  looked : HasAnswer Peek (PeekFound (peek_result parts (after history))) PeekMade
   looked =
-      next-by kind parts history user (held_now history user) Peek (PeekFound (peeked parts (after history))) (by_host user PeekMade ∷ []) refl (refl, tt)
+      next-by kind parts history user (held_now history user) Peek (PeekFound (peek_result parts (after history))) (by_host user PeekMade ∷ []) refl (refl, tt)
       (history, refl, refl) tt
 
   -- ---- in a cube
 
   module _ (machine : IsMachine parts) (lawful : IsLawful parts history) (cube : HeldCube) (holds : held_by (after history) user ≡ Some cube) where
-    before : Holds parts history
+    before : IsProjectedHistory parts history
     before = projected parts history machine lawful
 
     pub placed : IsPlaced parts.dim cube.grant
@@ -330,20 +327,5 @@ module _ (kind : RoundKind) (parts : MachineParts) (history : List Entry) (user 
     by_request command id drain what reply e is replied = absurd (asks_no_drain command id e)
     by_request command id freecube what reply e is replied = absurd (asks_no_freecube command id e)
 
--- an entry that answers a command is no drain
-no_drain : (parts : MachineParts) (state : MachineState) (what : What) (reply : Answer) → reply_by parts state what ≡ Some reply → is_drain what ≡ false
-no_drain parts state Drain reply e = absurd (cc)
-no_drain parts state other reply e = refl
-
--- it leaves cubes at rest
-leaves : (parts : MachineParts) (history : List Entry) (user : ℕ) (request : Request) (what : What) → IsMachine parts → IsLawful parts history
-    → IsAsked parts history user request what → is_drain what ≡ false → AreAtRest parts history → AreAtRest parts (history ++ by_host user what ∷ [])
-leaves parts history user request what machine lawful asked goes rest =
-    let is : IsLawfulEntry parts history (by_host user what) = record { request = request; fits = asked.fits; answer = asked.answer } in
-    rest-by parts history user (by_host user what ∷ []) machine (each-more (IsLawfulEntry parts) history (by_host user what) lawful is) (refl, tt)
-    (entry-rests parts machine history lawful rest (by_host user what) is goes refl) rest
-
 pub asked : AskedIsNext
-asked kind parts history user command id request what reply machine lawful e is replied =
-    by_request kind parts history user machine lawful command id request what reply e is replied
-    (leaves parts history user request what machine lawful is (no_drain parts (after history) what reply replied))
+asked kind parts history user command id request what reply machine lawful = by_request kind parts history user machine lawful command id request what reply

@@ -1,38 +1,32 @@
 -- Commands that make no entry, and the one that gives a cube back.
-use Rattle.std.proofs.Common.{◌≡◌, ℕ, Bool, true, false, List, [], ◌∷◌, ◌++◌, append-nil, ◌∙◌, length, Option, Some, None, IsTrue, option_map, refl, ap, sym, subst}
+use Rattle.std.proofs.Common.{◌≡◌, ℕ, Bool, true, false, List, [], length, Option, Some, None, IsTrue, option_map, refl, ap, sym, subst}
 use Rattle.std.specs.List.{AllByRecursion}
 use Rattle.ce_model.specs.declared.topology.Place.{Place}
 use Rattle.ce_model.specs.declared.entry.Entry.{Entry}
-use Rattle.ce_model.specs.declared.entry.What.TheVariants.{Drain, Freecube as FreecubeMade}
 use Rattle.ce_model.specs.Node.{is_place, process_at}
 use Rattle.ce_model.specs.Cube.{opening, hoststore, rest}
 use Rattle.ce_model.specs.Views.{view}
-use Rattle.ce_model.specs.Machine.{MachineParts, IsMachine, IsLawful, HeldCube, after, held_by}
+use Rattle.ce_model.specs.Machine.{MachineParts, HeldCube, after, held_by}
 use Rattle.ce_host.specs.declared.command.Command.{Command}
 use Rattle.ce_host.specs.declared.command.Command.TheVariants.{Getcube, Peek, Freecube, Spawn, Kill, Send, Dump, Trace}
 use Rattle.ce_host.specs.declared.answer.Answer.{Answer}
 use Rattle.ce_host.specs.declared.answer.Answer.TheVariants.{NoCube, Held, Freed, NoPlace, NoStore, State, Entries}
 use Rattle.ce_script.specs.Rounds.{RoundKind}
 use Rattle.ce_script.specs.Moments.{Holding, moments_behind}
-use Rattle.ce_script.specs.Commands.{IsCommand, IsAtPlace, by_host, IsSend}
+use Rattle.ce_script.specs.Commands.{IsCommand, IsAtPlace, IsSend}
 use Rattle.ce_record.specs.Asked.{wants_cube, place_in}
-use Rattle.ce_record.specs.Held.{holding_of, held_now, cube_in, AreAtRest}
+use Rattle.ce_record.specs.Held.{holding_of, held_now, cube_in}
 use Rattle.ce_record.specs.Run.{doing_behind, IsRefusedWhere, IsNextCommand}
 use Rattle.ce_record.proofs.Held.{own-user}
-use Rattle.ce_record.proofs.Resting.{rest-by}
-use Rattle.ce_model.proofs.Walked.{one_further}
-use Rattle.ce_solo.proofs.Projection.Held.{left-own}
-use Rattle.ce_solo.proofs.Projection.Law.{after-more}
-use Rattle.ce_record.specs.Laws.{given_back, NoCubeIsNext}
+use Rattle.ce_record.specs.Laws.{freecube_entries, NoCubeIsNext}
 
 -- a command is next by what its user holds
 pub next-by : (kind : RoundKind) (parts : MachineParts) (history : List Entry) (user : ℕ) (held : Option Holding) (command : Command) (answer : Answer) (made : List Entry)
     → held_now history user ≡ held → AllByRecursion (λ entry. entry.user ≡ user) made
     → IsCommand kind parts user held command answer (moments_behind history made) → IsRefusedWhere parts held (doing_behind history command answer made)
-    → (AreAtRest parts history → AreAtRest parts (history ++ made)) → IsNextCommand kind parts history user command answer made
-next-by kind parts history user held command answer made is own does refused rests = record {
+    → IsNextCommand kind parts history user command answer made
+next-by kind parts history user held command answer made is own does refused = record {
   own = own;
-  rests = rests;
   does = subst (λ held. IsCommand kind parts user held command answer (moments_behind history made)) (sym is) does;
   refused = subst (λ held. IsRefusedWhere parts held (doing_behind history command answer made)) (sym is) refused;
 }
@@ -42,7 +36,7 @@ at-once : (kind : RoundKind) (parts : MachineParts) (history : List Entry) (user
     → held_now history user ≡ held → IsCommand kind parts user held command answer [] → IsRefusedWhere parts held (doing_behind history command answer [])
     → IsNextCommand kind parts history user command answer []
 at-once kind parts history user held command answer is does refused =
-    next-by kind parts history user held command answer [] is tt does refused (subst (AreAtRest parts) (sym (append-nil history)))
+    next-by kind parts history user held command answer [] is tt does refused
 
 pub no_cube : NoCubeIsNext
 no_cube kind parts history user command none wants = by_command command wants
@@ -67,7 +61,7 @@ module _ (kind : RoundKind) (parts : MachineParts) (history : List Entry) (user 
   pub holder-next : (command : Command) (answer : Answer) (made : List Entry) → AllByRecursion (λ entry. entry.user ≡ user) made
       → IsCommand kind parts user (Some (holding_of history cube)) command answer (moments_behind history made)
       → IsRefusedWhere parts (Some (holding_of history cube)) (doing_behind history command answer made)
-      → (AreAtRest parts history → AreAtRest parts (history ++ made)) → IsNextCommand kind parts history user command answer made
+      → IsNextCommand kind parts history user command answer made
   holder-next command answer made =
       next-by kind parts history user (Some (holding_of history cube)) command answer made (ap (option_map (holding_of history)) holds)
 
@@ -108,16 +102,5 @@ module _ (kind : RoundKind) (parts : MachineParts) (history : List Entry) (user 
   pub trace : IsNextCommand kind parts history user Trace (Entries (length (view history cube.number))) []
   trace = now Trace (Entries (length (view history cube.number))) (refl, refl) tt
 
-  module _ (machine : IsMachine parts) (lawful : IsLawful parts (history ++ given_back user)) where
-    none_left : held_by (after (history ++ given_back user)) user ≡ None
-    none_left =
-        ap (λ h. held_by (after h) user) (sym (one_further history (by_host user Drain) (by_host user FreecubeMade ∷ [])))
-        ∙ ap (λ state. held_by state user) (after-more (history ++ by_host user Drain ∷ []) (by_host user FreecubeMade))
-        ∙ left-own user (after (history ++ by_host user Drain ∷ []))
-
-    pub freecube : IsNextCommand kind parts history user Freecube Freed (given_back user)
-    freecube =
-        holder-next Freecube Freed (given_back user) (refl, (refl, tt))
-        (refl, ap given_back (sym (own-user history user cube holds))) tt
-        (rest-by parts history user (given_back user) machine lawful (refl, (refl, tt))
-        (λ cube held. let none = none_left in absurd (cc)))
+  pub freecube : IsNextCommand kind parts history user Freecube Freed (freecube_entries user)
+  freecube = holder-next Freecube Freed (freecube_entries user) (refl, (refl, tt)) (refl, ap freecube_entries (sym (own-user history user cube holds))) tt

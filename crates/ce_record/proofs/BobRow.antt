@@ -3,7 +3,7 @@
 use Rattle.std.proofs.Common.{◌≡◌, true, false, List, [], ◌∷◌, take, drop, Some, refl, lit<, lit≤}
 use Rattle.rv_model.specs.Image.{ImageParts}
 use Rattle.ce_model.specs.declared.entry.Entry.{Entry}
-use Rattle.ce_model.specs.declared.entry.Found.TheVariants.{Quiet as FoundQuiet}
+use Rattle.ce_model.specs.declared.entry.LookResult.TheVariants.{Quiet as FoundQuiet}
 use Rattle.ce_model.specs.Limits.{greatest_dim, greatest_users, greatest_images}
 use Rattle.ce_model.specs.Subcubes.{extract, relative}
 use Rattle.ce_model.specs.Hearing.{hears}
@@ -17,8 +17,8 @@ use Rattle.ce_script.specs.Rounds.{serial}
 use Rattle.ce_script.specs.Legal.{machine_of}
 use Rattle.ce_script.proofs.Rows.{subcube, turn_is_round, turns_over}
 use Rattle.ce_script.proofs.RowUsedAgain.{the_script, the_record}
-use Rattle.ce_script.proofs.UsedAgainDone.{SaysRow, start_round, idle_round, bob_trace}
-use Rattle.ce_script.proofs.UsedAgainLawful.{is_lawful}
+use Rattle.ce_script.proofs.UsedAgainDone.{HasSaidRow, start_round, idle_round, bob_trace}
+use Rattle.ce_script.proofs.UsedAgainLegal.{is_lawful}
 use Rattle.ce_record.specs.CubeRounds.{IsRoundOf, IsRunOf}
 use Rattle.ce_record.specs.Held.{new_cube, AreTurnsOverIn}
 use Rattle.ce_record.specs.Run.{IsNextCommand}
@@ -35,7 +35,7 @@ is_machine image = record { dim = lit≤ tt; some_user = lit< tt; users = lit≤
 abbrev before : List Entry
 before = take 8 the_record.history
 
-lawful_before : (image : ImageParts) → SaysRow image → IsLawful (machine image) before
+lawful_before : (image : ImageParts) → HasSaidRow image → IsLawful (machine image) before
 lawful_before image h = each_of_front (IsLawfulEntry (machine image)) [] before (drop 8 the_record.history) (is_lawful image h)
 
 -- bob's cube
@@ -57,11 +57,11 @@ rests = record { calls = ((refl, refl), tt); is_round = turn_is_round idle_round
 is_run : IsRunOf serial 1 bob_holds.grant 10 FoundQuiet (drop 8 the_record.history)
 is_run = record { rounds = start_round ∷ []; last = idle_round; with_work = (starts, tt); without_work = rests; entries = refl }
 
-turns : (image : ImageParts) → SaysRow image → AreTurnsOverIn (machine image) the_record.history bob_holds
+turns : (image : ImageParts) → HasSaidRow image → AreTurnsOverIn (machine image) the_record.history bob_holds
 unfolding view state hears relative extract greatest_dim
 turns image h = turns_over 1 image bob_trace (rw h.still refl)
 
-pub bob_runs : (image : ImageParts) → SaysRow image → IsNextCommand serial (machine image) before 1 (Run 10) Quiet (drop 8 the_record.history)
+pub bob_runs : (image : ImageParts) → HasSaidRow image → IsNextCommand serial (machine image) before 1 (Run 10) Quiet (drop 8 the_record.history)
 bob_runs image h =
     run serial (machine image) before 1 bob_holds holds (is_machine image) (lawful_before image h) refl 10 FoundQuiet Quiet (drop 8 the_record.history) is_run refl
-    (is_lawful image h) (turns image h)
+    (turns image h)

@@ -1,8 +1,8 @@
 -- What a user holds by its own entries is what the machine says.
-use Rattle.std.proofs.Common.{◌≡◌, ℕ, true, false, ◌&&◌, ◌==◌, List, [], ◌∷◌, ◌++◌, Option, Some, None, IsSomeAnd, option_map, refl, ap, sym, ◌∙◌, subst, append-nil, inl, inr}
+use Rattle.std.proofs.Common.{◌≡◌, ◌≢◌, ℕ, true, false, ◌&&◌, ◌==◌, List, [], ◌∷◌, ◌++◌, Option, Some, None, IsSomeAnd, option_map, refl, ap, sym, ◌∙◌, subst, append-nil, inl, inr}
 use Rattle.std.specs.Prelude.{is_some}
 use Rattle.std.specs.List.{AllByRecursion}
-use Rattle.std.proofs.lemmas.Bool.{cases_Bool, eq-eqb, eqb-true}
+use Rattle.std.proofs.lemmas.Bool.{cases_Bool, eq-eqb, ne_eqb, eqb-true}
 use Rattle.std.proofs.lemmas.List.Sums.{fold-append}
 use Rattle.std.proofs.lemmas.List.Elements.{filter-append}
 use Rattle.ce_model.specs.declared.topology.Subcube.{Subcube}
@@ -15,18 +15,18 @@ use Rattle.ce_model.specs.Answers.{answer, call_of}
 use Rattle.ce_model.specs.Subcubes.{first_free}
 use Rattle.ce_model.specs.Renaming.{CubeGrant, entry_inward}
 use Rattle.ce_model.specs.Views.{from_grant, view}
-use Rattle.ce_model.specs.Machine.{MachineParts, IsMachine, HeldCube, MachineState, held_by, is_free, nodes_of, standing_of, record_by, held_by_entry, with_cube, with_grant, with_drained, without_cube, changed_by, changed_by_call, after, Request, getcube, peek, drain, freecube, in_cube, with_places_outward, answered, IsCallOf, IsFitting, IsLawfulEntry, IsLawful}
+use Rattle.ce_model.specs.Machine.{MachineParts, IsMachine, HeldCube, MachineState, held_by, is_free, nodes_of, standing_of, record_by, held_by_entry, with_cube, with_grant, with_drained, without_cube, changed_by, changed_by_call, after, Request, getcube, peek, drain, freecube, in_cube, with_places_outward, what_of_request, IsCallOf, IsFitting, IsLawfulEntry, IsLawful}
 use Rattle.ce_model.proofs.Walked.{one_further, kept_by_each, each_of_front, each_behind}
 use Rattle.ce_solo.proofs.Projection.Views.{found-more, found-new, trace-stays, trace-grows, view-is}
 use Rattle.ce_solo.proofs.Projection.Held.{held-user, held-own, granted-own, left-own}
 use Rattle.ce_solo.proofs.Projection.Invariant.{projected-step}
 use Rattle.ce_solo.proofs.Projection.Kinds.{and_false, entry_of}
-use Rattle.ce_solo.proofs.Projection.Law.{Holds, after-more, own-called, lawful-step, projected}
+use Rattle.ce_solo.proofs.Projection.Law.{IsProjectedHistory, after-more, own-called, lawful-step, projected}
 use Rattle.ce_script.specs.Commands.{by_host}
-use Rattle.ce_script.specs.Moments.{Holding, extended, holding_by, holding, entries_of}
+use Rattle.ce_script.specs.Moments.{Holding, with_entry, holding_by, holding, entries_of, own_entries}
 use Rattle.ce_record.specs.Held.{holding_of, held_now}
 use Rattle.ce_record.specs.Laws.{HeldIsHeld, HeldAfterIsHeld, OthersStay, CubeBegins}
-use Rattle.ce_record.proofs.Moments.{map-flat, own_entries, entries-own}
+use Rattle.ce_record.proofs.Moments.{map-flat, entries-own}
 
 pub own-user : (history : List Entry) (user : ℕ) (cube : HeldCube) → held_by (after history) user ≡ Some cube → cube.grant.user ≡ user
 own-user history user cube holds = eqb-true _ _ (held-user (after history) user cube holds)
@@ -45,7 +45,7 @@ own-none user h entry other = filter-append (λ (e : Entry). e.user == user) h (
 
 -- an entry of a cube makes its trace longer
 extends : (held : Option Holding) (user actor : ℕ) (what : What) (call : Call) → call_of what ≡ Some call
-    → holding_by held (entry_of user actor what) ≡ option_map (extended (entry_of user actor what)) held
+    → holding_by held (entry_of user actor what) ≡ option_map (with_entry (entry_of user actor what)) held
 extends held user actor (Getcube dim None) call e = absurd (cc)
 extends held user actor (Getcube dim (Some sub)) call e = absurd (cc)
 extends held user actor Peek call e = absurd (cc)
@@ -55,7 +55,7 @@ extends held user actor other call e = refl
 
 -- ---- views
 
-module _ (parts : MachineParts) (h : List Entry) (before : Holds parts h) (entry : Entry) where
+module _ (parts : MachineParts) (h : List Entry) (before : IsProjectedHistory parts h) (entry : Entry) where
   -- the entry is none of this cube
   abbrev IsNoneOf : HeldCube → Type 0
   IsNoneOf cube = (entry.user == cube.grant.user && is_some (call_of entry.what)) ≡ false
@@ -92,7 +92,7 @@ module _ (parts : MachineParts) (h : List Entry) (before : Holds parts h) (entry
 abbrev Tells : List Entry → Entry → Type 0
 Tells h entry = holding_by (held_now h entry.user) entry ≡ held_now (h ++ entry ∷ []) entry.user
 
-module _ (parts : MachineParts) (machine : IsMachine parts) (h : List Entry) (before : Holds parts h) where
+module _ (parts : MachineParts) (machine : IsMachine parts) (h : List Entry) (before : IsProjectedHistory parts h) where
   -- what the machine says behind an entry that leaves this state
   now-is : (entry : Entry) (state : MachineState) (held : Option HeldCube) → changed_by (after h) entry ≡ state → held_by state entry.user ≡ held
       → held_now (h ++ entry ∷ []) entry.user ≡ option_map (holding_of (h ++ entry ∷ [])) held
@@ -146,13 +146,13 @@ module _ (parts : MachineParts) (machine : IsMachine parts) (h : List Entry) (be
   by_call entry call (Some cube) is fits e =
       let own = own-called parts machine h before entry call cube is fits e in
       extends (held_now h entry.user) entry.user entry.actor entry.what own.call own.called
-      ∙ ap (λ held. option_map (extended entry) (option_map (holding_of h) held)) is
+      ∙ ap (λ held. option_map (with_entry entry) (option_map (holding_of h) held)) is
       ∙ ap (λ t. Some (record { grant = cube.grant; trace = t })) (sym (view-grows parts h before entry entry.user cube own.call is refl own.called fits.not_drained))
       ∙ sym (now-is entry (with_cube entry.user (held_by_entry entry) (λ cube. record_by cube.grant.sub entry) (after h)) (Some (held_by_entry entry cube))
       (ap (λ call. changed_by_call call entry (after h)) own.called)
       (held-own entry.user (held_by_entry entry) (λ cube. refl) (λ cube. record_by cube.grant.sub entry) (after h) cube is))
 
-  by_request : (entry : Entry) (request : Request) → IsFitting parts h entry.user entry.actor request → answered parts (after h) entry.user entry.actor request ≡ Some entry.what
+  by_request : (entry : Entry) (request : Request) → IsFitting parts h entry.user entry.actor request → what_of_request parts (after h) entry.user entry.actor request ≡ Some entry.what
       → Tells h entry
   by_request entry (getcube d) fits e = by_grant entry d (first_free (is_free (after h)) parts.dim d) fits.1.2 e
   by_request entry peek fits e = by_peek entry e
@@ -171,7 +171,7 @@ unfolding holding after
 told-nil user = refl
 
 -- an entry of another user leaves what a user holds
-module _ (parts : MachineParts) (machine : IsMachine parts) (h : List Entry) (entry : Entry) (before : Holds parts h) (is : IsLawfulEntry parts h entry) (user : ℕ)
+module _ (parts : MachineParts) (machine : IsMachine parts) (h : List Entry) (entry : Entry) (before : IsProjectedHistory parts h) (is : IsLawfulEntry parts h entry) (user : ℕ)
     (other : (entry.user == user) ≡ false) where
   state-stays : held_by (after (h ++ entry ∷ [])) user ≡ held_by (after h) user
   state-stays = (lawful-step parts machine h before entry is).others user other
@@ -182,7 +182,7 @@ module _ (parts : MachineParts) (machine : IsMachine parts) (h : List Entry) (en
       (λ cube held. ap (λ b. b && is_some (call_of entry.what))
       (subst (λ u. (entry.user == u) ≡ false) (sym (eqb-true _ _ (held-user (after h) user cube held))) other))
 
-told-step : (parts : MachineParts) → IsMachine parts → (h : List Entry) (entry : Entry) → Holds parts h → AreTold h → IsLawfulEntry parts h entry
+told-step : (parts : MachineParts) → IsMachine parts → (h : List Entry) (entry : Entry) → IsProjectedHistory parts h → AreTold h → IsLawfulEntry parts h entry
     → AreTold (h ++ entry ∷ [])
 told-step parts machine h entry before told is user =
     elim (cases_Bool (entry.user == user)) [
@@ -193,12 +193,12 @@ told-step parts machine h entry before told is user =
       | inr other ↦ ap holding (own-none user h entry other) ∙ told user ∙ sym (other-stays parts machine h entry before is user other)
     ]
 
-now-holds : (parts : MachineParts) → IsMachine parts → (h : List Entry) (entry : Entry) → Holds parts h → IsLawfulEntry parts h entry → Holds parts (h ++ entry ∷ [])
+now-holds : (parts : MachineParts) → IsMachine parts → (h : List Entry) (entry : Entry) → IsProjectedHistory parts h → IsLawfulEntry parts h entry → IsProjectedHistory parts (h ++ entry ∷ [])
 now-holds parts machine h entry before is = projected-step parts (after h) (after (h ++ entry ∷ [])) h entry before (lawful-step parts machine h before entry is)
 
 told : (parts : MachineParts) (history : List Entry) → IsMachine parts → IsLawful parts history → AreTold history
 told parts history machine lawful =
-    (kept_by_each (IsLawfulEntry parts) (λ h. Holds parts h × AreTold h)
+    (kept_by_each (IsLawfulEntry parts) (λ h. IsProjectedHistory parts h × AreTold h)
     (λ h entry both is. (now-holds parts machine h entry both.0 is, told-step parts machine h entry both.0 both.1 is)) [] history (projected parts [] machine tt, told-nil) lawful).1
 
 pub held_is_held : HeldIsHeld
@@ -215,21 +215,21 @@ held_after_is_held parts history user doings machine lawful own =
 abbrev IsHeldStill : ℕ → List Entry → List Entry → Type 0
 IsHeldStill user h h' = (held_by (after h') user ≡ held_by (after h) user) × (held_now h' user ≡ held_now h user)
 
-stay : (parts : MachineParts) → IsMachine parts → (h made : List Entry) (user other : ℕ) → Holds parts h → EachAfter (IsLawfulEntry parts) h made
-    → AllByRecursion (λ entry. entry.user ≡ user) made → (user == other) ≡ false → IsHeldStill other h (h ++ made)
-stay parts machine h [] user other before each own differ = subst (IsHeldStill other h) (sym (append-nil h)) (refl, refl)
-stay parts machine h (entry ∷ made) user other before each own differ =
-    let foreign : (entry.user == other) ≡ false = subst (λ u. (u == other) ≡ false) (sym own.0) differ in
-    let still = stay parts machine (h ++ entry ∷ []) made user other (now-holds parts machine h entry before each.0) each.1 own.1 differ in
-    subst (IsHeldStill other h) (one_further h entry made) (
-      still.0 ∙ state-stays parts machine h entry before each.0 other foreign,
-      still.1 ∙ other-stays parts machine h entry before each.0 other foreign,
+stay : (parts : MachineParts) → IsMachine parts → (h others : List Entry) (user : ℕ) → IsProjectedHistory parts h → EachAfter (IsLawfulEntry parts) h others
+    → AllByRecursion (λ entry. entry.user ≢ user) others → IsHeldStill user h (h ++ others)
+stay parts machine h [] user before each foreign = subst (IsHeldStill user h) (sym (append-nil h)) (refl, refl)
+stay parts machine h (entry ∷ others) user before each foreign =
+    let other : (entry.user == user) ≡ false = ne_eqb _ _ foreign.0 in
+    let still = stay parts machine (h ++ entry ∷ []) others user (now-holds parts machine h entry before each.0) each.1 foreign.1 in
+    subst (IsHeldStill user h) (one_further h entry others) (
+      still.0 ∙ state-stays parts machine h entry before each.0 user other,
+      still.1 ∙ other-stays parts machine h entry before each.0 user other,
     )
 
 pub others_stay : OthersStay
-others_stay parts history user other made machine lawful own differ =
-    stay parts machine history made user other (projected parts history machine (each_of_front (IsLawfulEntry parts) [] history made lawful))
-    (each_behind (IsLawfulEntry parts) [] history made lawful) own differ
+others_stay parts history user others machine lawful =
+    stay parts machine history others user (projected parts history machine (each_of_front (IsLawfulEntry parts) [] history others lawful))
+    (each_behind (IsLawfulEntry parts) [] history others lawful)
 
 -- ---- a new cube
 

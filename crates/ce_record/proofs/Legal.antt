@@ -1,7 +1,7 @@
--- The record of a run of a whole script is legal and serial.
-use Rattle.std.proofs.Common.{◌≡◌, ℕ, ◌+◌, ◌-◌, ◌<◌, ◌≤◌, false, ◌==◌, List, [], ◌∷◌, length, map, filter, flat_map, Option, Some, None, IfSome, unwrap_or, refl, ap, sym, ◌∙◌, subst, inl, inr, arith}
+-- The record of a whole script is legal, and that of a run serial.
+use Rattle.std.proofs.Common.{◌≡◌, ℕ, ◌+◌, ◌-◌, ◌<◌, ◌≤◌, false, ◌==◌, List, [], ◌∷◌, length, map, filter, flat_map, Option, Some, None, IfSome, unwrap_or, if◌then◌else◌, refl, ap, sym, ◌∙◌, subst, inl, inr, arith}
 use Rattle.std.specs.List.{AllByRecursion, cons_option, enumerate_from}
-use Rattle.std.proofs.lemmas.Bool.{cases_Bool, ne_eqb}
+use Rattle.std.proofs.lemmas.Bool.{cases_Bool, eq-eqb, ne_eqb}
 use Rattle.std.proofs.lemmas.List.{length-map}
 use Rattle.ce_model.specs.declared.entry.Entry.{Entry}
 use Rattle.ce_model.specs.Limits.{greatest_dim}
@@ -18,13 +18,15 @@ use Rattle.ce_script.specs.declared.record.UserRecord.{UserRecord}
 use Rattle.ce_script.specs.declared.record.Record.{Record}
 use Rattle.ce_script.specs.declared.script.Script.{Script}
 use Rattle.ce_script.specs.Bounds.{IsWithinLimits, IsOwnCommandWithin}
-use Rattle.ce_script.specs.Rounds.{serial}
+use Rattle.ce_script.specs.Rounds.{RoundKind, serial}
 use Rattle.ce_script.specs.Moments.{moments}
 use Rattle.ce_script.specs.Doings.{Doing, AreDoings}
-use Rattle.ce_script.specs.Legal.{IsLegal, images_of, machine_of, EachUser, EachCube}
+use Rattle.ce_script.specs.Legal.{IsLegal, IsRecordOfScript, images_of, machine_of, EachUser, EachCube}
 use Rattle.ce_script.specs.Serial.{doings_of, IsSerial}
-use Rattle.ce_record.specs.Run.{IsRunSoFar, reply_of, IsRecordOfRun}
-use Rattle.ce_record.specs.Laws.{ScriptHasMachine, RunIsLegal, NoUserIsLegal}
+use Rattle.ce_record.specs.Run.{IsRunSoFar, IsRecordOfRun}
+use Rattle.ce_record.specs.Users.{HasDoneSoFar, command_with_answer}
+use Rattle.ce_record.specs.Laws.{ScriptHasMachine, RunIsLegal, UsersAreLegal, NoUserIsLegal}
+use Rattle.ce_record.proofs.Moments.{map-none}
 use Rattle.ce_record.proofs.Run.{run_begins}
 
 -- ---- the cubes
@@ -82,22 +84,18 @@ no_commands : (images : ℕ) (commands : List (ℕ × Command)) → AllByRecursi
 no_commands images [] all = refl
 no_commands images (own ∷ commands) all = absurd (omega (arith, all.0.0))
 
--- a command of a user, without what it did
-abbrev command_of : ℕ × Doing → ℕ × Command
-command_of own = (own.0, own.1.command)
-
-nothing_done : (all : List (ℕ × Doing)) → map command_of all ≡ [] → all ≡ []
-nothing_done [] none = refl
-nothing_done (own ∷ all) none = absurd (cc)
-
 no_history : (history : List Entry) → [] ≡ moments history → history ≡ []
 unfolding moments
 no_history [] none = refl
 no_history (entry ∷ history) none = absurd (cc)
 
+-- a command of a user, without what it did
+abbrev command_of : ℕ × Doing → ℕ × Command
+command_of own = (own.0, own.1.command)
+
 -- the commands of what a user did are the user's of all commands
 commands_done : (number : ℕ) (all : List (ℕ × Doing))
-    → map (λ (done : Command × Answer). done.0) (map reply_of (doings_of number all))
+    → map (λ (done : Command × Answer). done.0) (map command_with_answer (doings_of number all))
     ≡ map (λ (own : ℕ × Command). own.1) (filter (λ (own : ℕ × Command). own.0 == number) (map command_of all))
 commands_done number [] = refl
 commands_done number (own ∷ all) =
@@ -106,6 +104,12 @@ commands_done number (own ∷ all) =
       | inr other ↦ rw other (commands_done number all)
     ]
 
+-- ---- the users
+
+each_user : (P Q : ℕ → UserRecord → Type 0) (kept : Record) → ((number : ℕ) (user : UserRecord) → P number user → Q number user) → EachUser P kept → EachUser Q kept
+each_user P Q kept up =
+    all-weaker (λ numbered. P numbered.0 numbered.1) (λ numbered. Q numbered.0 numbered.1) (enumerate_from 0 kept.users) (λ numbered. up numbered.0 numbered.1)
+
 -- what holds of what each user was answered
 each_done : (P : ℕ → List (Command × Answer) → Type 0) (k : ℕ) (users : List UserRecord)
     → AllByRecursion (λ numbered. P numbered.0 numbered.1) (enumerate_from k (map (λ user. user.done) users))
@@ -113,14 +117,34 @@ each_done : (P : ℕ → List (Command × Answer) → Type 0) (k : ℕ) (users :
 each_done P k [] all = tt
 each_done P k (user ∷ users) all = (all.0, each_done P (k + 1) users all.1)
 
-module _ (script : Script) (kept : Record) (all : List (ℕ × Doing)) (within : IsWithinLimits script) (lawful : IsLawful (machine_of script) kept.history)
-    (run : IsRunSoFar serial (machine_of script) kept.history all) (keeps : IsRecordOfRun script all kept) where
-  empty : script.users ≡ [] → kept.history ≡ []
-  empty none =
-      let few = subst (λ users. AllByRecursion (IsOwnCommandWithin (length users) (length script.images)) script.commands) none within.commands in
-      let nothing = nothing_done all (keeps.commands ∙ no_commands (length script.images) script.commands few) in
-      no_history kept.history (sym (ap (flat_map (λ (own : ℕ × Doing). own.1.moments)) nothing) ∙ run.together)
+-- of users that are counted from beyond a number
+each_beyond : (P Q : ℕ → UserRecord → Type 0) (number k : ℕ) (users : List UserRecord) → ((n : ℕ) (user : UserRecord) → number < n → P n user → Q n user) → number < k
+    → AllByRecursion (λ numbered. P numbered.0 numbered.1) (enumerate_from k users) → AllByRecursion (λ numbered. Q numbered.0 numbered.1) (enumerate_from k users)
+each_beyond P Q number k [] up less all = tt
+each_beyond P Q number k (user ∷ users) up less all = (up k user less all.0, each_beyond P Q number (k + 1) users up (omega (arith, less)) all.1)
 
+-- what there is for each user is told by the user's number
+by_number : (P : ℕ → UserRecord → List Doing → Type 0) (k : ℕ) (users : List UserRecord)
+    → AllByRecursion (λ numbered. (doings : List Doing) × P numbered.0 numbered.1 doings) (enumerate_from k users)
+    → (doings : ℕ → List Doing) × AllByRecursion (λ numbered. P numbered.0 numbered.1 (doings numbered.0)) (enumerate_from k users)
+by_number P k [] all = (λ n. [], tt)
+by_number P k (user ∷ users) all =
+    let rest = by_number P (k + 1) users all.1 in
+    let doings : ℕ → List Doing = λ n. if n == k then all.0.0 else rest.0 n in
+    let first : doings k ≡ all.0.0 = rw (eq-eqb k k refl) refl in (
+      doings,
+      (
+        subst (P k user) (sym first) all.0.1,
+        each_beyond (λ n user. P n user (rest.0 n)) (λ n user. P n user (doings n)) k (k + 1) users (λ n user less is.
+            let later : doings n ≡ rest.0 n = rw (ne_eqb n k (omega (arith, less))) refl in subst (P n user) (sym later) is)
+            (omega arith) rest.1,
+      ),
+    )
+
+-- ---- the record
+
+module _ (kind : RoundKind) (script : Script) (kept : Record) (within : IsWithinLimits script) (lawful : IsLawful (machine_of script) kept.history)
+    (empty : script.users ≡ [] → kept.history ≡ []) where
   -- each cube's trace is legal
   legal_traces : (users : List (List ℕ)) → script.users ≡ users → EachCube IsLegalTrace (images_of script) kept.history
   legal_traces [] none = subst (EachCube IsLegalTrace (images_of script)) (sym (empty none)) tt
@@ -136,47 +160,79 @@ module _ (script : Script) (kept : Record) (all : List (ℕ × Doing)) (within :
       all-weaker (λ numbered. IsLegalTrace (cube_of (images_of script) numbered.1) (view kept.history numbered.0))
       (λ numbered. P (cube_of (images_of script) numbered.1) (view kept.history numbered.0)) (enumerate_from 0 (grants_of kept.history)) (λ numbered is. part _ _ is) traces
 
-  -- ---- the users
+  -- a user did this, and was answered what the record says
+  abbrev HasDone : ℕ → UserRecord → List Doing → Type 0
+  HasDone number user doings = HasDoneSoFar kind (machine_of script) number kept.history doings × (map command_with_answer doings ≡ user.done)
 
-  -- what a user did and was answered
-  abbrev IsUser : ℕ → UserRecord → Type 0
-  IsUser number user = map reply_of (doings_of number all) ≡ user.done
+  pub legal_by : IsRecordOfScript script kept → EachUser (λ number user. (doings : List Doing) × HasDone number user doings) kept → IsLegal kind script kept
+  legal_by keeps users =
+      let did = by_number HasDone 0 kept.users users in
+      record {
+        doings = did.0;
+        keeps = keeps;
+        lawful = lawful;
+        does = each_user (λ number user. HasDone number user (did.0 number)) _ kept (λ number user is.
+            subst (λ done. AreDoings kind (machine_of script) kept.history number done (did.0 number)) is.1 is.0.does) did.1;
+        alone = each_trace _ (λ cube t is. is.0);
+        owned = each_trace _ (λ cube t is. is.1);
+        in_order = each_trace _ (λ cube t is. is.2);
+        refused = each_user (λ number user. HasDone number user (did.0 number)) _ kept (λ number user is. is.0.refused) did.1;
+      }
 
-  each_user : (P : ℕ → UserRecord → Type 0) → ((number : ℕ) (user : UserRecord) → IsUser number user → P number user) → EachUser P kept
-  each_user P part =
-      all-weaker (λ numbered. IsUser numbered.0 numbered.1) (λ numbered. P numbered.0 numbered.1) (enumerate_from 0 kept.users)
-      (λ numbered is. part numbered.0 numbered.1 is)
-      (each_done (λ number done. map reply_of (doings_of number all) ≡ done) 0 kept.users keeps.replies)
+pub users_are_legal : UsersAreLegal
+users_are_legal kind script kept within some lawful keeps users =
+    legal_by kind script kept within lawful (λ none. absurd (omega (arith, subst (λ users. 0 < length users) none some))) keeps
+    (each_user _ _ kept (λ number user is. (is.0, (is.1, is.2))) users)
 
-  did : EachUser (λ number user. AreDoings serial (machine_of script) kept.history number user.done (doings_of number all)) kept
-  did = each_user _ (λ number user is. record { replies = is; entries = run.own number; each = run.each number })
+-- ---- a run
+
+module _ (script : Script) (kept : Record) (all : List (ℕ × Doing)) (within : IsWithinLimits script) (lawful : IsLawful (machine_of script) kept.history)
+    (run : IsRunSoFar serial (machine_of script) kept.history all) (keeps : IsRecordOfRun script all kept) where
+  empty : script.users ≡ [] → kept.history ≡ []
+  empty none =
+      let few = subst (λ users. AllByRecursion (IsOwnCommandWithin (length users) (length script.images)) script.commands) none within.commands in
+      let nothing = map-none command_of all (keeps.commands ∙ no_commands (length script.images) script.commands few) in
+      no_history kept.history (sym (ap (flat_map (λ (own : ℕ × Doing). own.1.moments)) nothing) ∙ run.together)
+
+  -- what a user was answered
+  abbrev IsAnswered : ℕ → UserRecord → Type 0
+  IsAnswered number user = map command_with_answer (doings_of number all) ≡ user.done
+
+  each_answered : (P : ℕ → UserRecord → Type 0) → ((number : ℕ) (user : UserRecord) → IsAnswered number user → P number user) → EachUser P kept
+  each_answered P part =
+      each_user IsAnswered P kept part (each_done (λ number done. map command_with_answer (doings_of number all) ≡ done) 0 kept.users keeps.replies)
 
   is_legal : IsLegal serial script kept
-  is_legal = record {
-    doings = λ number. doings_of number all;
-    keeps = record {
-      users = keeps.users;
-      commands = each_user _ (λ number user is.
-          ap (map (λ (done : Command × Answer). done.0)) (sym is) ∙ commands_done number all
-          ∙ ap (λ commands. map (λ (own : ℕ × Command). own.1) (filter (λ own. own.0 == number) commands)) keeps.commands);
-    };
-    lawful = lawful;
-    does = did;
-    alone = each_trace _ (λ cube t is. is.0);
-    owned = each_trace _ (λ cube t is. is.1);
-    in_order = each_trace _ (λ cube t is. is.2);
-    refused = each_user _ (λ number user is. run.refused number);
-  }
+  is_legal =
+      legal_by serial script kept within lawful empty (record {
+        users = keeps.users;
+        commands = each_answered _ (λ number user is.
+            ap (map (λ (done : Command × Answer). done.0)) (sym is) ∙ commands_done number all
+            ∙ ap (λ commands. map (λ (own : ℕ × Command). own.1) (filter (λ own. own.0 == number) commands)) keeps.commands);
+      }) (each_answered _ (λ number user is. (doings_of number all, (run.users number, is))))
 
   is_serial : IsSerial script kept
-  is_serial = record { doings = all; commands = keeps.commands; together = run.together; each = did }
+  is_serial = record {
+    doings = all;
+    commands = keeps.commands;
+    together = run.together;
+    each = each_answered _ (λ number user is.
+        subst (λ done. AreDoings serial (machine_of script) kept.history number done (doings_of number all)) is (run.users number).does);
+  }
 
 pub run_is_legal : RunIsLegal
 run_is_legal script kept all within lawful run keeps =
     (is_legal script kept all within lawful run keeps, is_serial script kept all within lawful run keeps)
 
 pub no_user_is_legal : NoUserIsLegal
-no_user_is_legal script within none =
+no_user_is_legal kind script within none =
     let few = subst (λ users. AllByRecursion (IsOwnCommandWithin (length users) (length script.images)) script.commands) none within.commands in
-    run_is_legal script (record { users = []; history = [] }) [] within tt (run_begins serial (machine_of script))
-    (record { commands = sym (no_commands (length script.images) script.commands few); users = sym none; replies = tt })
+    let kept : Record = record { users = []; history = [] } in (
+      legal_by kind script kept within tt (λ none. refl) (record { users = sym none; commands = tt }) tt,
+      record {
+        doings = [];
+        commands = sym (no_commands (length script.images) script.commands few);
+        together = (run_begins serial (machine_of script)).together;
+        each = tt;
+      },
+    )

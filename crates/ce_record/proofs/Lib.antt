@@ -7,9 +7,8 @@ pub mod Legal
 pub mod Messages
 pub mod Moments
 pub mod NoFitRow
-pub mod Over
 pub mod Replies
-pub mod Resting
 pub mod Run
 pub mod Running
 pub mod Turns
+pub mod Users

@@ -6,11 +6,11 @@ use Rattle.std.proofs.lemmas.Grind.{flat_map-append}
 use Rattle.ce_model.specs.declared.topology.TheConstants.{HOST}
 use Rattle.ce_model.specs.declared.topology.BlockId.{BlockId}
 use Rattle.ce_model.specs.declared.entry.Entry.{Entry}
-use Rattle.ce_model.specs.declared.entry.Given.{Given}
-use Rattle.ce_model.specs.declared.entry.Given.TheVariants.{Mail}
+use Rattle.ce_model.specs.declared.entry.TakeResult.{TakeResult}
+use Rattle.ce_model.specs.declared.entry.TakeResult.TheVariants.{Mail}
 use Rattle.ce_model.specs.Parcels.{Parcel, Item, start, mail, kill, is_named_by, parcel_in}
 use Rattle.ce_model.specs.Renaming.{block_outward, item_with, parcel_with}
-use Rattle.ce_model.specs.Trace.{Standing, items_to, sent_to, taken_by, waiting}
+use Rattle.ce_model.specs.Trace.{Standing, items_to, sent_to, taken_by, waiting_items}
 use Rattle.ce_model.specs.Cube.{opening}
 use Rattle.ce_model.specs.Views.{view}
 use Rattle.ce_model.proofs.OneMore.{is_untaken}
@@ -75,20 +75,20 @@ find-filter p q (y ∷ ys) x passes e =
     skipped false other e = e
 
 -- of two parcels of one number both were taken, or none
-named-same : (number : ℕ) (x y : Item) (given : Given) → is_numbered number x ≡ true → is_numbered number y ≡ true → is_named_by given x ≡ is_named_by given y
+named-same : (number : ℕ) (x y : Item) (given : TakeResult) → is_numbered number x ≡ true → is_numbered number y ≡ true → is_named_by given x ≡ is_named_by given y
 named-same number (mail p) (mail q) (Mail pid n) is is' = ap (λ m. n == m) (sym (eqb-true _ _ is) ∙ eqb-true _ _ is')
 named-same number (mail p) (mail q) other is is' = refl
 named-same number x y given is is' = absurd (cc)
 
-any-same : (number : ℕ) (x y : Item) (taken : List Given) → is_numbered number x ≡ true → is_numbered number y ≡ true
+any-same : (number : ℕ) (x y : Item) (taken : List TakeResult) → is_numbered number x ≡ true → is_numbered number y ≡ true
     → list_any (λ given. is_named_by given x) taken ≡ list_any (λ given. is_named_by given y) taken
 any-same number x y [] is is' = refl
 any-same number x y (given ∷ taken) is is' = ap₂ (λ a b. a || b) (named-same number x y given is is') (any-same number x y taken is is')
 
 -- what is found among what waits is found among all that was sent
-found_sent : (o : Standing) (number : ℕ) (t : List Entry) (parcel : Parcel) → find (is_numbered number) (waiting o HOST t) ≡ Some (mail parcel)
+found_sent : (o : Standing) (number : ℕ) (t : List Entry) (parcel : Parcel) → find (is_numbered number) (waiting_items o HOST t) ≡ Some (mail parcel)
     → find (is_numbered number) (sent_to o HOST t) ≡ Some (mail parcel)
-unfolding waiting
+unfolding waiting_items
 found_sent o number t parcel found =
     let taken = taken_by HOST t in
     let is = find-passes (is_numbered number) (filter (is_untaken taken) (sent_to o HOST t)) (mail parcel) found in
@@ -109,10 +109,10 @@ message parts history user cube holds machine lawful goes number parcel more num
     let o = (opening (cube_in parts cube)).standing in
     let t = view history cube.number in
     let rename = block_outward cube.grant in
-    let kept : cube.mail ≡ map (item_with rename) (waiting o HOST t) =
-    (was.kept goes).mail ∙ ap (λ t. map (item_with rename) (waiting o HOST t)) (sym (view-is history cube.number cube.grant was.behind was.found)) in
-    let inner = renamed_parcel rename (find (is_numbered number) (waiting o HOST t)) parcel
-    (sym (find-renamed rename number (waiting o HOST t)) ∙ ap (find (is_numbered number)) (sym kept) ∙ found_parcel (find (is_numbered number) cube.mail) parcel numbered) in
+    let kept : cube.mail ≡ map (item_with rename) (waiting_items o HOST t) =
+    (was.kept goes).mail ∙ ap (λ t. map (item_with rename) (waiting_items o HOST t)) (sym (view-is history cube.number cube.grant was.behind was.found)) in
+    let inner = renamed_parcel rename (find (is_numbered number) (waiting_items o HOST t)) parcel
+    (sym (find-renamed rename number (waiting_items o HOST t)) ∙ ap (find (is_numbered number)) (sym kept) ∙ found_parcel (find (is_numbered number) cube.mail) parcel numbered) in
     let found : find (is_numbered number) (sent_to o HOST (t ++ more)) ≡ Some (mail inner.0) =
     ap (find (is_numbered number)) (sent-append o HOST t more)
     ∙ find-append_found (is_numbered number) (sent_to o HOST t) (flat_map (items_to HOST) more) (mail inner.0) (found_sent o number t inner.0 inner.1) in

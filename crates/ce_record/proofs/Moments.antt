@@ -1,17 +1,28 @@
 -- The moments of a history that grows, and of its users.
-use Rattle.std.proofs.Common.{◌≡◌, ℕ, Bool, true, false, ◌==◌, if◌then◌else◌, List, [], ◌∷◌, ◌++◌, map, filter, flat_map, refl, ap, sym, ◌∙◌, append-nil}
+use Rattle.std.proofs.Common.{◌≡◌, ◌≢◌, ℕ, Bool, true, false, ◌==◌, if◌then◌else◌, List, [], ◌∷◌, ◌++◌, map, filter, flat_map, refl, ap, sym, ◌∙◌, append-nil}
 use Rattle.std.specs.List.{AllByRecursion}
+use Rattle.std.proofs.lemmas.Bool.{eq-eqb, ne_eqb}
 use Rattle.std.proofs.lemmas.List.{map-append}
 use Rattle.std.proofs.lemmas.List.Elements.{filter-append}
+use Rattle.std.proofs.lemmas.Grind.{flat_map-append}
 use Rattle.ce_model.specs.declared.entry.Entry.{Entry}
 use Rattle.ce_model.proofs.Walked.{one_further}
-use Rattle.ce_script.specs.Moments.{Moment, moments_behind, moments, moments_of, entries_of}
+use Rattle.ce_solo.proofs.Lists.{all-weaker}
+use Rattle.ce_script.specs.Moments.{Moment, moments_behind, moments, moments_of, entries_of, own_entries}
+use Rattle.ce_record.specs.Users.{own_moments}
 
 -- ---- lists
 
 pub map-flat : {X Y Z : Type 0} (g : Y → Z) (f : X → List Y) (xs : List X) → flat_map (λ x. map g (f x)) xs ≡ map g (flat_map f xs)
 map-flat g f [] = refl
 map-flat g f (x ∷ xs) = ap (λ ys. map g (f x) ++ ys) (map-flat g f xs) ∙ sym (map-append g (f x) (flat_map f xs))
+
+pub map-none : {X Y : Type 0} (f : X → Y) (xs : List X) → map f xs ≡ [] → xs ≡ []
+map-none f [] none = refl
+map-none f (x ∷ xs) none = absurd (cc)
+
+pub flat-last : {X Y : Type 0} (f : X → List Y) (xs : List X) (x : X) → flat_map f (xs ++ x ∷ []) ≡ flat_map f xs ++ f x
+flat-last f xs x = flat_map-append f xs (x ∷ []) ∙ ap (λ more. flat_map f xs ++ more) (append-nil (f x))
 
 pub filter-every : {X : Type 0} (test : X → Bool) (xs : List X) → AllByRecursion (λ x. test x ≡ true) xs → filter test xs ≡ xs
 filter-every test [] all = refl
@@ -40,15 +51,10 @@ entries-behind before (entry ∷ behind) = ap (λ rest. entry ∷ rest) (entries
 
 -- ---- a user's
 
--- a user's entries of a history
-abbrev pub own_entries : ℕ → List Entry → List Entry
-own_entries user history = filter (λ entry. entry.user == user) history
-
-own_behind : (user : ℕ) (before behind : List Entry)
-    → entries_of (filter (λ moment. moment.entry.user == user) (moments_behind before behind)) ≡ own_entries user behind
-own_behind user before [] = refl
-own_behind user before (entry ∷ behind) =
-    one (entry.user == user) (record { before = before; entry = entry }) _ _ (own_behind user (before ++ entry ∷ []) behind)
+pub entries-amid : (user : ℕ) (before behind : List Entry) → entries_of (own_moments user before behind) ≡ own_entries user behind
+entries-amid user before [] = refl
+entries-amid user before (entry ∷ behind) =
+    one (entry.user == user) (record { before = before; entry = entry }) _ _ (entries-amid user (before ++ entry ∷ []) behind)
   where
     one : (b : Bool) (moment : Moment) (rest : List Moment) (entries : List Entry) → entries_of rest ≡ entries
         → entries_of (if b then moment ∷ rest else rest) ≡ (if b then moment.entry ∷ entries else entries)
@@ -57,30 +63,36 @@ own_behind user before (entry ∷ behind) =
 
 pub entries-own : (user : ℕ) (history : List Entry) → entries_of (moments_of user history) ≡ own_entries user history
 unfolding moments
-entries-own user history = own_behind user [] history
+entries-own user history = entries-amid user [] history
 
 pub all-behind : (P : Entry → Type 0) (before behind : List Entry) → AllByRecursion P behind → AllByRecursion (λ (moment : Moment). P moment.entry) (moments_behind before behind)
 all-behind P before [] all = tt
 all-behind P before (entry ∷ behind) all = (all.0, all-behind P (before ++ entry ∷ []) behind all.1)
 
--- a user's moments of a history that grows by entries of this user, or of another
-pub own-append : (user : ℕ) (history made : List Entry)
-    → moments_of user (history ++ made) ≡ moments_of user history ++ filter (λ moment. moment.entry.user == user) (moments_behind history made)
-own-append user history made =
-    ap (filter (λ (moment : Moment). moment.entry.user == user)) (moments-append history made)
-    ∙ filter-append (λ (moment : Moment). moment.entry.user == user) (moments history) (moments_behind history made)
+-- a user's moments of a history that goes on
+pub own-append : (user : ℕ) (history between : List Entry) → moments_of user (history ++ between) ≡ moments_of user history ++ own_moments user history between
+own-append user history between =
+    ap (filter (λ (moment : Moment). moment.entry.user == user)) (moments-append history between)
+    ∙ filter-append (λ (moment : Moment). moment.entry.user == user) (moments history) (moments_behind history between)
 
-pub own-more : (user : ℕ) (history made : List Entry) → AllByRecursion (λ entry. (entry.user == user) ≡ true) made
-    → moments_of user (history ++ made) ≡ moments_of user history ++ moments_behind history made
-own-more user history made all =
-    own-append user history made
-    ∙ ap (λ more. moments_of user history ++ more)
-    (filter-every (λ (moment : Moment). moment.entry.user == user) (moments_behind history made) (all-behind (λ entry. (entry.user == user) ≡ true) history made all))
+-- by entries of this user
+pub own-all : (user : ℕ) (history made : List Entry) → AllByRecursion (λ entry. entry.user ≡ user) made → own_moments user history made ≡ moments_behind history made
+own-all user history made all =
+    filter-every (λ (moment : Moment). moment.entry.user == user) (moments_behind history made)
+    (all-behind (λ entry. (entry.user == user) ≡ true) history made
+    (all-weaker (λ entry. entry.user ≡ user) (λ entry. (entry.user == user) ≡ true) made (λ entry is. eq-eqb _ _ is) all))
 
-pub own-stays : (user : ℕ) (history made : List Entry) → AllByRecursion (λ entry. (entry.user == user) ≡ false) made
-    → moments_of user (history ++ made) ≡ moments_of user history
-own-stays user history made all =
-    own-append user history made
+-- or of others
+pub own-stays : (user : ℕ) (history others : List Entry) → AllByRecursion (λ entry. entry.user ≢ user) others → moments_of user (history ++ others) ≡ moments_of user history
+own-stays user history others foreign =
+    own-append user history others
     ∙ ap (λ more. moments_of user history ++ more)
-    (filter-no (λ (moment : Moment). moment.entry.user == user) (moments_behind history made) (all-behind (λ entry. (entry.user == user) ≡ false) history made all))
+    (filter-no (λ (moment : Moment). moment.entry.user == user) (moments_behind history others)
+    (all-behind (λ entry. (entry.user == user) ≡ false) history others
+    (all-weaker (λ entry. entry.user ≢ user) (λ entry. (entry.user == user) ≡ false) others (λ entry other. ne_eqb _ _ other) foreign)))
     ∙ append-nil (moments_of user history)
+
+-- one user's entries are of others to another
+pub foreign-to : (user other : ℕ) (made : List Entry) → user ≢ other → AllByRecursion (λ entry. entry.user ≡ user) made → AllByRecursion (λ entry. entry.user ≢ other) made
+foreign-to user other made differ =
+    all-weaker (λ entry. entry.user ≡ user) (λ entry. entry.user ≢ other) made (λ entry is same. differ (sym is ∙ same))

@@ -135,7 +135,7 @@ a_holds = refl
 freed : IsRunSoFar serial machine (at 5) (all 4)
 freed =
     run_goes_on serial machine (at 3) (all 3) 0 Freecube Freed (by 0 HOST Drain ∷ by 0 HOST FreecubeMade ∷ []) is_machine (lawful_at 3) granted
-    (freecube_next serial machine (at 3) 0 a_cube a_holds is_machine (lawful_at 5))
+    (freecube_next serial machine (at 3) 0 a_cube a_holds)
 
 ran : IsRunSoFar serial machine the_record.history (all 6)
 unfolding after extract deposit greatest_dim

@@ -1,11 +1,11 @@
 -- Commands that run rounds.
-use Rattle.std.proofs.Common.{◌≡◌, ℕ, true, false, List, [], ◌∷◌, ◌++◌, map, flat_map, Option, Some, None, IsSomeAnd, refl, ap, ap₂, sym, ◌∙◌, subst}
+use Rattle.std.proofs.Common.{◌≡◌, ℕ, true, false, List, [], ◌∷◌, ◌++◌, map, flat_map, Option, Some, None, refl, ap, ap₂, sym, ◌∙◌, subst}
 use Rattle.std.specs.List.{AllByRecursion}
 use Rattle.std.proofs.lemmas.List.{map-append}
 use Rattle.ce_model.specs.declared.topology.TheConstants.{HOST}
 use Rattle.ce_model.specs.declared.entry.Entry.{Entry}
 use Rattle.ce_model.specs.declared.entry.What.TheVariants.{Arm, Look, HostTake}
-use Rattle.ce_model.specs.declared.entry.Found.{Found}
+use Rattle.ce_model.specs.declared.entry.LookResult.{LookResult}
 use Rattle.ce_model.specs.Parcels.{Item}
 use Rattle.ce_model.specs.Trace.{sent_to}
 use Rattle.ce_model.specs.Cube.{Cube, CubeState, opening}
@@ -15,22 +15,21 @@ use Rattle.ce_model.specs.Machine.{MachineParts, IsMachine, IsLawful, HeldCube, 
 use Rattle.ce_solo.proofs.Lists.{all-append, all-weaker}
 use Rattle.ce_host.specs.declared.command.Command.TheVariants.{Run, Recv}
 use Rattle.ce_host.specs.declared.answer.Answer.{Answer}
-use Rattle.ce_script.specs.Rounds.{RoundKind, IsRoundWithWork, IsRoundWithoutWork, joined, AreTurnsOver}
+use Rattle.ce_script.specs.Rounds.{RoundKind, IsRoundWithWork, IsRoundWithoutWork, joined_lists, AreTurnsOver}
 use Rattle.ce_script.specs.Commands.{by_host, IsRun, run_reply, RecvEnd, message_next, message_behind_rest, no_message, host_take, end_entries, end_rounds, recv_reply, IsRecv}
 use Rattle.ce_record.specs.CubeRounds.{IsCallBy, IsRoundOf, IsRunOf, IsRecvOf}
 use Rattle.ce_record.specs.Run.{IsNextCommand}
-use Rattle.ce_record.specs.Held.{cube_in, AreTurnsOverIn, AreAtRest}
+use Rattle.ce_record.specs.Held.{cube_in, AreTurnsOverIn}
 use Rattle.ce_record.specs.Laws.{sent_to_host}
 use Rattle.ce_record.proofs.Moments.{entries-behind}
 use Rattle.ce_record.proofs.AtOnce.{holder-next}
 use Rattle.ce_record.proofs.Asked.{inward-is}
-use Rattle.ce_record.proofs.GoesOn.{trace_goes_on, cube_stays}
-use Rattle.ce_record.proofs.Resting.{same_cube, rest-by}
+use Rattle.ce_record.proofs.GoesOn.{trace_goes_on}
 use Rattle.ce_record.proofs.Turns.{joined-map, work-inward}
 
-calls_joined : (user : ℕ) (rounds : List (List Entry)) → AllByRecursion (AllByRecursion (IsCallBy user)) rounds → AllByRecursion (IsCallBy user) (joined rounds)
+calls_joined : (user : ℕ) (rounds : List (List Entry)) → AllByRecursion (AllByRecursion (IsCallBy user)) rounds → AllByRecursion (IsCallBy user) (joined_lists rounds)
 calls_joined user [] all = tt
-calls_joined user (round ∷ rounds) all = all-append (IsCallBy user) round (joined rounds) all.0 (calls_joined user rounds all.1)
+calls_joined user (round ∷ rounds) all = all-append (IsCallBy user) round (joined_lists rounds) all.0 (calls_joined user rounds all.1)
 
 module _ (kind : RoundKind) (parts : MachineParts) (history : List Entry) (user : ℕ) (cube : HeldCube) (holds : held_by (after history) user ≡ Some cube)
     (machine : IsMachine parts) (lawful : IsLawful parts history) (goes : cube.drained ≡ false) where
@@ -68,20 +67,11 @@ module _ (kind : RoundKind) (parts : MachineParts) (history : List Entry) (user 
   over : (made : List Entry) → AllByRecursion (IsCallBy user) made → AreTurnsOverIn parts (history ++ made) cube → AreTurnsOver own o (t ++ map inward made)
   over made calls turns = subst (AreTurnsOver own o) (trace-is made calls) turns
 
-  -- behind calls whose turns are over cubes are at rest
-  rests : (made : List Entry) → AllByRecursion (IsCallBy user) made → IsLawful parts (history ++ made) → AreTurnsOverIn parts (history ++ made) cube
-      → AreAtRest parts history → AreAtRest parts (history ++ made)
-  rests made calls lawful_now turns =
-      rest-by parts history user made machine lawful_now (own_all made calls) (λ now held.
-      let stays = subst (λ held. IsSomeAnd held (λ now. (now.number ≡ cube.number) × (now.grant ≡ cube.grant) × (now.drained ≡ false))) held
-      (cube_stays parts history user cube holds machine lawful goes made calls) in
-      (stays.2, same_cube parts (history ++ made) cube now (sym stays.0) (sym stays.1) turns))
-
   -- the host's entries, as the cube knows them
   arm_is : (count : ℕ) → inward (by_host user (Arm count)) ≡ by_host cube.grant.user (Arm count)
   arm_is count = inward-is kind parts history user machine lawful cube holds (Arm count) (Arm count) refl
 
-  look_is : (found : Found) → inward (by_host user (Look found)) ≡ by_host cube.grant.user (Look found)
+  look_is : (found : LookResult) → inward (by_host user (Look found)) ≡ by_host cube.grant.user (Look found)
   look_is found = inward-is kind parts history user machine lawful cube holds (Look found) (Look found) refl
 
   take_is : (number : Option ℕ) → inward (host_take user number) ≡ host_take cube.grant.user number
@@ -89,22 +79,22 @@ module _ (kind : RoundKind) (parts : MachineParts) (history : List Entry) (user 
 
   -- ---- run
 
-  module _ (count : ℕ) (found : Found) (answer : Answer) (made : List Entry) (is : IsRunOf kind user cube.grant count found made) where
+  module _ (count : ℕ) (found : LookResult) (answer : Answer) (made : List Entry) (is : IsRunOf kind user cube.grant count found made) where
     run_calls : AllByRecursion (IsCallBy user) made
     run_calls =
         subst (AllByRecursion (IsCallBy user)) (sym is.entries) (
           (refl, refl),
-          all-append (IsCallBy user) (joined is.rounds) (is.last ++ by_host user (Look found) ∷ [])
+          all-append (IsCallBy user) (joined_lists is.rounds) (is.last ++ by_host user (Look found) ∷ [])
               (calls_joined user is.rounds (round_calls is.rounds is.with_work))
               (all-append (IsCallBy user) is.last (by_host user (Look found) ∷ []) is.without_work.calls ((refl, refl), tt)),
         )
 
     run_entries : map inward made
-        ≡ by_host cube.grant.user (Arm count) ∷ (joined (map (map inward) is.rounds) ++ (map inward is.last ++ by_host cube.grant.user (Look found) ∷ []))
+        ≡ by_host cube.grant.user (Arm count) ∷ (joined_lists (map (map inward) is.rounds) ++ (map inward is.last ++ by_host cube.grant.user (Look found) ∷ []))
     run_entries =
         ap (map inward) is.entries
         ∙ ap₂ (λ first more. first ∷ more) (arm_is count)
-        (map-append inward (joined is.rounds) (is.last ++ by_host user (Look found) ∷ [])
+        (map-append inward (joined_lists is.rounds) (is.last ++ by_host user (Look found) ∷ [])
         ∙ ap₂ (λ a b. a ++ b) (joined-map inward is.rounds)
         (map-append inward is.last (by_host user (Look found) ∷ []) ∙ ap (λ look. map inward is.last ++ look ∷ []) (look_is found)))
 
@@ -119,12 +109,11 @@ module _ (kind : RoundKind) (parts : MachineParts) (history : List Entry) (user 
       reply = reply;
     }
 
-    pub run : run_reply found ≡ Some answer → IsLawful parts (history ++ made) → AreTurnsOverIn parts (history ++ made) cube
-        → IsNextCommand kind parts history user (Run count) answer made
-    run reply lawful_now turns =
+    pub run : run_reply found ≡ Some answer → AreTurnsOverIn parts (history ++ made) cube → IsNextCommand kind parts history user (Run count) answer made
+    run reply turns =
         holder-next kind parts history user cube holds (Run count) answer made (own_all made run_calls)
         (subst (λ entries. IsRun kind own count answer (map inward entries) × AreTurnsOver own o (t ++ map inward entries)) (sym (entries-behind history made))
-        (run_done reply, over made run_calls turns)) tt (rests made run_calls lawful_now turns)
+        (run_done reply, over made run_calls turns)) tt
 
   -- ---- recv
 
@@ -198,10 +187,10 @@ module _ (kind : RoundKind) (parts : MachineParts) (history : List Entry) (user 
       reply = end_reply (sent_to o.standing HOST (t ++ map inward made)) end ∙ reply;
     }
 
-    pub recv : recv_reply (sent_to_host parts cube (view (history ++ made) cube.number)) end ≡ Some answer → IsLawful parts (history ++ made)
-        → AreTurnsOverIn parts (history ++ made) cube → IsNextCommand kind parts history user (Recv count) answer made
-    recv reply lawful_now turns =
+    pub recv : recv_reply (sent_to_host parts cube (view (history ++ made) cube.number)) end ≡ Some answer → AreTurnsOverIn parts (history ++ made) cube
+        → IsNextCommand kind parts history user (Recv count) answer made
+    recv reply turns =
         holder-next kind parts history user cube holds (Recv count) answer made (own_all made recv_calls)
         (subst (λ entries. IsRecv kind own (sent_to o.standing HOST (t ++ map inward entries)) count answer (map inward entries) × AreTurnsOver own o (t ++ map inward entries))
         (sym (entries-behind history made))
-        (recv_done (subst (λ t. recv_reply (sent_to_host parts cube t) end ≡ Some answer) (trace-is made recv_calls) reply), over made recv_calls turns)) tt (rests made recv_calls lawful_now turns)
+        (recv_done (subst (λ t. recv_reply (sent_to_host parts cube t) end ≡ Some answer) (trace-is made recv_calls) reply), over made recv_calls turns)) tt

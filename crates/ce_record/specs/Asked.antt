@@ -7,14 +7,14 @@ use Rattle.ce_model.specs.declared.entry.Entry.{Entry}
 use Rattle.ce_model.specs.declared.entry.What.{What}
 use Rattle.ce_model.specs.declared.entry.What.TheVariants.{Getcube as GetcubeMade, Peek as PeekMade, Send as SendMade, Spawn as SpawnMade, Kill as KillMade}
 use Rattle.ce_model.specs.Node.{sends, spawns, kills}
-use Rattle.ce_model.specs.Machine.{MachineParts, MachineState, after, Request, getcube, peek, in_cube, answered, IsFitting}
-use Rattle.rk_mail.specs.declared.talk.Heard.{Heard}
-use Rattle.rk_mail.specs.declared.talk.Heard.TheVariants.{Posted, Spawned, Used as HeardUsed, Killed, Unused as HeardUnused, Already as HeardAlready}
+use Rattle.ce_model.specs.Machine.{MachineParts, MachineState, after, Request, getcube, peek, in_cube, what_of_request, IsFitting}
+use Rattle.rk_mail.specs.declared.talk.Hearing.{Hearing}
+use Rattle.rk_mail.specs.declared.talk.Hearing.TheVariants.{Posted, Spawned, Used as HeardUsed, Killed, Unused as HeardUnused, Already as HeardAlready}
 use Rattle.ce_host.specs.declared.command.Command.{Command}
 use Rattle.ce_host.specs.declared.command.Command.TheVariants.{Getcube, Peek, Spawn, Kill, Send, Dump}
 use Rattle.ce_host.specs.declared.answer.Answer.{Answer}
 use Rattle.ce_host.specs.declared.answer.Answer.TheVariants.{Peeked as PeekFound, Ok as Done, Used, Unused, Already}
-use Rattle.ce_daemon.specs.Peeks.{peeked}
+use Rattle.ce_daemon.specs.Peeks.{peek_result}
 use Rattle.ce_script.specs.Commands.{getcube_reply, kill_reply}
 
 -- the command is for who holds a cube
@@ -43,14 +43,14 @@ request_of id other = None
 -- what a command is answered by its one entry, in the state before it
 abbrev pub reply_by : MachineParts → MachineState → What → Option Answer
 reply_by parts state (GetcubeMade dim sub) = Some (getcube_reply sub)
-reply_by parts state PeekMade = Some (PeekFound (peeked parts state))
+reply_by parts state PeekMade = Some (PeekFound (peek_result parts state))
 reply_by parts state (SpawnMade pid image to fresh) = Some (if fresh then Done else Used)
 reply_by parts state (KillMade pid to found) = Some (kill_reply found)
 reply_by parts state (SendMade pid first to bytes) = Some Done
 reply_by parts state other = None
 
 -- what a command is answered by what its host hears
-abbrev pub heard_reply : Heard → Option Answer
+abbrev pub heard_reply : Hearing → Option Answer
 heard_reply (Posted batch) = Some Done
 heard_reply Spawned = Some Done
 heard_reply HeardUsed = Some Used
@@ -62,4 +62,4 @@ heard_reply other = None
 -- behind a history a user's host asks for this, and the machine makes this entry of it
 pub record IsAsked (parts : MachineParts) (history : List Entry) (user : ℕ) (request : Request) (what : What) : Type 0 where
   pub fits : IsFitting parts history user HOST request
-  pub answer : answered parts (after history) user HOST request ≡ Some what
+  pub answer : what_of_request parts (after history) user HOST request ≡ Some what

@@ -1,24 +1,17 @@
 -- Rounds of a cube that a user holds, and the commands that run them, with the machine's numbers for the nodes.
 use Rattle.std.specs.Prelude.{◌≡◌, ℕ, Bool, true, false, List, [], ◌∷◌, ◌++◌, None, IsTrue, is_some, map, flat_map}
-use Rattle.std.specs.List.{AllByRecursion, AllZip}
+use Rattle.std.specs.List.{AllByRecursion}
 use Rattle.ce_model.specs.declared.entry.Entry.{Entry}
 use Rattle.ce_model.specs.declared.entry.What.TheVariants.{Arm, Look}
-use Rattle.ce_model.specs.declared.entry.Found.{Found}
+use Rattle.ce_model.specs.declared.entry.LookResult.{LookResult}
 use Rattle.ce_model.specs.Answers.{call_of}
-use Rattle.ce_model.specs.Cube.{node_numbers}
-use Rattle.ce_model.specs.Subcubes.{node_of}
 use Rattle.ce_model.specs.Renaming.{CubeGrant, entry_inward}
-use Rattle.ce_script.specs.Rounds.{RoundKind, IsTurn, IsRound, has_work, joined}
+use Rattle.ce_script.specs.Rounds.{RoundKind, IsRound, has_work, joined_lists}
 use Rattle.ce_script.specs.Commands.{by_host, RecvEnd, host_take, end_entries, end_rounds}
 
 -- the entry is a call of this user's cube
 abbrev pub IsCallBy : ℕ → Entry → Type 0
 IsCallBy user entry = (entry.user ≡ user) × IsTrue (is_some (call_of entry.what))
-
--- turns of the nodes of a user's cube, one of each, in the cube's order
-pub record AreTurnsOf (user : ℕ) (grant : CubeGrant) (turns : List (List Entry)) : Type 0 where
-  pub calls : AllByRecursion (IsCallBy user) (joined turns)
-  pub each : AllZip (λ r turn. IsTurn (node_of grant.sub r) turn) (node_numbers grant.dim) turns
 
 -- a round of a user's cube, by which a node is given work or none is
 pub record IsRoundOf (kind : RoundKind) (user : ℕ) (grant : CubeGrant) (work : Bool) (round : List Entry) : Type 0 where
@@ -27,12 +20,12 @@ pub record IsRoundOf (kind : RoundKind) (user : ℕ) (grant : CubeGrant) (work :
   pub works : has_work round ≡ work
 
 -- `run` in a user's cube: dispatches are allowed, then come rounds up to the first without work, then a look that finds this
-pub record IsRunOf (kind : RoundKind) (user : ℕ) (grant : CubeGrant) (count : ℕ) (found : Found) (made : List Entry) : Type 0 where
+pub record IsRunOf (kind : RoundKind) (user : ℕ) (grant : CubeGrant) (count : ℕ) (found : LookResult) (made : List Entry) : Type 0 where
   pub rounds : List (List Entry)
   pub last : List Entry
   pub with_work : AllByRecursion (IsRoundOf kind user grant true) rounds
   pub without_work : IsRoundOf kind user grant false last
-  pub entries : made ≡ by_host user (Arm count) ∷ (joined rounds ++ (last ++ by_host user (Look found) ∷ []))
+  pub entries : made ≡ by_host user (Arm count) ∷ (joined_lists rounds ++ (last ++ by_host user (Look found) ∷ []))
 
 -- `recv` in a user's cube: dispatches are allowed, then the host looks for a message, with a round between each two looks, up to this end
 pub record IsRecvOf (kind : RoundKind) (user : ℕ) (grant : CubeGrant) (count : ℕ) (end : RecvEnd) (made : List Entry) : Type 0 where

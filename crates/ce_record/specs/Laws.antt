@@ -1,5 +1,5 @@
 -- The laws of the record that a run leaves.
-use Rattle.std.specs.Prelude.{◌≡◌, ℕ, ◌^◌, ◌<◌, ◌==◌, true, false, List, [], ◌∷◌, ◌++◌, Some, None, IsTrue, IsSomeAnd, map, flat_map, length, replicate, slice_set, slice_index_or}
+use Rattle.std.specs.Prelude.{◌≡◌, ◌≢◌, ◌⊎◌, ℕ, ◌<◌, true, false, List, [], ◌∷◌, ◌++◌, Some, None, IsTrue, IsSomeAnd, map, flat_map, length, replicate, slice_set, slice_index_or}
 use Rattle.std.specs.List.{AllByRecursion}
 use Rattle.ce_model.specs.declared.topology.TheConstants.{HOST}
 use Rattle.ce_model.specs.declared.topology.Place.{Place}
@@ -8,16 +8,15 @@ use Rattle.ce_model.specs.declared.topology.Subcube.{Subcube}
 use Rattle.ce_model.specs.declared.entry.Entry.{Entry}
 use Rattle.ce_model.specs.declared.entry.What.{What}
 use Rattle.ce_model.specs.declared.entry.What.TheVariants.{Getcube as GetcubeMade, Drain, Freecube as FreecubeMade}
-use Rattle.ce_model.specs.declared.entry.Found.{Found}
+use Rattle.ce_model.specs.declared.entry.LookResult.{LookResult}
 use Rattle.ce_model.specs.Parcels.{Parcel, Item}
 use Rattle.ce_model.specs.Node.{is_place, process_at}
 use Rattle.ce_model.specs.Trace.{sent_to}
 use Rattle.ce_model.specs.Cube.{opening, hoststore, parcel_numbered, rest}
-use Rattle.ce_model.specs.Subcubes.{node_of}
 use Rattle.ce_model.specs.Renaming.{entry_inward}
 use Rattle.ce_model.specs.Views.{view}
 use Rattle.ce_model.specs.Machine.{MachineParts, IsMachine, IsLawful, HeldCube, MachineState, after, held_by, Request, getcube}
-use Rattle.rk_mail.specs.declared.talk.Heard.{Heard}
+use Rattle.rk_mail.specs.declared.talk.Hearing.{Hearing}
 use Rattle.rk_mail.specs.Talk.{IsHeardIn}
 use Rattle.ce_host.specs.declared.command.Command.{Command}
 use Rattle.ce_host.specs.declared.command.Command.TheVariants.{Getcube, Freecube, Send, Run, Recv, Dump, Trace}
@@ -26,16 +25,17 @@ use Rattle.ce_host.specs.declared.answer.Answer.TheVariants.{NoCube, Held, Freed
 use Rattle.ce_script.specs.declared.record.Record.{Record}
 use Rattle.ce_script.specs.declared.script.Script.{Script}
 use Rattle.ce_script.specs.Bounds.{IsWithinLimits}
-use Rattle.ce_script.specs.Rounds.{RoundKind, serial, has_work, joined}
-use Rattle.ce_script.specs.Moments.{moments_of, entries_of, holding}
+use Rattle.ce_script.specs.Rounds.{RoundKind, serial}
+use Rattle.ce_script.specs.Moments.{moments_of, entries_of, holding, own_entries}
 use Rattle.ce_script.specs.Commands.{by_host, run_reply, RecvEnd, message_reply, recv_reply}
 use Rattle.ce_script.specs.Doings.{Doing, held_after}
-use Rattle.ce_script.specs.Legal.{IsLegal, machine_of}
+use Rattle.ce_script.specs.Legal.{IsLegal, IsRecordOfScript, EachUser, machine_of}
 use Rattle.ce_script.specs.Serial.{IsSerial}
 use Rattle.ce_record.specs.Asked.{wants_cube, place_in, request_of, reply_by, heard_reply, IsAsked}
-use Rattle.ce_record.specs.CubeRounds.{IsCallBy, AreTurnsOf, IsRoundOf, IsRunOf, IsRecvOf}
-use Rattle.ce_record.specs.Held.{held_now, new_cube, cube_in, IsTurnOver, AreTurnsOverIn}
-use Rattle.ce_record.specs.Run.{IsRunSoFar, doing_behind, IsNextCommand, reply_of, AreReplies, IsRecordOfRun}
+use Rattle.ce_record.specs.CubeRounds.{IsCallBy, IsRunOf, IsRecvOf}
+use Rattle.ce_record.specs.Held.{held_now, new_cube, cube_in, AreTurnsOverIn}
+use Rattle.ce_record.specs.Run.{IsRunSoFar, doing_behind, IsNextCommand, AreReplies, IsRecordOfRun}
+use Rattle.ce_record.specs.Users.{HasDoneSoFar, command_with_answer, doing_amid}
 
 -- ---- what users hold
 
@@ -69,7 +69,30 @@ RepliesBegin = (count : ℕ) → AreReplies [] (replicate count [])
 -- the user of a command has one reply more
 abbrev pub RepliesGoOn : Type 0
 RepliesGoOn = (all : List (ℕ × Doing)) (dones : List (List (Command × Answer))) (user : ℕ) (doing : Doing) → user < length dones → AreReplies all dones
-    → AreReplies (all ++ (user, doing) ∷ []) (slice_set dones user (slice_index_or dones user [] ++ reply_of doing ∷ []))
+    → AreReplies (all ++ (user, doing) ∷ []) (slice_set dones user (slice_index_or dones user [] ++ command_with_answer doing ∷ []))
+
+-- ---- one user among others
+
+-- a user without an entry in the history did nothing so far
+abbrev pub UserBegins : Type 0
+UserBegins = (kind : RoundKind) (machine : MachineParts) (user : ℕ) (history : List Entry) → own_entries user history ≡ [] → HasDoneSoFar kind machine user history []
+
+-- entries of others leave what it did
+abbrev pub UserWaits : Type 0
+UserWaits = (kind : RoundKind) (machine : MachineParts) (user : ℕ) (history others : List Entry) (doings : List Doing)
+    → AllByRecursion (λ entry. entry.user ≢ user) others → HasDoneSoFar kind machine user history doings
+    → HasDoneSoFar kind machine user (history ++ others) doings
+
+-- A user goes on by one command, whose entries are these, in order, among others'. What a command that
+-- wants a cube must do and answer depends on its own entries and its cube's trace alone; a getcube and a peek look at the machine, so of them
+-- the history goes on by just their own entries.
+abbrev pub UserGoesOn : Type 0
+UserGoesOn = (kind : RoundKind) (machine : MachineParts) (user : ℕ) (history between made : List Entry) (doings : List Doing) (command : Command) (answer : Answer)
+    → IsMachine machine → IsLawful machine history → HasDoneSoFar kind machine user history doings
+    → IsNextCommand kind machine history user command answer made → own_entries user between ≡ made → (between ≡ made) ⊎ IsTrue (wants_cube command)
+    → HasDoneSoFar kind machine user (history ++ between) (doings ++ doing_amid user history command answer between ∷ [])
+
+-- ---- the whole script
 
 -- the machine of a script with a user is within its limits
 abbrev pub ScriptHasMachine : Type 0
@@ -80,10 +103,18 @@ abbrev pub RunIsLegal : Type 0
 RunIsLegal = (script : Script) (kept : Record) (all : List (ℕ × Doing)) → IsWithinLimits script → IsLawful (machine_of script) kept.history
     → IsRunSoFar serial (machine_of script) kept.history all → IsRecordOfRun script all kept → IsLegal serial script kept × IsSerial script kept
 
--- so is the empty record of a script without users
+-- The record of a script with a user is legal, where its history is lawful, it has all the script's commands, and each user did them in
+-- this history, with rounds of this kind, and was answered so.
+abbrev pub UsersAreLegal : Type 0
+UsersAreLegal = (kind : RoundKind) (script : Script) (kept : Record) → IsWithinLimits script → 0 < length script.users
+    → IsLawful (machine_of script) kept.history → IsRecordOfScript script kept
+    → EachUser (λ number user. (doings : List Doing) × HasDoneSoFar kind (machine_of script) number kept.history doings × (map command_with_answer doings ≡ user.done)) kept
+    → IsLegal kind script kept
+
+-- the empty record of a script without users is legal and serial
 abbrev pub NoUserIsLegal : Type 0
-NoUserIsLegal = (script : Script) → IsWithinLimits script → script.users ≡ []
-    → IsLegal serial script (record { users = []; history = [] }) × IsSerial script (record { users = []; history = [] })
+NoUserIsLegal = (kind : RoundKind) (script : Script) → IsWithinLimits script → script.users ≡ []
+    → IsLegal kind script (record { users = []; history = [] }) × IsSerial script (record { users = []; history = [] })
 
 -- ---- commands without rounds
 
@@ -120,13 +151,13 @@ DumpIsNext = (kind : RoundKind) → OfHolder (λ parts history user cube. (at : 
 abbrev pub TraceIsNext : Type 0
 TraceIsNext = (kind : RoundKind) → OfHolder (λ parts history user cube. IsNextCommand kind parts history user Trace (Entries (length (view history cube.number))) [])
 
--- a cube is drained, and then given back
-abbrev pub given_back : ℕ → List Entry
-given_back user = by_host user Drain ∷ by_host user FreecubeMade ∷ []
+-- the entries of a freecube: the cube is drained, and then given back
+abbrev pub freecube_entries : ℕ → List Entry
+freecube_entries user = by_host user Drain ∷ by_host user FreecubeMade ∷ []
 
+-- who holds a cube has its freecube answered freed, with these entries
 abbrev pub FreecubeIsNext : Type 0
-FreecubeIsNext = (kind : RoundKind) → OfHolder (λ parts history user cube. IsMachine parts → IsLawful parts (history ++ given_back user)
-    → IsNextCommand kind parts history user Freecube Freed (given_back user))
+FreecubeIsNext = (kind : RoundKind) → OfHolder (λ parts history user cube. IsNextCommand kind parts history user Freecube Freed (freecube_entries user))
 
 -- what the machine's entry answers to what a command asks for
 abbrev pub AskedIsNext : Type 0
@@ -136,16 +167,16 @@ AskedIsNext = (kind : RoundKind) (parts : MachineParts) (history : List Entry) (
 
 -- a send, a spawn or a kill is answered by what its host hears
 abbrev pub HeardIsReply : Type 0
-HeardIsReply = (parts : MachineParts) (state : MachineState) (items : List Item) (what : What) (heard : Heard) → IsHeardIn items what heard
+HeardIsReply = (parts : MachineParts) (state : MachineState) (items : List Item) (what : What) (heard : Hearing) → IsHeardIn items what heard
     → reply_by parts state what ≡ heard_reply heard
 
 -- ---- between commands
 
--- a user's entries leave what others hold
+-- entries of others leave what a user holds
 abbrev pub OthersStay : Type 0
-OthersStay = (parts : MachineParts) (history : List Entry) (user other : ℕ) (made : List Entry) → IsMachine parts → IsLawful parts (history ++ made)
-    → AllByRecursion (λ entry. entry.user ≡ user) made → (user == other) ≡ false
-    → (held_by (after (history ++ made)) other ≡ held_by (after history) other) × (held_now (history ++ made) other ≡ held_now history other)
+OthersStay = (parts : MachineParts) (history : List Entry) (user : ℕ) (others : List Entry) → IsMachine parts → IsLawful parts (history ++ others)
+    → AllByRecursion (λ entry. entry.user ≢ user) others
+    → (held_by (after (history ++ others)) user ≡ held_by (after history) user) × (held_now (history ++ others) user ≡ held_now history user)
 
 -- the cube that a getcube grants has the next number, and no trace
 abbrev pub CubeBegins : Type 0
@@ -171,41 +202,20 @@ abbrev pub CubeStays : Type 0
 CubeStays = OfCube (λ parts history user cube. (made : List Entry) → AllByRecursion (IsCallBy user) made
     → IsSomeAnd (held_by (after (history ++ made)) user) (λ now. (now.number ≡ cube.number) × (now.grant ≡ cube.grant) × (now.drained ≡ false)))
 
--- turns of its nodes, one of each, are a serial round
-abbrev pub TurnsAreRound : Type 0
-TurnsAreRound = OfCube (λ parts history user cube. (turns : List (List Entry)) → AreTurnsOf user cube.grant turns
-    → IsRoundOf serial user cube.grant (has_work (joined turns)) (joined turns))
-
--- the turns of its nodes are over where the cube has no trace
-abbrev pub TurnsBeginOver : Type 0
-TurnsBeginOver = (parts : MachineParts) (history : List Entry) (cube : HeldCube) → view history cube.number ≡ [] → AreTurnsOverIn parts history cube
-
--- the host leaves them so
-abbrev pub HostLeavesTurns : Type 0
-HostLeavesTurns = OfCube (λ parts history user cube. (made : List Entry) → AllByRecursion (IsCallBy user) made → AllByRecursion (λ entry. entry.actor ≡ HOST) made
-    → AreTurnsOverIn parts history cube → AreTurnsOverIn parts (history ++ made) cube)
-
--- and a node leaves those of the others so
-abbrev pub NodeLeavesTurns : Type 0
-NodeLeavesTurns = OfCube (λ parts history user cube. (made : List Entry) (node r : ℕ) → AllByRecursion (IsCallBy user) made
-    → AllByRecursion (λ entry. entry.actor ≡ node_of cube.grant.sub node) made → node < 2 ^ cube.grant.dim → (node == r) ≡ false
-    → IsTurnOver parts history cube r → IsTurnOver parts (history ++ made) cube r)
-
--- a run is answered by what its look finds
+-- a run is answered by what its look finds, where behind its own entries no turn is open
 abbrev pub RunIsNext : Type 0
-RunIsNext = (kind : RoundKind) → OfCube (λ parts history user cube. (count : ℕ) (found : Found) (answer : Answer) (made : List Entry) → IsRunOf kind user cube.grant count found made
-    → run_reply found ≡ Some answer → IsLawful parts (history ++ made) → AreTurnsOverIn parts (history ++ made) cube
-    → IsNextCommand kind parts history user (Run count) answer made)
+RunIsNext = (kind : RoundKind) → OfCube (λ parts history user cube. (count : ℕ) (found : LookResult) (answer : Answer) (made : List Entry) → IsRunOf kind user cube.grant count found made
+    → run_reply found ≡ Some answer → AreTurnsOverIn parts (history ++ made) cube → IsNextCommand kind parts history user (Run count) answer made)
 
 -- all that was sent to the cube's host
 abbrev pub sent_to_host : MachineParts → HeldCube → List Entry → List Item
 sent_to_host parts cube trace = sent_to (opening (cube_in parts cube)).standing HOST trace
 
--- a recv is answered with the message that it takes, or by what its look finds
+-- a recv is answered with the message that it takes, or by what its look finds, where behind its own entries no turn is open
 abbrev pub RecvIsNext : Type 0
 RecvIsNext = (kind : RoundKind) → OfCube (λ parts history user cube. (count : ℕ) (end : RecvEnd) (answer : Answer) (made : List Entry) → IsRecvOf kind user cube.grant count end made
-    → recv_reply (sent_to_host parts cube (view (history ++ made) cube.number)) end ≡ Some answer → IsLawful parts (history ++ made)
-    → AreTurnsOverIn parts (history ++ made) cube → IsNextCommand kind parts history user (Recv count) answer made)
+    → recv_reply (sent_to_host parts cube (view (history ++ made) cube.number)) end ≡ Some answer → AreTurnsOverIn parts (history ++ made) cube
+    → IsNextCommand kind parts history user (Recv count) answer made)
 
 -- what the machine keeps for the host is what was sent to it, whatever is sent later
 abbrev pub MessageIsSent : Type 0

@@ -3,3 +3,4 @@ pub mod CubeRounds
 pub mod Held
 pub mod Laws
 pub mod Run
+pub mod Users

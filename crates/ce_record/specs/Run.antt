@@ -1,8 +1,7 @@
 -- A script's run, one command after another, each by its user.
-use Rattle.std.specs.Prelude.{◌≡◌, ℕ, List, [], ◌++◌, Option, map, flat_map}
+use Rattle.std.specs.Prelude.{◌≡◌, ℕ, List, Option, map, flat_map}
 use Rattle.std.specs.List.{AllByRecursion, enumerate_from}
 use Rattle.ce_model.specs.declared.entry.Entry.{Entry}
-use Rattle.ce_model.specs.Lists.{EachAfter}
 use Rattle.ce_model.specs.Machine.{MachineParts}
 use Rattle.ce_host.specs.declared.command.Command.{Command}
 use Rattle.ce_host.specs.declared.command.Command.TheVariants.{Getcube}
@@ -10,20 +9,18 @@ use Rattle.ce_host.specs.declared.answer.Answer.{Answer}
 use Rattle.ce_script.specs.declared.record.Record.{Record}
 use Rattle.ce_script.specs.declared.script.Script.{Script}
 use Rattle.ce_script.specs.Rounds.{RoundKind}
-use Rattle.ce_script.specs.Moments.{Holding, moments, moments_behind, moments_of}
+use Rattle.ce_script.specs.Moments.{Holding, moments, moments_behind}
 use Rattle.ce_script.specs.Commands.{IsCommand}
-use Rattle.ce_script.specs.Doings.{Doing, IsDone, IsRefusedExactly, AreRefusedExactly}
+use Rattle.ce_script.specs.Doings.{Doing, IsRefusedExactly}
 use Rattle.ce_script.specs.Serial.{doings_of}
-use Rattle.ce_record.specs.Held.{held_now, AreAtRest}
+use Rattle.ce_record.specs.Held.{held_now}
+use Rattle.ce_record.specs.Users.{HasDoneSoFar, command_with_answer}
 
--- What all users did so far, in the order in which it was done, makes up this history: the entries of each command stand together and
--- are its user's, each command did, was answered and was refused as it must be behind those of its user before it, and each cube is at rest.
+-- What all users did so far, in the order in which it was done: the entries of each command stand together and make up this history, and
+-- each user's part is what it did so far.
 pub record IsRunSoFar (kind : RoundKind) (machine : MachineParts) (history : List Entry) (all : List (ℕ × Doing)) : Type 0 where
   pub together : flat_map (λ own. own.1.moments) all ≡ moments history
-  pub own : (user : ℕ) → flat_map (λ doing. doing.moments) (doings_of user all) ≡ moments_of user history
-  pub each : (user : ℕ) → EachAfter (IsDone kind machine user) [] (doings_of user all)
-  pub refused : (user : ℕ) → AreRefusedExactly machine (doings_of user all)
-  pub at_rest : AreAtRest machine history
+  pub users : (user : ℕ) → HasDoneSoFar kind machine user history (doings_of user all)
 
 -- ---- one command more
 
@@ -38,22 +35,17 @@ IsRefusedWhere machine holds doing = elim doing.command [
   | other ↦ Unit {0}
 ]
 
--- Behind a history a command of a user has this answer and makes these entries, as it must by what the user holds, and it leaves cubes at rest.
+-- Behind a history a command of a user has this answer and makes these entries, as it must by what the user holds.
 pub record IsNextCommand (kind : RoundKind) (machine : MachineParts) (history : List Entry) (user : ℕ) (command : Command) (answer : Answer) (made : List Entry) : Type 0 where
   pub own : AllByRecursion (λ entry. entry.user ≡ user) made
   pub does : IsCommand kind machine user (held_now history user) command answer (moments_behind history made)
-  pub rests : AreAtRest machine history → AreAtRest machine (history ++ made)
   pub refused : IsRefusedWhere machine (held_now history user) (doing_behind history command answer made)
 
 -- ---- the whole script
 
--- a command with its reply
-abbrev pub reply_of : Doing → Command × Answer
-reply_of doing = (doing.command, doing.answer)
-
 -- these are the commands of each user with their replies, by the user's number
 abbrev pub AreReplies : List (ℕ × Doing) → List (List (Command × Answer)) → Type 0
-AreReplies all dones = AllByRecursion (λ numbered. map reply_of (doings_of numbered.0 all) ≡ numbered.1) (enumerate_from 0 dones)
+AreReplies all dones = AllByRecursion (λ numbered. map command_with_answer (doings_of numbered.0 all) ≡ numbered.1) (enumerate_from 0 dones)
 
 -- The record has the users of the script, each with what it did and was answered of all this, which is the script's commands.
 pub record IsRecordOfRun (script : Script) (all : List (ℕ × Doing)) (kept : Record) : Type 0 where

@@ -1,5 +1,5 @@
 //! The laws of the record that a run leaves. The functions do nothing: a contract is the law, which proofs cite.
-ghost use Rattle.ce_record.specs.Laws.{HeldIsHeld, HeldAfterIsHeld, RunBegins, RunGoesOn, RepliesBegin, RepliesGoOn, ScriptHasMachine, RunIsLegal, NoUserIsLegal, NoCubeIsNext, HeldIsNext, NoPlaceIsNext, NoStoreIsNext, DumpIsNext, TraceIsNext, FreecubeIsNext, AskedIsNext, HeardIsReply, OthersStay, CubeBegins, TurnsBeginOver, HostLeavesTurns, NodeLeavesTurns, TraceGoesOn, CubeStays, TurnsAreRound, RunIsNext, RecvIsNext, MessageIsSent};
+ghost use Rattle.ce_record.specs.Laws.{HeldIsHeld, HeldAfterIsHeld, RunBegins, RunGoesOn, RepliesBegin, RepliesGoOn, UserBegins, UserWaits, UserGoesOn, ScriptHasMachine, RunIsLegal, UsersAreLegal, NoUserIsLegal, NoCubeIsNext, HeldIsNext, NoPlaceIsNext, NoStoreIsNext, DumpIsNext, TraceIsNext, FreecubeIsNext, AskedIsNext, HeardIsReply, OthersStay, CubeBegins, TraceGoesOn, CubeStays, RunIsNext, RecvIsNext, MessageIsSent};
 
 /// What a user holds by its own entries of a lawful history is what the machine says.
 pub fn held_is_held_law()
@@ -31,6 +31,21 @@ pub fn replies_go_on_law()
     ensures law { RepliesGoOn }
 {}
 
+/// At first a user did nothing.
+pub fn user_begins_law()
+    ensures law { UserBegins }
+{}
+
+/// Entries of others leave what a user did.
+pub fn user_waits_law()
+    ensures law { UserWaits }
+{}
+
+/// A user goes on by one command, whose entries stand among others'.
+pub fn user_goes_on_law()
+    ensures law { UserGoesOn }
+{}
+
 /// The machine of a script with a user is within its limits.
 pub fn script_has_machine_law()
     ensures law { ScriptHasMachine }
@@ -39,6 +54,12 @@ pub fn script_has_machine_law()
 /// The record of a run of all the script's commands is legal and serial.
 pub fn run_is_legal_law()
     ensures law { RunIsLegal }
+{}
+
+/// The record of a script with a user is legal, where its history is lawful and each user did all its commands in it
+/// and was answered so.
+pub fn users_are_legal_law()
+    ensures law { UsersAreLegal }
 {}
 
 /// The empty record of a script without users is legal and serial.
@@ -91,7 +112,7 @@ pub fn heard_is_reply_law()
     ensures law { HeardIsReply }
 {}
 
-/// A user's entries leave what others hold.
+/// Entries of others leave what a user holds.
 pub fn others_stay_law()
     ensures law { OthersStay }
 {}
@@ -99,21 +120,6 @@ pub fn others_stay_law()
 /// A cube that is granted has the next number and no trace.
 pub fn cube_begins_law()
     ensures law { CubeBegins }
-{}
-
-/// The turns of a cube's nodes are over where it has no trace.
-pub fn turns_begin_over_law()
-    ensures law { TurnsBeginOver }
-{}
-
-/// The host leaves the turns of its cube's nodes over.
-pub fn host_leaves_turns_law()
-    ensures law { HostLeavesTurns }
-{}
-
-/// A node leaves the turns of the other nodes over.
-pub fn node_leaves_turns_law()
-    ensures law { NodeLeavesTurns }
 {}
 
 /// Calls of a cube make its trace longer.
@@ -124,11 +130,6 @@ pub fn trace_goes_on_law()
 /// Behind calls of a cube it is held still.
 pub fn cube_stays_law()
     ensures law { CubeStays }
-{}
-
-/// Turns of a cube's nodes, one of each, are a serial round.
-pub fn turns_are_round_law()
-    ensures law { TurnsAreRound }
 {}
 
 /// A run is answered by what its look finds.

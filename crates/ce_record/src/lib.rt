@@ -6,9 +6,9 @@ mod laws;
 
 pub use laws::{
     asked_law, cube_begins_law, cube_stays_law, dump_law, freecube_law, heard_is_reply_law,
-    held_after_law, held_is_held_law, held_law, host_leaves_turns_law, message_law, no_cube_law,
-    no_place_law, no_store_law, no_user_is_legal_law, node_leaves_turns_law, others_stay_law,
-    recv_law, replies_begin_law, replies_go_on_law, run_begins_law, run_goes_on_law,
-    run_is_legal_law, run_law, script_has_machine_law, trace_goes_on_law, trace_law,
-    turns_are_round_law, turns_begin_over_law,
+    held_after_law, held_is_held_law, held_law, message_law, no_cube_law, no_place_law,
+    no_store_law, no_user_is_legal_law, others_stay_law, recv_law, replies_begin_law,
+    replies_go_on_law, run_begins_law, run_goes_on_law, run_is_legal_law, run_law,
+    script_has_machine_law, trace_goes_on_law, trace_law, user_begins_law, user_goes_on_law,
+    user_waits_law, users_are_legal_law,
 };

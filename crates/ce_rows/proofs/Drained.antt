@@ -2,14 +2,14 @@
 use Rattle.std.proofs.Common.{[], ◌∷◌, None, refl, inl, inr, lit<, lit≤}
 use Rattle.rv_model.specs.LittleEndian.{number_at}
 use Rattle.rv_model.specs.Words.{table, dec}
-use Rattle.rv_model.specs.Exec.{performed, exec}
+use Rattle.rv_model.specs.Exec.{effect_of, exec}
 use Rattle.ce_model.specs.Limits.{greatest_dim, greatest_count, block_room, process_count, home_blocks, host_home, window_count, window_base, window_size, greatest_targets, turn_instructions, turn_calls}
 use Rattle.ce_model.specs.Space.{spot, block_named}
 use Rattle.ce_model.specs.Kernel.{kernel, kernel_calls}
 use Rattle.ce_model.specs.Saying.{says, runs}
 use Rattle.ce_model.specs.Hearing.{hears}
 use Rattle.ce_model.specs.Node.{takes, sends, spawns, notes, arms, host_place}
-use Rattle.ce_model.specs.Trace.{sent_to, taken_by, waiting, spawned, killed, mark, armed, dispatched, parcels}
+use Rattle.ce_model.specs.Trace.{sent_to, taken_by, waiting_items, spawned_ids, killed_ids, mark, allowed_dispatches, made_dispatches, parcels}
 use Rattle.ce_model.specs.Answers.{is_quiet, answer}
 use Rattle.ce_model.specs.Cube.{state, hoststore, next_entry}
 use Rattle.ce_model.specs.Subcubes.{extract, relative, deposit, subcubes, first_free}
@@ -20,5 +20,5 @@ use Rattle.ce_rows.specs.Steps.{AreSteps}
 use Rattle.ce_rows.specs.Rows.{row_of, place, block, aa}
 
 pub drained-steps : AreSteps (row_of Drained)
-unfolding says runs exec performed dec table number_at kernel kernel_calls spot block_named window_count window_base window_size greatest_targets turn_instructions turn_calls hears after view relative extract deposit subcubes first_free next_entry state hoststore sent_to taken_by waiting spawned killed mark armed dispatched parcels is_quiet answer greatest_dim greatest_count block_room process_count home_blocks host_home
+unfolding says runs exec effect_of dec table number_at kernel kernel_calls spot block_named window_count window_base window_size greatest_targets turn_instructions turn_calls hears after view relative extract deposit subcubes first_free next_entry state hoststore sent_to taken_by waiting_items spawned_ids killed_ids mark allowed_dispatches made_dispatches parcels is_quiet answer greatest_dim greatest_count block_room process_count home_blocks host_home
 drained-steps = (record { fits = (lit< tt, (refl, lit≤ tt, refl)); answer = refl }, (record { fits = (lit< tt, record { made = spawns 0 0 (place 1 0); inside = inl refl; next = refl; renamed = refl; within = λ host. tt; not_drained = refl }); answer = refl }, (record { fits = (lit< tt, record { made = arms 10; inside = inl refl; next = refl; renamed = refl; within = λ host. lit≤ tt; not_drained = refl }); answer = refl }, (record { fits = (lit< tt, record { made = takes 0 0 None; inside = inr refl; next = refl; renamed = refl; within = λ host. tt; not_drained = refl }); answer = refl }, (record { fits = (lit< tt, record { made = notes 0 42; inside = inr refl; next = refl; renamed = refl; within = λ host. tt; not_drained = refl }); answer = refl }, (record { fits = (lit< tt, record { made = sends 0 ((host_place, block 1 0) ∷ []) (0 ∷ []); inside = inr refl; next = refl; renamed = refl; within = λ host. lit≤ tt; not_drained = refl }); answer = refl }, (record { fits = (lit< tt, record { made = sends 0 ((place 2 0, block 256 0) ∷ []) aa; inside = inl refl; next = refl; renamed = refl; within = λ host. lit≤ tt; not_drained = refl }); answer = refl }, (record { fits = (lit< tt, record { made = sends 0 ((place 0 0, block 256 1) ∷ []) aa; inside = inl refl; next = refl; renamed = refl; within = λ host. lit≤ tt; not_drained = refl }); answer = refl }, (record { fits = (lit< tt, record { made = sends 0 ((place 3 1, block 256 2) ∷ []) aa; inside = inl refl; next = refl; renamed = refl; within = λ host. lit≤ tt; not_drained = refl }); answer = refl }, (record { fits = (lit< tt, (refl, refl)); answer = refl }, tt))))))))))

@@ -1,4 +1,5 @@
 pub mod Stepping
+pub mod FirstCubes
 pub mod NextOwner
 pub mod Replies
 pub mod Told

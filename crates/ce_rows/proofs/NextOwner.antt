@@ -3,7 +3,7 @@ use Rattle.std.proofs.Common.{◌≡◌, [], ◌∷◌, None, refl, inl, inr, li
 use Rattle.ce_model.specs.Limits.{greatest_dim, block_room, process_count, home_blocks, host_home}
 use Rattle.ce_model.specs.Node.{fresh, takes, sends}
 use Rattle.ce_model.specs.Saying.{says}
-use Rattle.ce_model.specs.Trace.{sent_to, taken_by, waiting, spawned, killed, mark, armed, dispatched, parcels}
+use Rattle.ce_model.specs.Trace.{sent_to, taken_by, waiting_items, spawned_ids, killed_ids, mark, allowed_dispatches, made_dispatches, parcels}
 use Rattle.ce_model.specs.Answers.{answer}
 use Rattle.ce_model.specs.Cube.{state, hoststore, next_entry}
 use Rattle.ce_model.specs.Subcubes.{extract, relative, deposit, subcubes, first_free}
@@ -24,7 +24,7 @@ unfolding says process_count
 asks = refl
 
 pub next_owner-steps : AreSteps (row_of NextOwner)
-unfolding after view relative extract deposit subcubes first_free next_entry state hoststore sent_to taken_by waiting spawned killed mark armed dispatched parcels answer greatest_dim block_room process_count home_blocks host_home
+unfolding after view relative extract deposit subcubes first_free next_entry state hoststore sent_to taken_by waiting_items spawned_ids killed_ids mark allowed_dispatches made_dispatches parcels answer greatest_dim block_room process_count home_blocks host_home
 next_owner-steps = (
   record { fits = (lit< tt, (refl, lit≤ tt, refl)); answer = refl },
   (

@@ -12,11 +12,13 @@ use Rattle.ce_machine.specs.declared.call.Call.TheVariants.{Freecube}
 use Rattle.ce_machine.specs.declared.call.Reply.TheVariants.{Granted}
 use Rattle.ce_machine.specs.Requests.{HasBroughtBoxes}
 use Rattle.ce_rows.specs.declared.worked.WorkedRow.{WorkedRow}
-use Rattle.ce_rows.specs.declared.worked.WorkedRow.TheVariants.{NextOwner, Replies, Told, Drained}
+use Rattle.ce_rows.specs.declared.worked.WorkedRow.TheVariants.{FirstCube, GreatestCube, NextOwner, Replies, Told, Drained}
 use Rattle.ce_rows.specs.Steps.{entries, IsNextReply}
 use Rattle.ce_rows.specs.Rows.{row_of, program, next_owner, node_0}
 
 images-are : (row : WorkedRow) → (row_of row).parts.images ≡ image_parts 0x0001_0000 program 0 ∷ []
+images-are FirstCube = refl
+images-are GreatestCube = refl
 images-are NextOwner = refl
 images-are Replies = refl
 images-are Told = refl

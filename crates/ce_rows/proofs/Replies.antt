@@ -2,7 +2,7 @@
 use Rattle.std.proofs.Common.{[], ◌∷◌, None, refl, inl, inr, lit<, lit≤}
 use Rattle.ce_model.specs.Limits.{greatest_dim, greatest_count, block_room, process_count, home_blocks, host_home}
 use Rattle.ce_model.specs.Node.{takes, sends, spawns, kills, arms, looks, takes_mail}
-use Rattle.ce_model.specs.Trace.{sent_to, taken_by, waiting, spawned, killed, mark, armed, dispatched, parcels}
+use Rattle.ce_model.specs.Trace.{sent_to, taken_by, waiting_items, spawned_ids, killed_ids, mark, allowed_dispatches, made_dispatches, parcels}
 use Rattle.ce_model.specs.Answers.{is_quiet, answer}
 use Rattle.ce_model.specs.Cube.{state, hoststore, next_entry}
 use Rattle.ce_model.specs.Subcubes.{extract, relative, deposit, subcubes, first_free}
@@ -15,7 +15,7 @@ use Rattle.ce_model.specs.Saying.{says}
 use Rattle.ce_model.specs.Hearing.{hears}
 
 pub replies-steps : AreSteps (row_of Replies)
-unfolding says hears after view relative extract deposit subcubes first_free next_entry state hoststore sent_to taken_by waiting spawned killed mark armed dispatched parcels is_quiet answer greatest_dim greatest_count block_room process_count home_blocks host_home
+unfolding says hears after view relative extract deposit subcubes first_free next_entry state hoststore sent_to taken_by waiting_items spawned_ids killed_ids mark allowed_dispatches made_dispatches parcels is_quiet answer greatest_dim greatest_count block_room process_count home_blocks host_home
 replies-steps = (
   record { fits = (lit< tt, refl); answer = refl },
   (

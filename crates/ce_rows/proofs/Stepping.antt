@@ -3,7 +3,7 @@ use Rattle.std.proofs.Common.{◌≡◌, ℕ, zero, suc, ◌+◌, List, [], ◌�
 use Rattle.std.proofs.lemmas.List.{map-append}
 use Rattle.ce_model.specs.declared.entry.Entry.{Entry}
 use Rattle.ce_model.specs.Lists.{EachAfter}
-use Rattle.ce_model.specs.Machine.{MachineParts, IsMachine, after, answered}
+use Rattle.ce_model.specs.Machine.{MachineParts, IsMachine, after, what_of_request}
 use Rattle.ce_model.proofs.Walked.{one_further}
 use Rattle.ce_lock.specs.declared.who.Who.{Who}
 use Rattle.ce_machine.specs.declared.call.Call.{Call}
@@ -61,9 +61,9 @@ module _ {N : Type 0} (home : N → ℕ) (clean : N → Type 0) (row : Row) (mac
 
   module _ (reply : Reply N) (m' : MachineFacts) (added : Entry) (fixed : m'.parts ≡ m.parts) (grows : m'.history ≡ m.history ++ added ∷ [])
       (stands : IsAnsweredBy home clean m.parts m.history added who call reply) where
-    answers : answered m.parts (after m.history) who.family who.actor (request_of call)
-        ≡ answered row.parts (after (entries (take count row.steps))) next.step.entry.user next.step.entry.actor next.step.request
-    answers = λ i. answered (at.parts_are i) (after (at.history_is i)) (next.who_is i).family (next.who_is i).actor (next.request_is i)
+    answers : what_of_request m.parts (after m.history) who.family who.actor (request_of call)
+        ≡ what_of_request row.parts (after (entries (take count row.steps))) next.step.entry.user next.step.entry.actor next.step.request
+    answers = λ i. what_of_request (at.parts_are i) (after (at.history_is i)) (next.who_is i).family (next.who_is i).actor (next.request_is i)
 
     what-is : added.what ≡ next.step.entry.what
     what-is =

@@ -1,41 +1,32 @@
 -- The worked rows.
 use Rattle.std.specs.Prelude.{ℕ, List, [], ◌∷◌, Some, None, true, false}
-use Rattle.rv_model.specs.Image.{image_parts}
-use Rattle.ce_model.specs.declared.topology.TheConstants.{HOST}
+use Rattle.rv_model.specs.Image.{ImageParts, image_parts}
 use Rattle.ce_model.specs.declared.topology.Place.{Place}
-use Rattle.ce_model.specs.declared.topology.BlockId.{BlockId}
 use Rattle.ce_model.specs.declared.topology.Subcube.{Subcube}
 use Rattle.ce_model.specs.declared.entry.What.{What}
 use Rattle.ce_model.specs.declared.entry.What.TheVariants.{Getcube, Peek, Drain, Freecube, Arm, Look, HostTake, Send, Spawn, Kill, Note, Take}
-use Rattle.ce_model.specs.declared.entry.Given.TheVariants.{Start, Mail, Kill as GivenKill, Poll, Idle, Spent}
-use Rattle.ce_model.specs.declared.entry.Found.TheVariants.{Quiet, Spent as FoundSpent, Busy}
+use Rattle.ce_model.specs.declared.entry.TakeResult.TheVariants.{Start, Mail, Kill as GivenKill, Poll, Idle, Spent}
+use Rattle.ce_model.specs.declared.entry.LookResult.TheVariants.{Quiet, Spent as FoundSpent, Busy}
 use Rattle.ce_model.specs.declared.entry.KillFound.TheVariants.{Killed, Unused, Already}
+use Rattle.ce_model.specs.Literals.{machine, of_actor, of_host, sub_at}
+pub use Rattle.ce_model.specs.Literals.{place, block, aa}
 use Rattle.ce_model.specs.Node as node
 use Rattle.ce_model.specs.Node.{takes, sends, spawns, kills, notes, arms, looks, takes_mail, host_place}
-use Rattle.ce_model.specs.Machine.{MachineParts, Request, getcube, peek, drain, freecube, in_cube}
+use Rattle.ce_model.specs.Machine.{Request, getcube, peek, drain, freecube, in_cube}
 use Rattle.ce_lock.specs.declared.who.Who.{Who}
 use Rattle.ce_machine.specs.declared.call.Call.{Call}
 use Rattle.ce_rows.specs.declared.worked.WorkedRow.{WorkedRow}
-use Rattle.ce_rows.specs.declared.worked.WorkedRow.TheVariants.{NextOwner, Replies, Told, Drained}
+use Rattle.ce_rows.specs.declared.worked.WorkedRow.TheVariants.{FirstCube, GreatestCube, NextOwner, Replies, Told, Drained}
 use Rattle.ce_rows.specs.Steps.{Step, Row, IsNextCall, IsWithoutBoxes}
 
 -- ---- words of the rows
 
 -- a step of a user's host, and of a node that a user holds
 abbrev pub by_host : ℕ → Request → What → Step
-by_host user request what = record { request = request; entry = record { user = user; actor = HOST; what = what } }
+by_host user request what = record { request = request; entry = of_host user what }
 
 abbrev pub by_node : ℕ → ℕ → node.Call → What → Step
-by_node user node call what = record { request = in_cube call; entry = record { user = user; actor = node; what = what } }
-
-abbrev pub place : ℕ → ℕ → Place
-place node pid = record { node = node; pid = pid }
-
-abbrev pub block : ℕ → ℕ → BlockId
-block home index = record { home = home; index = index }
-
-abbrev pub sub_at : ℕ → ℕ → Subcube
-sub_at mask base = record { mask = mask; base = base }
+by_node user node call what = record { request = in_cube call; entry = of_actor user node what }
 
 -- the whole machine of one node
 abbrev pub node_0 : Subcube
@@ -61,14 +52,19 @@ program =
     ∷ 115 ∷ 0 ∷ 0 ∷ 0
     ∷ 115 ∷ 0 ∷ 0 ∷ 0 ∷ []
 
-abbrev pub machine : ℕ → ℕ → MachineParts
-machine dim users = record { dim = dim; users = users; images = image_parts 0x0001_0000 program 0 ∷ [] }
-
--- the bytes of a message
-abbrev pub aa : List ℕ
-aa = 0xAA ∷ []
+abbrev pub image : ImageParts
+image = image_parts 0x0001_0000 program 0
 
 -- ---- the rows
+
+abbrev pub first_cube : List Step
+first_cube =
+    by_host 1 (getcube 1) (Getcube 1 (Some (sub_at 1 0)))
+    ∷ by_host 0 peek Peek
+    ∷ []
+
+abbrev pub greatest_cube : List Step
+greatest_cube = by_host 7 (getcube 6) (Getcube 6 (Some (sub_at 63 0))) ∷ []
 
 abbrev pub next_owner : List Step
 next_owner =
@@ -134,10 +130,12 @@ drained =
 
 -- the row of a name
 abbrev pub row_of : WorkedRow → Row
-row_of NextOwner = record { parts = machine 0 2; steps = next_owner }
-row_of Replies = record { parts = machine 0 2; steps = replies }
-row_of Told = record { parts = machine 0 1; steps = told }
-row_of Drained = record { parts = machine 2 1; steps = drained }
+row_of FirstCube = record { parts = machine 2 2 image; steps = first_cube }
+row_of GreatestCube = record { parts = machine 6 8 image; steps = greatest_cube }
+row_of NextOwner = record { parts = machine 0 2 image; steps = next_owner }
+row_of Replies = record { parts = machine 0 2 image; steps = replies }
+row_of Told = record { parts = machine 0 1 image; steps = told }
+row_of Drained = record { parts = machine 2 1 image; steps = drained }
 
 -- the call is a row's next behind its first so many, and it brings no boxes
 pub record IsCallAt {N : Type 0} (row : WorkedRow) (count : ℕ) (who : Who) (call : Call N) : Type 0 where

@@ -2,7 +2,7 @@
 use Rattle.std.specs.Prelude.{◌≡◌, ℕ, List, [], map, take, slice_get, Some, IsSomeAnd}
 use Rattle.ce_model.specs.declared.entry.Entry.{Entry}
 use Rattle.ce_model.specs.Lists.{EachAfter}
-use Rattle.ce_model.specs.Machine.{MachineParts, Request, IsFitting, after, answered}
+use Rattle.ce_model.specs.Machine.{MachineParts, Request, IsFitting, after, what_of_request}
 use Rattle.ce_lock.specs.declared.who.Who.{Who}
 use Rattle.ce_machine.specs.declared.call.Call.{Call}
 use Rattle.ce_machine.specs.declared.call.Call.TheVariants.{Freecube}
@@ -27,7 +27,7 @@ entries steps = map (λ step. step.entry) steps
 -- the step is one that the machine allows behind these
 pub record IsStep (parts : MachineParts) (before : List Step) (step : Step) : Type 0 where
   pub fits : IsFitting parts (entries before) step.entry.user step.entry.actor step.request
-  pub answer : answered parts (after (entries before)) step.entry.user step.entry.actor step.request ≡ Some step.entry.what
+  pub answer : what_of_request parts (after (entries before)) step.entry.user step.entry.actor step.request ≡ Some step.entry.what
 
 -- the machine allows the row
 abbrev pub AreSteps : Row → Type 0

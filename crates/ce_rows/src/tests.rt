@@ -5,15 +5,32 @@ mod running;
 mod wanted;
 
 use crate::WorkedRow;
-use boxes::{node_boxes, plain_boxes};
+use boxes::node_boxes;
+use ce_daemon::node_numbers;
 use opening::open;
 use running::{next_owner, run};
 use std::test::Fail;
 
 #[test]
+fn first_cube_of_four_nodes(rt: HostRuntime) -> Result<(), Fail> {
+    let alloc = rt.alloc();
+    let mut shared = open(alloc, WorkedRow::FirstCube, node_numbers(alloc, 4)?)?;
+    run(&mut shared, alloc, WorkedRow::FirstCube, 2)?;
+    assert_eq!(rt; shared.into_history().len(), 2);
+    Ok(())
+}
+
+#[test]
+fn greatest_machine(rt: HostRuntime) -> Result<(), Fail> {
+    let alloc = rt.alloc();
+    let mut shared = open(alloc, WorkedRow::GreatestCube, node_numbers(alloc, 64)?)?;
+    run(&mut shared, alloc, WorkedRow::GreatestCube, 1)
+}
+
+#[test]
 fn next_owner_finds_nothing(rt: HostRuntime) -> Result<(), Fail> {
     let alloc = rt.alloc();
-    let mut shared = open(alloc, WorkedRow::NextOwner, plain_boxes(alloc)?)?;
+    let mut shared = open(alloc, WorkedRow::NextOwner, node_numbers(alloc, 1)?)?;
     next_owner(&mut shared, alloc)
 }
 
@@ -28,14 +45,14 @@ fn next_owner_of_a_node_finds_nothing(rt: HostRuntime) -> Result<(), Fail> {
 #[test]
 fn each_reply_without_a_process(rt: HostRuntime) -> Result<(), Fail> {
     let alloc = rt.alloc();
-    let mut shared = open(alloc, WorkedRow::Replies, plain_boxes(alloc)?)?;
+    let mut shared = open(alloc, WorkedRow::Replies, node_numbers(alloc, 1)?)?;
     run(&mut shared, alloc, WorkedRow::Replies, 17)
 }
 
 #[test]
 fn what_a_process_is_told(rt: HostRuntime) -> Result<(), Fail> {
     let alloc = rt.alloc();
-    let mut shared = open(alloc, WorkedRow::Told, plain_boxes(alloc)?)?;
+    let mut shared = open(alloc, WorkedRow::Told, node_numbers(alloc, 1)?)?;
     run(&mut shared, alloc, WorkedRow::Told, 13)
 }
 

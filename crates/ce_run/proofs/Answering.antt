@@ -7,14 +7,14 @@ use Rattle.ce_model.specs.declared.topology.TheConstants.{HOST}
 use Rattle.ce_model.specs.declared.topology.Place.{Place}
 use Rattle.ce_model.specs.declared.entry.Entry.{Entry}
 use Rattle.ce_model.specs.declared.entry.What.TheVariants.{Arm, Look}
-use Rattle.ce_model.specs.declared.entry.Found.{Found}
-use Rattle.ce_model.specs.declared.entry.Found.TheVariants.{Busy}
+use Rattle.ce_model.specs.declared.entry.LookResult.{LookResult}
+use Rattle.ce_model.specs.declared.entry.LookResult.TheVariants.{Busy}
 use Rattle.ce_model.specs.Parcels.{Item}
 use Rattle.ce_model.specs.Trace.{sent_to}
 use Rattle.ce_model.specs.Cube.{opening, parcel_numbered}
 use Rattle.ce_model.specs.Renaming.{CubeGrant, entry_inward}
 use Rattle.ce_model.specs.Views.{view}
-use Rattle.ce_model.specs.Machine.{MachineParts, IsLawful, HeldCube, cube_of}
+use Rattle.ce_model.specs.Machine.{MachineParts, HeldCube, cube_of}
 use Rattle.ce_solo.proofs.Lists.{all-append}
 use Rattle.ce_daemon.specs.declared.grant.Grant.{Grant}
 use Rattle.ce_machine.specs.Meanings.{MachineFacts}
@@ -26,7 +26,7 @@ use Rattle.ce_cube.proofs.Crewing.{still-sound, gone-both, stands-still}
 use Rattle.ce_host.specs.declared.command.Command.TheVariants.{Run, Recv}
 use Rattle.ce_host.specs.declared.answer.Answer.{Answer}
 use Rattle.ce_host.specs.declared.answer.Answer.TheVariants.{Message}
-use Rattle.ce_script.specs.Rounds.{serial, joined, AreTurnsOver}
+use Rattle.ce_script.specs.Rounds.{serial, joined_lists, AreTurnsOver}
 use Rattle.ce_script.specs.Commands.{by_host, host_take, run_reply, RecvEnd, message_next, message_behind_rest, no_message, end_entries, end_rounds, message_reply, no_message_reply, recv_reply}
 use Rattle.ce_record.specs.CubeRounds.{IsRoundOf, IsRunOf, IsRecvOf}
 use Rattle.ce_record.specs.Held.{AreTurnsOverIn}
@@ -37,7 +37,7 @@ use Rattle.ce_record.proofs.Turns.{work-inward}
 use Rattle.ce_run.specs.declared.seat.Seat.TheVariants.{Holding}
 use Rattle.ce_run.specs.Rounds.{HasAllowed, HasLooked, HasTakenNone, HasTaken, HasRunRounds}
 use Rattle.ce_run.specs.Seats.{HasDone}
-use Rattle.ce_run.proofs.Going.{IsOwnRound, IsResting, RestsNow, left_to, by-grant, all-by-grant, flat-last, round-of, left-behind, rests-behind, found-resting, rests-on, left-on}
+use Rattle.ce_run.proofs.Going.{IsOwnRound, IsResting, IsCrewResting, left_to, by-grant, all-by-grant, flat-last, round-of, left-behind, rests-behind, found-resting, rests-on, left-on}
 use Rattle.ce_run.proofs.Seating.{done-by}
 
 -- ---- the end of a command with rounds
@@ -49,9 +49,6 @@ turns-over m crew step = steps-end-turns m.parts m.history crew.grant.number (cu
 
 module _ (before behind : MachineFacts) (crew crew' : SerialCrew) (made : List Entry) (sound : IsLawfulMachine before)
     (step : IsCrewInStep before.parts before.history crew) (on : HasGoneOn before behind crew crew' made) where
-  lawful-behind : IsLawful before.parts (before.history ++ made)
-  lawful-behind = subst (IsLawful before.parts) on.history (subst (λ (p : MachineParts). IsLawful p behind.history) on.parts on.lawful)
-
   over-behind : AreTurnsOverIn before.parts (before.history ++ made) step.held.cube
   over-behind =
       subst (λ (g : CubeGrant). AreTurnsOver (cube_of before.parts.images g) (opening (cube_of before.parts.images g)) (view (before.history ++ made) step.held.cube.number))
@@ -67,12 +64,12 @@ module _ (before behind : MachineFacts) (crew crew' : SerialCrew) (made : List E
       (λ (p : MachineParts). AreTurnsOver (cube_of p.images (cube_grant crew'.grant)) (opening (cube_of p.images (cube_grant crew'.grant))) (view behind.history crew'.grant.number))
       on.parts (turns-over behind crew' on.in_step)))))
 
-  pub run-ends : (count : ℕ) (found : Found) (answer : Answer) → IsRunOf serial crew.grant.user (cube_grant crew.grant) count found made
+  pub run-ends : (count : ℕ) (found : LookResult) (answer : Answer) → IsRunOf serial crew.grant.user (cube_grant crew.grant) count found made
       → run_reply found ≡ Some answer → HasDone before behind crew.grant.user (Run count) answer (Holding crew')
   run-ends count found answer is reply =
       done-by before behind crew crew' made (Run count) answer on
       (run serial before.parts before.history crew.grant.user step.held.cube step.held.held sound.within sound.lawful step.held.goes_on count found answer made
-      (subst (λ (g : CubeGrant). IsRunOf serial crew.grant.user g count found made) (sym step.held.grant_is) is) reply lawful-behind over-behind)
+      (subst (λ (g : CubeGrant). IsRunOf serial crew.grant.user g count found made) (sym step.held.grant_is) is) reply over-behind)
 
   pub recv-ends : (count : ℕ) (end : RecvEnd) (answer : Answer) → IsRecvOf serial crew.grant.user (cube_grant crew.grant) count end made
       → recv_reply (sent_to_host before.parts step.held.cube (view (before.history ++ made) step.held.cube.number)) end ≡ Some answer
@@ -80,13 +77,13 @@ module _ (before behind : MachineFacts) (crew crew' : SerialCrew) (made : List E
   recv-ends count end answer is reply =
       done-by before behind crew crew' made (Recv count) answer on
       (recv serial before.parts before.history crew.grant.user step.held.cube step.held.held sound.within sound.lawful step.held.goes_on count end answer made
-      (subst (λ (g : CubeGrant). IsRecvOf serial crew.grant.user g count end made) (sym step.held.grant_is) is) reply lawful-behind over-behind)
+      (subst (λ (g : CubeGrant). IsRecvOf serial crew.grant.user g count end made) (sym step.held.grant_is) is) reply over-behind)
 
 -- ---- a look
 
-module _ (now behind : MachineFacts) (crew crew' : SerialCrew) (found : Found) (sound : IsLawfulMachine now) (step : IsCrewInStep now.parts now.history crew)
+module _ (now behind : MachineFacts) (crew crew' : SerialCrew) (found : LookResult) (sound : IsLawfulMachine now) (step : IsCrewInStep now.parts now.history crew)
     (looked : HasLooked now behind crew crew' found) where
-  pub not-busy : RestsNow now crew → found ≡ Busy → ⊥
+  pub not-busy : IsCrewResting now crew → found ≡ Busy → ⊥
   not-busy rests is =
       found-resting now sound crew.grant.number (cube_grant crew.grant) step.held (by_host crew.grant.user (Look found)) looked.made rests (ap Look is)
 
@@ -94,50 +91,50 @@ held-by-grant : (m : MachineFacts) (crew crew' : SerialCrew) → crew'.grant ≡
     → IsHeldAs m.history crew.grant.number (cube_grant crew.grant)
 held-by-grant m crew crew' same held = subst (λ (g : Grant). IsHeldAs m.history g.number (cube_grant g)) same held
 
-rests-by-grant : (m : MachineFacts) (crew crew' : SerialCrew) → crew'.grant ≡ crew.grant → RestsNow m crew → RestsNow m crew'
+rests-by-grant : (m : MachineFacts) (crew crew' : SerialCrew) → crew'.grant ≡ crew.grant → IsCrewResting m crew → IsCrewResting m crew'
 rests-by-grant m crew crew' same rests = subst (λ (g : Grant). IsResting m.parts m.history g.number (cube_grant g)) (sym same) rests
 
 -- a crew rests behind a round without work
-rests-behind-round : (now behind : MachineFacts) (crew crew' : SerialCrew) → IsLawfulMachine behind → HasMadeRound now behind crew crew' false → RestsNow behind crew'
+rests-behind-round : (now behind : MachineFacts) (crew crew' : SerialCrew) → IsLawfulMachine behind → HasMadeRound now behind crew crew' false → IsCrewResting behind crew'
 rests-behind-round now behind crew crew' sound made =
     rests-by-grant behind crew crew' made.goes_on.grant
-    (rests-behind behind sound crew.grant.number (cube_grant crew.grant) (held-by-grant behind crew crew' made.goes_on.grant made.goes_on.in_step.held)
+    (rests-behind behind sound crew.grant.number (cube_grant crew.grant) (held-by-grant behind crew crew' made.goes_on.grant made.goes_on.in_step.held) serial
     (view now.history crew.grant.number) (map (entry_inward crew.grant.sub) made.round) made.goes_on.trace (made.is_round, made.works))
 
 -- ---- `run`
 
 -- a crew rests behind its rounds
-pub rests-behind-rounds : (before behind : MachineFacts) (crew crew' : SerialCrew) → IsLawfulMachine behind → HasRunRounds before behind crew crew' → RestsNow behind crew'
+pub rests-behind-rounds : (before behind : MachineFacts) (crew crew' : SerialCrew) → IsLawfulMachine behind → HasRunRounds before behind crew crew' → IsCrewResting behind crew'
 rests-behind-rounds before behind crew crew' sound ran =
     let on = ran.goes_on in
     let inner = entry_inward crew.grant.sub in
     let t = view before.history crew.grant.number in
     rests-by-grant behind crew crew' on.grant
-    (rests-behind behind sound crew.grant.number (cube_grant crew.grant) (held-by-grant behind crew crew' on.grant on.in_step.held)
-    (t ++ map inner (joined ran.rounds)) (map inner ran.last)
-    (on.trace ∙ ap (λ made. t ++ made) (map-append inner (joined ran.rounds) ran.last) ∙ sym (append_assoc t (map inner (joined ran.rounds)) (map inner ran.last)))
+    (rests-behind behind sound crew.grant.number (cube_grant crew.grant) (held-by-grant behind crew crew' on.grant on.in_step.held) serial
+    (t ++ map inner (joined_lists ran.rounds)) (map inner ran.last)
+    (on.trace ∙ ap (λ made. t ++ made) (map-append inner (joined_lists ran.rounds) ran.last) ∙ sym (append_assoc t (map inner (joined_lists ran.rounds)) (map inner ran.last)))
     (ran.without_work.is_round, work-inward crew.grant.sub ran.last ∙ ran.without_work.works))
 
 -- with the user of the crew as it was
-looked-by : (now behind : MachineFacts) (crew crew' crew'' : SerialCrew) (found : Found) → crew'.grant ≡ crew.grant → HasLooked now behind crew' crew'' found
+looked-by : (now behind : MachineFacts) (crew crew' crew'' : SerialCrew) (found : LookResult) → crew'.grant ≡ crew.grant → HasLooked now behind crew' crew'' found
     → HasGoneOn now behind crew' crew'' (by_host crew.grant.user (Look found) ∷ [])
 looked-by now behind crew crew' crew'' found same looked =
     subst (λ (g : Grant). HasGoneOn now behind crew' crew'' (by_host g.user (Look found) ∷ [])) same looked.goes_on
 
-module _ (before armed ran behind : MachineFacts) (crew crew1 crew2 crew3 : SerialCrew) (count : ℕ) (found : Found) (answer : Answer) (sound : IsLawfulMachine before)
+module _ (before armed ran behind : MachineFacts) (crew crew1 crew2 crew3 : SerialCrew) (count : ℕ) (found : LookResult) (answer : Answer) (sound : IsLawfulMachine before)
     (step : IsCrewInStep before.parts before.history crew) (allowed : HasAllowed before armed crew crew1 count) (rounds : HasRunRounds armed ran crew1 crew2)
     (looked : HasLooked ran behind crew2 crew3 found) where
   abbrev run_look : Entry
   run_look = by_host crew.grant.user (Look found)
 
   abbrev run_made : List Entry
-  run_made = by_host crew.grant.user (Arm count) ∷ (joined rounds.rounds ++ (rounds.last ++ run_look ∷ []))
+  run_made = by_host crew.grant.user (Arm count) ∷ (joined_lists rounds.rounds ++ (rounds.last ++ run_look ∷ []))
 
   run-on : HasGoneOn before behind crew crew3 run_made
   run-on =
-      let first = gone-both before armed ran crew crew1 crew2 (by_host crew.grant.user (Arm count) ∷ []) (joined rounds.rounds ++ rounds.last) allowed rounds.goes_on in
-      subst (λ more. HasGoneOn before behind crew crew3 (by_host crew.grant.user (Arm count) ∷ more)) (append_assoc (joined rounds.rounds) rounds.last (run_look ∷ []))
-      (gone-both before ran behind crew crew2 crew3 (by_host crew.grant.user (Arm count) ∷ (joined rounds.rounds ++ rounds.last)) (run_look ∷ []) first
+      let first = gone-both before armed ran crew crew1 crew2 (by_host crew.grant.user (Arm count) ∷ []) (joined_lists rounds.rounds ++ rounds.last) allowed rounds.goes_on in
+      subst (λ more. HasGoneOn before behind crew crew3 (by_host crew.grant.user (Arm count) ∷ more)) (append_assoc (joined_lists rounds.rounds) rounds.last (run_look ∷ []))
+      (gone-both before ran behind crew crew2 crew3 (by_host crew.grant.user (Arm count) ∷ (joined_lists rounds.rounds ++ rounds.last)) (run_look ∷ []) first
       (looked-by ran behind crew crew2 crew3 found first.grant looked))
 
   pub run-done : run_reply found ≡ Some answer → HasDone before behind crew.grant.user (Run count) answer (Holding crew3)
@@ -164,7 +161,7 @@ waited false user rounds last = looks_for user rounds ++ host_take user None ∷
 -- by the last round no node was given work, and the cube rests
 abbrev pub IsLastRound : Bool → MachineFacts → SerialCrew → SerialCrew → List Entry → Type 0
 IsLastRound true now crew crew' last = Unit {0}
-IsLastRound false now crew crew' last = IsOwnRound crew false last × RestsNow now crew'
+IsLastRound false now crew crew' last = IsOwnRound crew false last × IsCrewResting now crew'
 
 -- A crew's host found no message so far; nodes have work still, or the last round was without.
 pub record HasWaited (before now : MachineFacts) (crew crew' : SerialCrew) (working : Bool) : Type 0 where
@@ -279,30 +276,30 @@ module _ (before armed now : MachineFacts) (crew crew1 crew2 : SerialCrew) (coun
           (subst (λ (g : Grant). HasGoneOn now behind crew2 crew3 (host_take g.user (Some taken.number) ∷ [])) armed-on.grant taken.goes_on)
 
       -- what the host is told, by what was sent to it
-      abbrev Told : MachineParts → CubeGrant → List Entry → Type 0
-      Told parts grant t =
+      abbrev IsToldIn : MachineParts → CubeGrant → List Entry → Type 0
+      IsToldIn parts grant t =
           message_reply (parcel_numbered taken.number (sent_to (opening (cube_of parts.images grant)).standing HOST t)) ≡ Some (Message from bytes)
 
-      told-now : Told now.parts (cube_grant crew2.grant) (view behind.history crew2.grant.number)
+      told-now : IsToldIn now.parts (cube_grant crew2.grant) (view behind.history crew2.grant.number)
       told-now =
           let held = armed-on.in_step.held in
           let more = map (entry_inward crew2.grant.sub) (host_take crew2.grant.user (Some taken.number) ∷ []) in
           let now_sound = still-sound before now crew crew2 (arm ∷ waited working user so_far.rounds so_far.last) sound armed-on in
           let waits : parcel_numbered taken.number held.cube.mail ≡ Some taken.parcel =
           subst (λ held. IsSomeAnd held (λ (cube : HeldCube). parcel_numbered taken.number cube.mail ≡ Some taken.parcel)) held.held taken.waited in
-          subst (Told now.parts (cube_grant crew2.grant)) (sym taken.goes_on.trace)
-          (subst (λ n. Told now.parts (cube_grant crew2.grant) (view now.history n ++ more)) held.number_is
-          (subst (λ g. Told now.parts g (view now.history held.cube.number ++ more)) held.grant_is
+          subst (IsToldIn now.parts (cube_grant crew2.grant)) (sym taken.goes_on.trace)
+          (subst (λ n. IsToldIn now.parts (cube_grant crew2.grant) (view now.history n ++ more)) held.number_is
+          (subst (λ g. IsToldIn now.parts g (view now.history held.cube.number ++ more)) held.grant_is
           (message now.parts now.history crew2.grant.user held.cube held.held now_sound.within now_sound.lawful held.goes_on taken.number taken.parcel more waits
           ∙ ap₂ (λ from bytes. Some (Message from bytes)) taken.from_is taken.bytes_are)))
 
-      told : Told before.parts step.held.cube.grant (view (before.history ++ made) step.held.cube.number)
+      told : IsToldIn before.parts step.held.cube.grant (view (before.history ++ made) step.held.cube.number)
       told =
-          subst (λ g. Told before.parts g (view (before.history ++ made) step.held.cube.number)) (sym step.held.grant_is)
-          (subst (λ n. Told before.parts (cube_grant crew.grant) (view (before.history ++ made) n)) (sym step.held.number_is)
-          (subst (λ h. Told before.parts (cube_grant crew.grant) (view h crew.grant.number)) taken-on.history
-          (subst (λ (p : MachineParts). Told p (cube_grant crew.grant) (view behind.history crew.grant.number)) armed-on.parts
-          (subst (λ (g : Grant). Told now.parts (cube_grant g) (view behind.history g.number)) armed-on.grant told-now))))
+          subst (λ g. IsToldIn before.parts g (view (before.history ++ made) step.held.cube.number)) (sym step.held.grant_is)
+          (subst (λ n. IsToldIn before.parts (cube_grant crew.grant) (view (before.history ++ made) n)) (sym step.held.number_is)
+          (subst (λ h. IsToldIn before.parts (cube_grant crew.grant) (view h crew.grant.number)) taken-on.history
+          (subst (λ (p : MachineParts). IsToldIn p (cube_grant crew.grant) (view behind.history crew.grant.number)) armed-on.parts
+          (subst (λ (g : Grant). IsToldIn now.parts (cube_grant g) (view behind.history g.number)) armed-on.grant told-now))))
 
       pub message-done : HasDone before behind crew.grant.user (Recv count) (Message from bytes) (Holding crew3)
       message-done =
@@ -314,7 +311,7 @@ module _ (before armed now : MachineFacts) (crew crew1 crew2 : SerialCrew) (coun
             entries = ap (λ more. arm ∷ more) (message-entries working user so_far.rounds so_far.last taken.number);
           }) (message-reply working (sent_to_host before.parts step.held.cube (view (before.history ++ made) step.held.cube.number)) so_far.last taken.number ∙ told)
 
-  module _ (so_far : HasWaited armed now crew1 crew2 false) (taken behind : MachineFacts) (crew3 crew4 : SerialCrew) (found : Found)
+  module _ (so_far : HasWaited armed now crew1 crew2 false) (taken behind : MachineFacts) (crew3 crew4 : SerialCrew) (found : LookResult)
       (none : HasTakenNone now taken crew2 crew3) (looked : HasLooked taken behind crew3 crew4 found) where
     abbrev look : Entry
     look = by_host user (Look found)

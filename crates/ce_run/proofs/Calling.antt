@@ -9,7 +9,7 @@ use Rattle.ce_model.specs.declared.topology.TheConstants.{HOST}
 use Rattle.ce_model.specs.declared.entry.Entry.{Entry}
 use Rattle.ce_model.specs.Renaming.{CubeGrant, entry_inward}
 use Rattle.ce_model.specs.Views.{grant_by, is_drain, trace_behind, grant_or_later, from_grant, view}
-use Rattle.ce_model.specs.Machine.{MachineParts, IsMachine, after, IsFitting, answered}
+use Rattle.ce_model.specs.Machine.{MachineParts, IsMachine, after, IsFitting, what_of_request}
 use Rattle.rk_node.specs.Boxes.{Box}
 use Rattle.ce_machine.specs.Meanings.{MachineFacts}
 use Rattle.ce_machine.specs.declared.call.Call.{Call}
@@ -111,7 +111,7 @@ module _ (before behind : MachineFacts) (crew : SerialCrew) (call : Call Box) (r
 
   one : IsOneMore before.parts before.history crew.grant.number grant made
   one = calls-add before.parts before.history crew.grant.number grant machine.within machine.lawful nodes.held HOST host.inner made host.fits
-      (record { user = refl; actor_is = refl; what = ap (answered before.parts (after before.history) crew.grant.user HOST) (sym host.is) ∙ asked.answer })
+      (record { user = refl; actor_is = refl; what = ap (what_of_request before.parts (after before.history) crew.grant.user HOST) (sym host.is) ∙ asked.answer })
 
   abbrev crew' : SerialCrew
   crew' = record crew { entries = crew.entries + 1 }

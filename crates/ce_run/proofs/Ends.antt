@@ -1,5 +1,5 @@
 -- How a run ends: at its words, at its script, or with a record.
-use Rattle.std.proofs.Common.{◌≡◌, ◌⊎◌, ℕ, true, if◌then◌else◌, List, [], Option, Some, None, refl, ap, sym, subst, arith, inl, inr, rules}
+use Rattle.std.proofs.Common.{◌≡◌, ◌⊎◌, ℕ, true, if◌then◌else◌, List, [], Option, Some, None, refl, ap, sym, subst, arith, inl, inr}
 use Rattle.std.specs.Prelude.{IfSome}
 use Rattle.std.specs.Io.KnownBytes.{prepend_known}
 use Rattle.ce_io.specs.Whole.{HasGiven, Reading, Writing, reading, writing}
@@ -10,9 +10,9 @@ use Rattle.ce_script.specs.Serial.{IsSerial}
 use Rattle.ce_script.specs.Legal.{IsLegal}
 use Rattle.ce_script.specs.Load.{load}
 use Rattle.ce_script.specs.declared.script.Script.{Script}
-use Rattle.ce_run.specs.declared.ended.Ended.{Ended}
+use Rattle.ce_run.specs.declared.ended.RunEnd.{RunEnd}
 use Rattle.ce_run.specs.declared.ended.Fault.{Fault}
-use Rattle.ce_run.specs.declared.ended.Fault.TheVariants.{TooLong, Script as Refused, Usage, Read, Memory}
+use Rattle.ce_run.specs.declared.ended.Fault.TheVariants.{TooLong, Script as Refused, Usage, Read, Write, Memory}
 use Rattle.ce_run.specs.Fault.{status_of}
 use Rattle.ce_run.specs.Causes.{IsServed, IsMemory, HasRunToEnd, HasReported}
 use Rattle.ce_run.specs.Promise.{HasEnded, HasFinished, HasRun, HasScript, text_of}
@@ -26,64 +26,47 @@ pub nothing_given : {S : Type 0} (left : S → Option (List ℕ)) (given faults 
 nothing_given left given faults s = record { left = nothing_before (left s); given = omega arith }
 
 -- the end with this fault, and without a record
-abbrev pub refused_with : Fault → Ended
+abbrev pub refused_with : Fault → RunEnd
 refused_with fault = record { status = status_of fault; kept = None; fault = Some fault }
+
+-- a run that ended at its words went no further, and so with no fault of what comes behind them
+no_run : (fault : Fault) → (fault ≡ Usage) ⊎ IsMemory (Some fault) → HasRunToEnd (Some fault) → ⊥
+no_run fault (inl usage) ran = subst (λ fault. HasRunToEnd (Some fault)) usage ran
+no_run (Memory want) (inr memory) ran = ran
+no_run other (inr memory) ran = memory
+
+no_other : (fault other : Fault) → (fault ≡ Usage) ⊎ IsMemory (Some fault) → (other ≡ Usage → ⊥) → (IsMemory (Some other) → ⊥) → Some fault ≡ Some other → ⊥
+no_other fault other (inl usage) not_usage not_memory e = not_usage (cc)
+no_other fault other (inr memory) not_usage not_memory e = not_memory (subst IsMemory e memory)
 
 module _ {S K : Type 0} (left : S → Option (List ℕ)) (given faults : S → ℕ) (s : S) (written : K → Option (List ℕ)) (failed : K → ℕ) (k : K)
     (words : List (List ℕ)) where
   -- nothing was read or written, and this is the fault
-  abbrev EndsWith : Fault → Type 0
-  EndsWith fault = HasEnded words (reading left given faults s s) (writing written failed k k) (refused_with fault)
-
-  ends_unserved : ¬ IsServed words → EndsWith Usage
-  ends_unserved refused = record {
-    status = refl;
-    kept = search rules;
-    usage = λ _. refused;
-    served = inr (inl refl);
-    unread = λ _. refl;
-    bytes = [];
-    gave = nothing_given left given faults s;
-    load_unread = λ _ _. refl;
-    load_runs = λ served _. absurd (refused served);
-    too_long = (λ e. absurd (cc), λ over. absurd (omega arith));
-    bounded = omega arith;
-    faulty = λ fault e. absurd (cc);
-    faultless = λ ran. absurd ran;
-    read = λ e. absurd (cc);
-    no_read_failed = inr refl;
-    write = λ e. absurd (cc);
-    no_write_failed = inr refl;
-    unwritten = inr refl;
-  }
-
-  ends_in_memory : (fault : Fault) → IsMemory (Some fault) → EndsWith fault
-  ends_in_memory (Memory want) memory = record {
-    status = refl;
-    kept = search rules;
-    usage = λ e. absurd (cc);
-    served = inr (inr tt);
-    unread = λ _. refl;
-    bytes = [];
-    gave = nothing_given left given faults s;
-    load_unread = λ _ _. refl;
-    load_runs = λ _ _. inr tt;
-    too_long = (λ e. absurd (cc), λ over. absurd (omega arith));
-    bounded = omega arith;
-    faulty = λ fault e. absurd (cc);
-    faultless = λ ran. absurd ran;
-    read = λ e. absurd (cc);
-    no_read_failed = inr refl;
-    write = λ e. absurd (cc);
-    no_write_failed = inr refl;
-    unwritten = inr refl;
-  }
-  ends_in_memory other memory = absurd memory
+  abbrev HasEndedWith : Fault → Type 0
+  HasEndedWith fault = HasEnded words (reading left given faults s s) (writing written failed k k) (refused_with fault)
 
   -- words that aren't served, or for which there is no memory
-  pub ends_at_words : (fault : Fault) → (fault ≡ Usage) ⊎ IsMemory (Some fault) → (fault ≡ Usage → ¬ IsServed words) → EndsWith fault
-  ends_at_words fault (inl usage) refused = subst EndsWith (sym usage) (ends_unserved (refused usage))
-  ends_at_words fault (inr memory) refused = ends_in_memory fault memory
+  pub ends_at_words : (fault : Fault) → (fault ≡ Usage) ⊎ IsMemory (Some fault) → (fault ≡ Usage → ¬ IsServed words) → HasEndedWith fault
+  ends_at_words fault why refused = record {
+    status = refl;
+    kept = (λ none. absurd (cc), λ ran. absurd (no_run fault why ran));
+    usage = λ e. refused (cc);
+    served = elim why [ inl usage ↦ inr (inl (ap Some usage)) | inr memory ↦ inr (inr memory) ];
+    unread = λ _. refl;
+    bytes = [];
+    gave = nothing_given left given faults s;
+    load_unread = λ _ _. refl;
+    load_runs = λ served _. elim why [ inl usage ↦ absurd (refused usage served) | inr memory ↦ inr memory ];
+    too_long = (λ e. absurd (no_other fault TooLong why (λ e. cc) (λ m. m) e), λ over. absurd (omega arith));
+    bounded = omega arith;
+    faulty = λ other e. absurd (no_other fault (Refused other) why (λ e. cc) (λ m. m) e);
+    faultless = λ ran _. absurd (no_run fault why ran);
+    read = λ e. absurd (no_other fault Read why (λ e. cc) (λ m. m) e);
+    no_read_failed = inr refl;
+    write = λ e. absurd (no_other fault Write why (λ e. cc) (λ m. m) e);
+    no_write_failed = inr refl;
+    unwritten = inr refl;
+  }
 
 -- three facts of what is there together give a fourth
 both : {A : Type 0} (some : Option A) (P Q R Z : A → Type 0) → ((a : A) → P a → Q a → R a → Z a) → IfSome some P → IfSome some Q → IfSome some R → IfSome some Z
@@ -91,7 +74,7 @@ both None P Q R Z f p q r = tt
 both (Some a) P Q R Z f p q r = f a p q r
 
 -- a run that left a record did what is promised of it
-pub runs_as_promised : {S K : Type 0} (line : Line) (source : Reading S) (sink : Writing K) (script : Script) (end : Ended)
+pub runs_as_promised : {S K : Type 0} (line : Line) (source : Reading S) (sink : Writing K) (script : Script) (end : RunEnd)
     → line.serial ≡ true → HasScript line.load source script → HasFinished script line.load sink end → IfSome end.kept (HasRun line source sink end.fault)
 runs_as_promised line source sink script end one has finished =
     both end.kept (IsLegal serial script) (IsSerial script) (λ kept. HasReported end.fault (text_of line.load script kept) (sink.written sink.old) (sink.written sink.new))
@@ -115,7 +98,7 @@ some_differs load seed some none = absurd (cc)
 
 -- the run of a load, for which nothing is read
 pub ends_of_load : {S K : Type 0} (left : S → Option (List ℕ)) (given faults : S → ℕ) (s : S) (sink : Writing K)
-    (words : List (List ℕ)) (script : Script) (seed : ℕ) (end : Ended) → IsServed words → (line_of words).load ≡ Some seed
+    (words : List (List ℕ)) (script : Script) (seed : ℕ) (end : RunEnd) → IsServed words → (line_of words).load ≡ Some seed
     → HasFinished script (Some seed) sink end → HasEnded words (reading left given faults s s) sink end
 ends_of_load left given faults s sink words script seed end served asked finished = record {
   status = finished.status;

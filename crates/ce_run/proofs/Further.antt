@@ -5,7 +5,7 @@ use Rattle.std.proofs.Math.Seq.{take-suc, map-set_same, get_or-append_seam}
 use Rattle.std.proofs.Math.ListN.{length-set}
 use Rattle.std.specs.Prelude.{replicate}
 use Rattle.std.specs.List.{AllByRecursion}
-use Rattle.std.proofs.lemmas.Bool.{cases_eq, ne_eqb}
+use Rattle.std.proofs.lemmas.Bool.{cases_eq}
 use Rattle.rv_model.specs.Image.{ImageParts}
 use Rattle.ce_model.specs.declared.entry.Entry.{Entry}
 use Rattle.ce_model.specs.Views.{view}
@@ -30,6 +30,7 @@ use Rattle.ce_script.specs.Moments.{Holding as Held}
 use Rattle.ce_script.specs.Doings.{Doing}
 use Rattle.ce_record.specs.Held.{holding_of, held_now}
 use Rattle.ce_record.specs.Run.{IsRunSoFar, AreReplies, doing_behind}
+use Rattle.ce_record.proofs.Moments.{foreign-to}
 use Rattle.ce_record.proofs.Held.{others_stay}
 use Rattle.ce_record.proofs.Legal.{script_has_machine, run_is_legal, no_user_is_legal}
 use Rattle.ce_record.proofs.Run.{run_begins, run_goes_on}
@@ -97,8 +98,8 @@ module _ (before behind : MachineFacts) (seats seats' : List (Option Seat)) (use
             subst (λ u. IsSomeAnd (slice_index_or seats' u None) (IsSeatAt before.parts behind.history u)) same
             (subst (λ place. IsSomeAnd place (IsSeatAt before.parts behind.history user)) (sym seated.here) done.seated)
         | inr differ ↦
-            let stay = others_stay before.parts before.history user other done.made machine
-            (subst (IsLawful before.parts) done.history done.lawful) done.next.own (ne_eqb user other differ) in
+            let stay = others_stay before.parts before.history other done.made machine (subst (IsLawful before.parts) done.history done.lawful)
+            (foreign-to user other done.made differ done.next.own) in
             subst (λ h. IsSomeAnd (slice_index_or seats' other None) (IsSeatAt before.parts h other)) (sym done.history)
             (subst (λ place. IsSomeAnd place (IsSeatAt before.parts (before.history ++ done.made) other)) (sym (seated.others other (λ e. differ (sym e))))
             (some-stays before.parts before.history (before.history ++ done.made) other (slice_index_or seats other None) stay.0 stay.1 (run.seated other inside)))
@@ -255,7 +256,7 @@ pub empty-run : (script : Script) (users : List UserRecord) (history : List Entr
     → IsLegal serial script (record { users = users; history = history }) × IsSerial script (record { users = users; history = history })
 empty-run script users history within nobody no_users no_history =
     subst (λ (kept : Record). IsLegal serial script kept × IsSerial script kept) (λ i. record { users = sym no_users i; history = sym no_history i })
-    (no_user_is_legal script within nobody)
+    (no_user_is_legal serial script within nobody)
 
 pub no-dim : (dim : Option ℕ) → ((d : ℕ) → dim ≡ Some d → ⊥) → dim ≡ None
 no-dim None other = refl

@@ -1,40 +1,34 @@
 -- Rounds of a crew, and the commands that run them.
-use Rattle.std.proofs.Common.{◌≡◌, ℕ, zero, suc, ◌+◌, ◌-◌, ◌^◌, ◌<◌, ◌≤◌, Bool, true, false, ◌==◌, ◌&&◌, ◌||◌, not, if◌then◌else◌, List, [], ◌∷◌, ◌++◌, flat_map, Some, None, refl, ap, ap₂, sym, ◌∙◌, subst, arith, append-nil, inr}
+use Rattle.std.proofs.Common.{◌≡◌, ℕ, zero, suc, ◌+◌, ◌-◌, ◌^◌, ◌<◌, ◌≤◌, Bool, true, false, ◌==◌, ◌&&◌, ◌||◌, not, if◌then◌else◌, List, [], ◌∷◌, ◌++◌, flat_map, None, refl, ap, ap₂, sym, ◌∙◌, subst, arith, append-nil}
 use Rattle.std.specs.List.{AllByRecursion, list_any, list_all, range_with_len}
 use Rattle.std.proofs.lemmas.Bool.{ne_eqb}
 use Rattle.std.proofs.lemmas.Grind.{flat_map-append}
 use Rattle.rv_model.specs.Image.{ImageParts}
 use Rattle.ce_model.specs.declared.topology.TheConstants.{HOST}
 use Rattle.ce_model.specs.declared.entry.Entry.{Entry}
-use Rattle.ce_model.specs.declared.entry.What.{What}
-use Rattle.ce_model.specs.declared.entry.Found.{Found}
 use Rattle.ce_model.specs.declared.entry.What.TheVariants.{Look, HostTake}
-use Rattle.ce_model.specs.declared.entry.Found.TheVariants.{Quiet, Busy}
+use Rattle.ce_model.specs.declared.entry.LookResult.TheVariants.{Busy}
 use Rattle.ce_model.specs.Node.{looks}
 use Rattle.ce_model.specs.Parcels.{Item, is_eligible}
-use Rattle.ce_model.specs.Trace.{Mark, Standing, standing, waiting, mark, armed, dispatched}
-use Rattle.ce_model.specs.Answers.{answer, found_where, is_quiet, is_quiet_node, is_used_up}
-use Rattle.ce_model.specs.Cube.{Cube, IsAlone, opening, node_numbers}
+use Rattle.ce_model.specs.Trace.{Mark, Standing, standing, waiting_items, mark, allowed_dispatches, made_dispatches}
+use Rattle.ce_model.specs.Answers.{is_quiet, is_quiet_node, is_used_up}
+use Rattle.ce_model.specs.Cube.{opening, node_numbers}
 use Rattle.ce_model.specs.Renaming.{CubeGrant}
 use Rattle.ce_model.specs.Views.{view}
-use Rattle.ce_model.specs.Machine.{MachineParts, HeldCube, after, held_by, standing_of, cube_of}
+use Rattle.ce_model.specs.Machine.{MachineParts, cube_of}
 use Rattle.ce_model.proofs.OneMore.{mark-more, waiting-stays, armed-more, dispatched-more}
 use Rattle.ce_solo.proofs.Lists.{all-append}
-use Rattle.ce_solo.proofs.Fresh.{fresh_sound}
-use Rattle.ce_solo.proofs.Projection.Numbers.{IsPlaced, what_outward, relative_host, few_relative}
-use Rattle.ce_solo.proofs.Projection.Answers.{answer-outward}
-use Rattle.ce_solo.proofs.Projection.Law.{projected, found_alone}
+use Rattle.ce_solo.proofs.Projection.Numbers.{IsPlaced, relative_host, few_relative}
 use Rattle.ce_daemon.specs.declared.grant.Grant.{Grant}
 use Rattle.ce_machine.specs.Meanings.{MachineFacts}
 use Rattle.ce_cube.specs.declared.crew.SerialCrew.{SerialCrew}
 use Rattle.ce_cube.specs.Boxes.{IsHeldAs, IsMadeBy}
 use Rattle.ce_cube.specs.Crews.{IsLawfulMachine, IsCrewInStep, HasGoneOn, HasMadeRound, cube_grant}
 use Rattle.ce_cube.specs.Rounds.{dispatches_left}
-use Rattle.ce_cube.proofs.Adds.{answer-made}
 use Rattle.ce_cube.proofs.Crewing.{still-sound, stands-still, gone-both}
-use Rattle.ce_cube.proofs.Held.{seen, by_cube}
-use Rattle.ce_cube.proofs.Resting.{rounds-rest}
-use Rattle.ce_script.specs.Rounds.{serial, joined, IsRoundWithoutWork}
+use Rattle.ce_cube.proofs.Held.{by_seen, placed-of}
+use Rattle.ce_cube.proofs.Looks.{at-rest, found-at-rest}
+use Rattle.ce_script.specs.Rounds.{RoundKind, serial, joined_lists, IsRoundWithoutWork}
 use Rattle.ce_script.specs.Commands.{host_take}
 use Rattle.ce_record.specs.CubeRounds.{IsRoundOf}
 use Rattle.ce_record.proofs.Turns.{work-inward}
@@ -90,7 +84,7 @@ flat-last f rounds round = flat_map-append f rounds (round ∷ []) ∙ ap (λ mo
 -- rounds with work were made so far
 pub record HasMadeRounds (before now : MachineFacts) (crew crew' : SerialCrew) : Type 0 where
   pub rounds : List (List Entry)
-  pub goes_on : HasGoneOn before now crew crew' (joined rounds)
+  pub goes_on : HasGoneOn before now crew crew' (joined_lists rounds)
   pub with_work : AllByRecursion (IsOwnRound crew true) rounds
 
 pub no-round : (m : MachineFacts) (crew : SerialCrew) → IsLawfulMachine m → IsCrewInStep m.parts m.history crew → HasMadeRounds m m crew crew
@@ -101,7 +95,7 @@ module _ (before now behind : MachineFacts) (crew crew' crew'' : SerialCrew) (so
   one-round-more made = record {
     rounds = so_far.rounds ++ made.round ∷ [];
     goes_on = subst (HasGoneOn before behind crew crew'') (sym (flat-last (λ list. list) so_far.rounds made.round))
-        (gone-both before now behind crew crew' crew'' (joined so_far.rounds) made.round so_far.goes_on made.goes_on);
+        (gone-both before now behind crew crew' crew'' (joined_lists so_far.rounds) made.round so_far.goes_on made.goes_on);
     with_work = all-append (IsOwnRound crew true) so_far.rounds (made.round ∷ []) so_far.with_work
         (by-grant crew crew' true made.round so_far.goes_on.grant (round-of now behind crew' crew'' true made), tt);
   }
@@ -110,7 +104,7 @@ module _ (before now behind : MachineFacts) (crew crew' crew'' : SerialCrew) (so
   rounds-over made = record {
     rounds = so_far.rounds;
     last = made.round;
-    goes_on = gone-both before now behind crew crew' crew'' (joined so_far.rounds) made.round so_far.goes_on made.goes_on;
+    goes_on = gone-both before now behind crew crew' crew'' (joined_lists so_far.rounds) made.round so_far.goes_on made.goes_on;
     with_work = so_far.with_work;
     without_work = by-grant crew crew' false made.round so_far.goes_on.grant (round-of now behind crew' crew'' false made);
   }
@@ -124,69 +118,25 @@ IsResting parts history number grant =
     || is_used_up (standing (opening (cube_of parts.images grant)).standing (view history number))) ≡ true
 
 -- so is a crew's
-abbrev pub RestsNow : MachineFacts → SerialCrew → Type 0
-RestsNow m crew = IsResting m.parts m.history crew.grant.number (cube_grant crew.grant)
-
--- a look at a cube that rests doesn't find it busy
-not-found : (quiet used : Bool) → (quiet || used) ≡ true → found_where quiet used ≡ Busy → ⊥
-not-found true used is e = cc
-not-found false true is e = cc
-not-found false false is e = cc
-
-look-is : (nodes : List ℕ) (standing : Standing) → answer nodes standing HOST looks ≡ Look (found_where (is_quiet nodes standing) (is_used_up standing))
-unfolding answer
-look-is nodes standing = refl
-
-abbrev found_in : What → Found
-found_in (Look found) = found
-found_in other = Quiet
-
-module _ (m : MachineFacts) (sound : IsLawfulMachine m) (cube : HeldCube) (holds : held_by (after m.history) cube.grant.user ≡ Some cube) (goes : cube.drained ≡ false) where
-  abbrev own : Cube
-  own = cube_of m.parts.images cube.grant
-
-  abbrev stands : Standing
-  stands = standing (opening own).standing (view m.history cube.number)
-
-  alone : IsAlone own (view m.history cube.number)
-  alone =
-      let all = projected m.parts m.history sound.within sound.lawful in
-      let was = all.held cube.grant.user cube holds in
-      found_alone m.parts m.history cube.number all (Some (cube.grant, was.behind)) was.found
-
-  look-made : (entry : Entry) → IsMadeBy m.parts m.history cube.grant HOST looks entry
-      → entry.what ≡ Look (found_where (is_quiet (node_numbers cube.grant.dim) stands) (is_used_up stands))
-  look-made entry made =
-      let now = seen m.parts m.history cube sound.within sound.lawful holds goes in
-      sym (answer-made m.parts m.history cube HOST looks entry holds made)
-      ∙ answer-outward m.parts.dim cube.grant now.placed (standing_of (after m.history) cube) stands now.standing HOST looks (inr refl) tt
-      ∙ ap (what_outward cube.grant) (look-is (node_numbers cube.grant.dim) stands)
+abbrev pub IsCrewResting : MachineFacts → SerialCrew → Type 0
+IsCrewResting m crew = IsResting m.parts m.history crew.grant.number (cube_grant crew.grant)
 
 module _ (m : MachineFacts) (sound : IsLawfulMachine m) (number : ℕ) (grant : CubeGrant) (held : IsHeldAs m.history number grant) where
-  pub placed-of : IsPlaced m.parts.dim grant
-  placed-of =
-      by_cube (λ number grant. IsPlaced m.parts.dim grant) m.history number grant
-      (λ cube holds goes. (seen m.parts m.history cube sound.within sound.lawful holds goes).placed) held
-
   -- behind a round without work
-  pub rests-behind : (before round : List Entry) → view m.history number ≡ before ++ round → IsRoundWithoutWork serial grant.dim round
+  pub rests-behind : (kind : RoundKind) (before round : List Entry) → view m.history number ≡ before ++ round → IsRoundWithoutWork kind grant.dim round
       → IsResting m.parts m.history number grant
-  rests-behind before round same quiet =
-      by_cube
-      (λ number grant. view m.history number ≡ before ++ round → IsRoundWithoutWork serial grant.dim round → IsResting m.parts m.history number grant)
-      m.history number grant
-      (λ cube holds goes same quiet.
-      let now = seen m.parts m.history cube sound.within sound.lawful holds goes in
-      let cube_is = cube_of m.parts.images cube.grant in
-      rounds-rest cube_is (opening cube_is) (view m.history cube.number) now.of (fresh_sound cube_is now.of)
-      (alone m sound cube holds goes) before round same quiet) held same quiet
+  rests-behind kind before round same quiet =
+      by_seen
+      (λ number grant. view m.history number ≡ before ++ round → IsRoundWithoutWork kind grant.dim round → IsResting m.parts m.history number grant)
+      m.parts m.history number grant sound.within sound.lawful
+      (λ cube now same quiet. at-rest m.parts m.history cube now kind before round same quiet) held same quiet
 
   -- a look finds that it rests
   pub found-resting : (entry : Entry) → IsMadeBy m.parts m.history grant HOST looks entry → IsResting m.parts m.history number grant → entry.what ≡ Look Busy → ⊥
   found-resting entry made rests busy =
-      by_cube (λ number grant. IsMadeBy m.parts m.history grant HOST looks entry → IsResting m.parts m.history number grant → ⊥) m.history number grant
-      (λ cube holds goes made rests.
-      not-found _ _ rests (ap found_in (sym (look-made m sound cube holds goes entry made) ∙ busy))) held made rests
+      by_seen (λ number grant. IsMadeBy m.parts m.history grant HOST looks entry → IsResting m.parts m.history number grant → ⊥)
+      m.parts m.history number grant sound.within sound.lawful
+      (λ cube now made rests. found-at-rest m.parts m.history cube now entry made rests busy) held made rests
 
 -- ---- a look for a message that finds none leaves it so
 
@@ -197,13 +147,13 @@ module _ (o : Standing) (t : List Entry) (user : ℕ) where
   node-kept : (r : ℕ) → (HOST == r) ≡ false → is_quiet_node ((standing o (t ++ no_message ∷ [])).node_record r) ≡ is_quiet_node ((standing o t).node_record r)
   node-kept r other =
       let marks : mark o r (t ++ no_message ∷ []) ≡ mark o r t = mark-more o r t no_message ∙ rw other refl in
-      let waits : waiting o r (t ++ no_message ∷ []) ≡ waiting o r t = waiting-stays o r t no_message (rw other refl) ∙ append-nil (waiting o r t) in
+      let waits : waiting_items o r (t ++ no_message ∷ []) ≡ waiting_items o r t = waiting-stays o r t no_message (rw other refl) ∙ append-nil (waiting_items o r t) in
       ap₂ (λ (mark : Mark) (items : List Item). mark.idle && not (list_any (is_eligible mark.asking mark.dead) items)) marks waits
 
   used-kept : is_used_up (standing o (t ++ no_message ∷ [])) ≡ is_used_up (standing o t)
   used-kept = ap₂ (λ (a b : ℕ). a == b) (dispatched-more o t no_message) (armed-more o t no_message)
 
-  left-kept : armed o (t ++ no_message ∷ []) - dispatched o (t ++ no_message ∷ []) ≡ armed o t - dispatched o t
+  left-kept : allowed_dispatches o (t ++ no_message ∷ []) - made_dispatches o (t ++ no_message ∷ []) ≡ allowed_dispatches o t - made_dispatches o t
   left-kept = ap₂ (λ (a b : ℕ). a - b) (armed-more o t no_message) (dispatched-more o t no_message)
 
   quiet-kept : (dim : ℕ) → 2 ^ dim ≤ 64 → is_quiet (node_numbers dim) (standing o (t ++ no_message ∷ [])) ≡ is_quiet (node_numbers dim) (standing o t)
@@ -229,14 +179,14 @@ module _ (before behind : MachineFacts) (crew crew' : SerialCrew) (sound : IsLaw
   t = view before.history crew.grant.number
 
   placed : IsPlaced before.parts.dim grant
-  placed = placed-of before sound crew.grant.number grant step.held
+  placed = placed-of before.parts before.history crew.grant.number grant sound.within sound.lawful step.held
 
   trace : view behind.history crew.grant.number ≡ t ++ host_take crew.grant.user None ∷ []
   trace =
       none.trace ∙ ap (λ (entry : Entry). t ++ entry ∷ [])
       (λ i. record { user = crew.grant.user; actor = relative_host before.parts.dim grant placed i; what = HostTake None })
 
-  pub rests-on : RestsNow before crew → RestsNow behind crew'
+  pub rests-on : IsCrewResting before crew → IsCrewResting behind crew'
   rests-on rests =
       subst (λ (g : Grant). IsResting behind.parts behind.history g.number (cube_grant g)) (sym none.grant)
       (subst (λ (p : MachineParts). IsResting p behind.history crew.grant.number grant) (sym none.parts)
@@ -247,4 +197,4 @@ module _ (before behind : MachineFacts) (crew crew' : SerialCrew) (sound : IsLaw
   left-on =
       subst (λ (g : Grant). dispatches_left behind.parts behind.history g.number (cube_grant g) ≡ left_to before crew) (sym none.grant)
       (subst (λ (p : MachineParts). dispatches_left p behind.history crew.grant.number grant ≡ left_to before crew) (sym none.parts)
-      (ap (λ t. armed o t - dispatched o t) trace ∙ left-kept o t crew.grant.user))
+      (ap (λ t. allowed_dispatches o t - made_dispatches o t) trace ∙ left-kept o t crew.grant.user))

@@ -8,7 +8,7 @@ use Rattle.ce_model.specs.declared.entry.What.TheVariants.{Getcube as GetcubeMad
 use Rattle.ce_model.specs.Limits.{greatest_dim}
 use Rattle.ce_model.specs.Subcubes.{first_free}
 use Rattle.ce_model.specs.Views.{view}
-use Rattle.ce_model.specs.Machine.{MachineState, after, held_by, is_free, getcube, answered, IsFitting}
+use Rattle.ce_model.specs.Machine.{MachineState, after, held_by, is_free, getcube, what_of_request, IsFitting}
 use Rattle.ce_solo.proofs.Projection.Law.{after-more}
 use Rattle.ce_daemon.specs.declared.grant.Grant.{Grant}
 use Rattle.ce_daemon.specs.Boxes.{AreBoxesOf}
@@ -64,7 +64,7 @@ module _ (before : MachineFacts) (user dim : ℕ) (has : HasUser before user) (f
       history-is : behind.history ≡ before.history ++ made ∷ []
       history-is = asks.history ∙ ap (λ what. before.history ++ by_host user what ∷ []) (sym what)
 
-      answer-is : answered before.parts state user HOST (getcube dim) ≡ Some (GetcubeMade dim sub)
+      answer-is : what_of_request before.parts state user HOST (getcube dim) ≡ Some (GetcubeMade dim sub)
       answer-is = asks.answer ∙ ap Some (sym what)
 
       done-so : (answer : Answer) (seat : Seat) → getcube_reply sub ≡ answer → IsSeatAt before.parts behind.history user seat

@@ -7,8 +7,8 @@ use Rattle.ce_model.specs.declared.topology.TheConstants.{HOST}
 use Rattle.ce_model.specs.declared.topology.BlockId.{BlockId}
 use Rattle.ce_model.specs.declared.entry.Entry.{Entry}
 use Rattle.ce_model.specs.declared.entry.What.TheVariants.{Arm, Look, HostTake}
-use Rattle.ce_model.specs.declared.entry.Found.{Found}
-use Rattle.ce_model.specs.declared.entry.Found.TheVariants as found
+use Rattle.ce_model.specs.declared.entry.LookResult.{LookResult}
+use Rattle.ce_model.specs.declared.entry.LookResult.TheVariants as found
 use Rattle.ce_model.specs.Limits.{greatest_count, greatest_blocks}
 use Rattle.ce_model.specs.Blocks.{Block, put, precedes, is_same_id}
 use Rattle.ce_model.specs.Parcels.{Item}
@@ -37,7 +37,7 @@ use Rattle.ce_cube.proofs.Hosts.{hosts-take}
 use Rattle.ce_script.specs.Commands.{by_host, host_take}
 use Rattle.ce_run.specs.Asking.{home_of, IsHostCall, HasCalled}
 use Rattle.ce_run.specs.Rounds.{HasAllowed, HasLooked, HasTaken, HasTakenNone}
-use Rattle.ce_run.proofs.Seating.{KeepsStore, answer-is, gone-on, gone-on-kept, may-allow, may-look, may-take}
+use Rattle.ce_run.proofs.Seating.{IsKeepingStore, answer-is, gone-on, gone-on-kept, may-allow, may-look, may-take}
 
 -- ---- with another host
 
@@ -76,20 +76,20 @@ length-put id (x ∷ xs) = elim (cases_Bool (precedes id x)) [
 
 -- ---- what replies say
 
-same-found : (a b : Found) → found_reply {N = Box} a ≡ found_reply b → a ≡ b
+same-found : (a b : LookResult) → found_reply {N = Box} a ≡ found_reply b → a ≡ b
 same-found a b e = sym (back a) ∙ ap found_in e ∙ back b
   where
-    found_in : Reply Box → Found
+    found_in : Reply Box → LookResult
     found_in replies.Quiet = found.Quiet
     found_in replies.Spent = found.Spent
     found_in other = found.Busy
 
-    back : (a : Found) → found_in (found_reply a) ≡ a
+    back : (a : LookResult) → found_in (found_reply a) ≡ a
     back found.Quiet = refl
     back found.Spent = refl
     back found.Busy = refl
 
-one-found : (found : Found) (reply : Reply Box) → reply ≡ found_reply found → (reply ≡ replies.Quiet → ⊥) → (reply ≡ replies.Spent → ⊥) → (reply ≡ replies.Busy → ⊥) → ⊥
+one-found : (found : LookResult) (reply : Reply Box) → reply ≡ found_reply found → (reply ≡ replies.Quiet → ⊥) → (reply ≡ replies.Spent → ⊥) → (reply ≡ replies.Busy → ⊥) → ⊥
 one-found found.Quiet reply is quiet spent busy = quiet is
 one-found found.Spent reply is quiet spent busy = spent is
 one-found found.Busy reply is quiet spent busy = busy is
@@ -108,12 +108,12 @@ module _ (before behind : MachineFacts) (crew crew' : SerialCrew) (machine : IsL
       let host = may-allow before.parts before.history crew machine.within machine.lawful step.held count within in
       let is : Arm count ≡ called.asked.what = answer-is before.parts (after before.history) crew.grant.user (arms count) called.asked.what step.held.cube step.held.held called.asked.answer in
       subst (λ what. HasGoneOn before behind crew crew' (by_host crew.grant.user what ∷ [])) (sym is)
-      (gone-on-kept before behind crew crew' (calls.Arm count) reply machine step.held host called step.host (subst KeepsStore is tt))
+      (gone-on-kept before behind crew crew' (calls.Arm count) reply machine step.held host called step.host (subst IsKeepingStore is tt))
 
   -- ---- it looks
 
   module _ (called : HasCalled before behind crew crew' calls.Look reply) where
-    abbrev found_now : Found
+    abbrev found_now : LookResult
     found_now =
         let standing = standing_of (after before.history) step.held.cube in
         found_where (is_quiet (nodes_of step.held.cube.grant) standing) (is_used_up standing)
@@ -131,11 +131,11 @@ module _ (before behind : MachineFacts) (crew crew' : SerialCrew) (machine : IsL
         let host = may-look before.parts before.history crew machine.within machine.lawful step.held in
         record {
           goes_on = subst (λ what. HasGoneOn before behind crew crew' (by_host crew.grant.user what ∷ [])) (sym look-is)
-              (gone-on-kept before behind crew crew' calls.Look reply machine step.held host called step.host (subst KeepsStore look-is tt));
+              (gone-on-kept before behind crew crew' calls.Look reply machine step.held host called step.host (subst IsKeepingStore look-is tt));
           made = record { user = refl; actor_is = refl; what = called.asked.answer ∙ ap Some (sym look-is) };
         }
 
-    pub looked : (found : Found) → reply ≡ found_reply found → HasLooked before behind crew crew' found
+    pub looked : (found : LookResult) → reply ≡ found_reply found → HasLooked before behind crew crew' found
     looked found is = subst (HasLooked before behind crew crew') (same-found found_now found (sym look-reply ∙ is)) looked-now
 
     pub look-ends : (reply ≡ replies.Quiet → ⊥) → (reply ≡ replies.Spent → ⊥) → (reply ≡ replies.Busy → ⊥) → ⊥
@@ -170,7 +170,7 @@ module _ (before behind : MachineFacts) (crew crew' : SerialCrew) (machine : IsL
         → HasTakenNone before behind crew crew'
     taken-none None what is none =
         subst (λ what. HasGoneOn before behind crew crew' (by_host crew.grant.user what ∷ [])) (sym what)
-        (gone-on-kept before behind crew crew' calls.HostTake reply machine step.held take_host called step.host (subst KeepsStore what tt))
+        (gone-on-kept before behind crew crew' calls.HostTake reply machine step.held take_host called step.host (subst IsKeepingStore what tt))
     taken-none (Some number) what is none = absurd (subst (IsMail number items) none is)
 
     pub no-message : reply ≡ replies.NoMail → HasTakenNone before behind crew crew'

@@ -4,8 +4,8 @@ use Rattle.ce_model.specs.declared.topology.TheConstants.{HOST}
 use Rattle.ce_model.specs.declared.entry.What.{What}
 use Rattle.ce_model.specs.declared.entry.What.TheVariants.{Peek as PeekMade}
 use Rattle.ce_model.specs.Machine.{after, peek}
-use Rattle.ce_daemon.specs.declared.grant.Peeked.{Peeked}
-use Rattle.ce_daemon.specs.Peeks.{peeked}
+use Rattle.ce_daemon.specs.declared.grant.PeekResult.{PeekResult}
+use Rattle.ce_daemon.specs.Peeks.{peek_result}
 use Rattle.rk_node.specs.Boxes.{Box, IsClean}
 use Rattle.ce_machine.specs.Meanings.{MachineFacts}
 use Rattle.ce_machine.specs.declared.call.Call.TheVariants as calls
@@ -31,7 +31,7 @@ pub peek-fits : (before : MachineFacts) (user : ℕ) → HasUser before user
 peek-fits before user has = record { machine = has.book.within; fits = (has.within, refl); boxes = tt }
 
 -- what a reply says was found
-abbrev found-or : Peeked → Reply Box → Peeked
+abbrev found-or : PeekResult → Reply Box → PeekResult
 found-or none (replies.Peeked found) = found
 found-or none other = none
 
@@ -39,14 +39,14 @@ module _ (before behind : MachineFacts) (user : ℕ) (has : HasUser before user)
   what-is : PeekMade ≡ asks.what
   what-is = same-what PeekMade asks.what asks.answer
 
-  pub peek-reply : reply ≡ replies.Peeked (peeked before.parts (after before.history))
+  pub peek-reply : reply ≡ replies.Peeked (peek_result before.parts (after before.history))
   peek-reply = subst (λ what. IsReplyTo home_of IsClean before.parts (after before.history) user HOST what reply) (sym what-is) asks.reply_is
 
-  pub peek-done : (found : Peeked) → reply ≡ replies.Peeked found → (seat : Seat) → IsSeatAt before.parts before.history user seat
+  pub peek-done : (found : PeekResult) → reply ≡ replies.Peeked found → (seat : Seat) → IsSeatAt before.parts before.history user seat
       → HasDone before behind user Peek (PeekFound found) seat
   peek-done found is seat seated =
       let history = asks.history ∙ ap (λ what. before.history ++ by_host user what ∷ []) (sym what-is) in
-      let same : peeked before.parts (after before.history) ≡ found = ap (found-or found) (sym peek-reply ∙ is) in
+      let same : peek_result before.parts (after before.history) ≡ found = ap (found-or found) (sym peek-reply ∙ is) in
       record {
         made = by_host user PeekMade ∷ [];
         parts = asks.parts;

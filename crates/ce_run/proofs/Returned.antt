@@ -16,7 +16,7 @@ use Rattle.ce_model.specs.Machine.{MachineState, IsMachine, IsLawful, HeldCube, 
 use Rattle.ce_solo.proofs.Projection.Law.{after-more}
 use Rattle.ce_solo.proofs.Projection.Held.{held-own, left-own}
 use Rattle.ce_daemon.specs.Boxes.{AreBoxesOf}
-use Rattle.ce_daemon.specs.Peeks.{numbered}
+use Rattle.ce_daemon.specs.Peeks.{numbered_grant}
 use Rattle.xm_block.specs.Stores.{ids_of}
 use Rattle.rk_node.specs.Boxes.{Box, IsClean}
 use Rattle.ce_host.specs.declared.host.Host.{Host}
@@ -32,14 +32,14 @@ use Rattle.ce_cube.specs.declared.crew.SerialCrew.{SerialCrew}
 use Rattle.ce_cube.specs.Boxes.{node_now, store_now}
 use Rattle.ce_cube.specs.Crews.{IsLawfulMachine, IsCrewInStep, HasAllBlocks, AreAllHome, cube_grant, box_at}
 use Rattle.ce_cube.specs.Rehoming.{AreAllBlocks, names_in}
-use Rattle.ce_cube.proofs.Held.{seen, by_cube}
+use Rattle.ce_cube.proofs.Held.{by_seen, placed-of}
 use Rattle.ce_cube.proofs.Seats.{node-said}
 use Rattle.ce_cube.proofs.Hosts.{drains-fit-held}
 use Rattle.ce_cube.proofs.Returns.{placed-sub}
 use Rattle.ce_cube.proofs.Whole.{blocks-are-whole}
 use Rattle.ce_script.specs.Rounds.{serial}
 use Rattle.ce_script.specs.Commands.{by_host}
-use Rattle.ce_record.specs.Laws.{given_back}
+use Rattle.ce_record.specs.Laws.{freecube_entries}
 use Rattle.ce_record.proofs.AtOnce.{freecube as freecube-next}
 use Rattle.ce_run.specs.declared.seat.Seat.TheVariants.{Free}
 use Rattle.ce_run.specs.Seats.{HasUser, HasDone}
@@ -94,15 +94,13 @@ module _ (before : MachineFacts) (crew : SerialCrew) (has : HasUser before crew.
 
   sub-of : IsSubcube greatest_dim grant.dim grant.sub
   sub-of =
-      by_cube (λ number grant. IsSubcube greatest_dim grant.dim grant.sub) before.history crew.grant.number grant
-      (λ cube holds goes. placed-sub before.parts.dim cube.grant (seen before.parts before.history cube has.book.within has.book.lawful holds goes).placed) step.held
+      placed-sub before.parts.dim grant (placed-of before.parts before.history crew.grant.number grant has.book.within has.book.lawful step.held)
 
   said-home : (r : ℕ) → r < 2 ^ grant.dim → (says (node_now before.parts before.history crew.grant.number grant r)).node.home ≡ r
   said-home r below =
-      by_cube (λ number grant. r < 2 ^ grant.dim → (says (node_now before.parts before.history number grant r)).node.home ≡ r) before.history crew.grant.number grant
-      (λ cube holds goes below.
-      let now = seen before.parts before.history cube has.book.within has.book.lawful holds goes in
-      (node-said before.parts before.history cube now r below).became.home ∙ (now.stands.sound.nodes r below).home) step.held below
+      by_seen (λ number grant. r < 2 ^ grant.dim → (says (node_now before.parts before.history number grant r)).node.home ≡ r)
+      before.parts before.history crew.grant.number grant has.book.within has.book.lawful
+      (λ cube now below. (node-said before.parts before.history cube now r below).became.home ∙ (now.stands.sound.nodes r below).home) step.held below
 
   module _ (behind : MachineFacts) (drained : List Block) (is : HasDrained before behind crew.grant.user drained) where
     abbrev waiting : List Parcel
@@ -158,15 +156,15 @@ module _ (before : MachineFacts) (crew : SerialCrew) (has : HasUser before crew.
     }
 
     module _ (boxes : Vec Box) (host : Host) (home : AreAllHome grant boxes.items host) where
-      own-boxes : AreBoxesOf home_of IsClean (numbered (step.held.cube.number, step.held.cube.grant)) boxes.items
+      own-boxes : AreBoxesOf home_of IsClean (numbered_grant (step.held.cube.number, step.held.cube.grant)) boxes.items
       own-boxes =
-          subst (λ (g : CubeGrant). AreBoxesOf home_of IsClean (numbered (step.held.cube.number, g)) boxes.items) (sym step.held.grant_is) home.0
+          subst (λ (g : CubeGrant). AreBoxesOf home_of IsClean (numbered_grant (step.held.cube.number, g)) boxes.items) (sym step.held.grant_is) home.0
 
       pub freecube-fits : IsFittingCall home_of IsClean behind.parts behind.history (record { family = crew.grant.user; actor = HOST }) (calls.Freecube boxes)
       freecube-fits = record {
         machine = subst IsMachine (sym is.parts) has.book.within;
         fits = subst (λ parts. IsFitting parts behind.history crew.grant.user HOST freecube) (sym is.parts) free-fits;
-        boxes = subst (λ held. IsSomeAnd held (λ cube. AreBoxesOf home_of IsClean (numbered (cube.number, cube.grant)) boxes.items)) (sym drained-held) own-boxes;
+        boxes = subst (λ held. IsSomeAnd held (λ cube. AreBoxesOf home_of IsClean (numbered_grant (cube.number, cube.grant)) boxes.items)) (sym drained-held) own-boxes;
       }
 
       module _ (end : MachineFacts) (reply : Reply Box) (asks : HasAsked behind end crew.grant.user (calls.Freecube boxes) reply) where
@@ -179,7 +177,7 @@ module _ (before : MachineFacts) (crew : SerialCrew) (has : HasUser before crew.
         last-is : end.history ≡ behind.history ++ by_host crew.grant.user FreecubeMade ∷ []
         last-is = asks.history ∙ ap (λ what. behind.history ++ by_host crew.grant.user what ∷ []) (sym free-is)
 
-        both-are : end.history ≡ before.history ++ given_back crew.grant.user
+        both-are : end.history ≡ before.history ++ freecube_entries crew.grant.user
         both-are =
             last-is ∙ ap (λ h. h ++ by_host crew.grant.user FreecubeMade ∷ []) is.history
             ∙ append_assoc before.history (by_host crew.grant.user Drain ∷ []) (by_host crew.grant.user FreecubeMade ∷ [])
@@ -195,11 +193,10 @@ module _ (before : MachineFacts) (crew : SerialCrew) (has : HasUser before crew.
 
         pub freed-done : HasDone before end crew.grant.user Freecube Freed (Free host)
         freed-done = record {
-          made = given_back crew.grant.user;
+          made = freecube_entries crew.grant.user;
           parts = asks.parts ∙ is.parts;
           history = both-are;
           lawful = lawful-end;
-          next = freecube-next serial before.parts before.history crew.grant.user step.held.cube step.held.held has.book.within
-              (subst (IsLawful before.parts) both-are lawful-end);
+          next = freecube-next serial before.parts before.history crew.grant.user step.held.cube step.held.held;
           seated = (none-left, home.1);
         }

@@ -6,14 +6,15 @@ use Rattle.ce_model.specs.declared.topology.BlockId.{BlockId}
 use Rattle.ce_model.specs.declared.entry.Entry.{Entry}
 use Rattle.ce_model.specs.declared.entry.What.{What}
 use Rattle.ce_model.specs.declared.entry.What.TheVariants.{Peek as PeekMade, HostTake, Send, Spawn as SpawnMade, Kill as KillMade}
-use Rattle.ce_model.specs.Node.{Call, takes, sends, spawns, kills, notes, arms, looks, takes_mail}
+use Rattle.ce_model.specs.Node.{Call, spawns, kills, arms, looks, takes_mail}
 use Rattle.ce_model.specs.Parcels.{Item}
-use Rattle.ce_model.specs.Trace.{Standing, waiting}
+use Rattle.ce_model.specs.Trace.{Standing, waiting_items}
 use Rattle.ce_model.specs.Answers.{answer, call_of}
 use Rattle.ce_model.specs.Cube.{opening, state, stored_by, hoststore}
 use Rattle.ce_model.specs.Renaming.{CubeGrant, block_outward, what_renamed, entry_inward}
 use Rattle.ce_model.specs.Views.{view}
-use Rattle.ce_model.specs.Machine.{MachineParts, IsMachine, IsLawful, IsLawfulEntry, HeldCube, MachineState, after, held_by, nodes_of, standing_of, with_places_outward, peek, in_cube, answered, cube_of}
+use Rattle.ce_model.specs.Machine.{MachineParts, IsMachine, IsLawful, IsLawfulEntry, HeldCube, MachineState, after, held_by, nodes_of, standing_of, with_places_outward, peek, in_cube, what_of_request, cube_of}
+use Rattle.ce_model.proofs.AloneByEntries.{call_of-answer}
 use Rattle.ce_model.proofs.OneMore.{hoststore-more}
 use Rattle.ce_solo.proofs.Projection.Law.{after-more}
 use Rattle.rk_node.specs.Boxes.{Box}
@@ -23,8 +24,8 @@ use Rattle.ce_machine.specs.declared.call.Reply.{Reply}
 use Rattle.ce_machine.specs.declared.call.Reply.TheVariants as replies
 use Rattle.ce_machine.specs.Replies.{IsHeard, OfHeldCube, items_for, IsReplyTo}
 use Rattle.rk_node.specs.Boxes.{IsClean}
-use Rattle.rk_mail.specs.declared.talk.Heard.{Heard}
-use Rattle.rk_mail.specs.declared.talk.Heard.TheVariants.{Spawned, Used as HeardUsed}
+use Rattle.rk_mail.specs.declared.talk.Hearing.{Hearing}
+use Rattle.rk_mail.specs.declared.talk.Hearing.TheVariants.{Spawned, Used as HeardUsed}
 use Rattle.rk_mail.specs.Talk.{IsHeardIn, heard_of_kill}
 use Rattle.ce_model.specs.declared.entry.KillFound.{KillFound}
 use Rattle.ce_model.specs.declared.entry.KillFound.TheVariants as found
@@ -123,29 +124,21 @@ some-same a b e = cc
 
 -- what a call of a cube that is held is answered
 pub answer-is : (parts : MachineParts) (state : MachineState) (user : ℕ) (call : Call) (what : What) (cube : HeldCube) → held_by state user ≡ Some cube
-    → answered parts state user HOST (in_cube call) ≡ Some what
+    → what_of_request parts state user HOST (in_cube call) ≡ Some what
     → answer (nodes_of cube.grant) (standing_of state cube) HOST (with_places_outward cube.grant call) ≡ what
 answer-is parts state user call what cube held e =
     some-same _ _ (sym (ap (option_map (λ (cube : HeldCube). answer (nodes_of cube.grant) (standing_of state cube) HOST (with_places_outward cube.grant call))) held) ∙ e)
 
 pub answers-call : (nodes : List ℕ) (standing : Standing) (actor : ℕ) (call : Call) → is_some (call_of (answer nodes standing actor call)) ≡ true
-unfolding answer
-answers-call nodes standing actor (takes asking dead poller) = refl
-answers-call nodes standing actor (sends pid to bytes) = refl
-answers-call nodes standing actor (spawns pid image to) = refl
-answers-call nodes standing actor (kills pid to) = refl
-answers-call nodes standing actor (notes pid word) = refl
-answers-call nodes standing actor (arms count) = refl
-answers-call nodes standing actor looks = refl
-answers-call nodes standing actor takes_mail = refl
+answers-call nodes standing actor call = ap is_some (call_of-answer nodes standing actor call)
 
 -- the entry leaves the host's store
-abbrev pub KeepsStore : What → Type 0
-KeepsStore (Send pid first to bytes) = ⊥
-KeepsStore (HostTake (Some number)) = ⊥
-KeepsStore other = Unit {0}
+abbrev pub IsKeepingStore : What → Type 0
+IsKeepingStore (Send pid first to bytes) = ⊥
+IsKeepingStore (HostTake (Some number)) = ⊥
+IsKeepingStore other = Unit {0}
 
-kept-store : (place : Place → Place) (block : BlockId → BlockId) (items : List Item) (store : List BlockId) (what : What) → KeepsStore what
+kept-store : (place : Place → Place) (block : BlockId → BlockId) (items : List Item) (store : List BlockId) (what : What) → IsKeepingStore what
     → stored_by items store (what_renamed place block what) ≡ store
 kept-store place block items store (Send pid first to bytes) keeps = absurd keeps
 kept-store place block items store (SpawnMade pid image to fresh) keeps = refl
@@ -164,21 +157,21 @@ module _ (before behind : MachineFacts) (crew crew' : SerialCrew) (call : Asking
   abbrev grant : CubeGrant
   grant = cube_grant crew.grant
 
-  pub asked-inner : answered before.parts (after before.history) crew.grant.user HOST (in_cube host.inner) ≡ Some called.asked.what
-  asked-inner = ap (answered before.parts (after before.history) crew.grant.user HOST) (sym host.is) ∙ called.asked.answer
+  pub asked-inner : what_of_request before.parts (after before.history) crew.grant.user HOST (in_cube host.inner) ≡ Some called.asked.what
+  asked-inner = ap (what_of_request before.parts (after before.history) crew.grant.user HOST) (sym host.is) ∙ called.asked.answer
 
   pub what-is : answer (nodes_of held.cube.grant) (standing_of (after before.history) held.cube) HOST (with_places_outward held.cube.grant host.inner) ≡ called.asked.what
   what-is = answer-is before.parts (after before.history) crew.grant.user host.inner called.asked.what held.cube held.held asked-inner
 
-  store-kept : KeepsStore called.asked.what
+  store-kept : IsKeepingStore called.asked.what
       → store_now before.parts behind.history crew.grant.number grant ≡ store_now before.parts before.history crew.grant.number grant
   store-kept keeps =
       let o = opening (cube_of before.parts.images grant) in
       let t = view before.history crew.grant.number in
       let made = entry_inward crew.grant.sub (by_host crew.grant.user called.asked.what) in
       ap (hoststore o) called.trace ∙ hoststore-more o t made
-      ∙ either-store (made.actor == HOST) (hoststore o t) (stored_by (waiting o.standing HOST t) (hoststore o t) made.what)
-      (kept-store _ _ (waiting o.standing HOST t) (hoststore o t) called.asked.what keeps)
+      ∙ either-store (made.actor == HOST) (hoststore o t) (stored_by (waiting_items o.standing HOST t) (hoststore o t) made.what)
+      (kept-store _ _ (waiting_items o.standing HOST t) (hoststore o t) called.asked.what keeps)
 
   pub gone-on : IsHostInStep before.parts behind.history crew.grant crew'.host → HasGoneOn before behind crew crew' (by_host crew.grant.user called.asked.what ∷ [])
   gone-on stands =
@@ -200,7 +193,7 @@ module _ (before behind : MachineFacts) (crew crew' : SerialCrew) (call : Asking
       }
 
   -- the host stands as it did where its store stays
-  pub gone-on-kept : IsHostInStep before.parts before.history crew.grant crew.host → KeepsStore called.asked.what
+  pub gone-on-kept : IsHostInStep before.parts before.history crew.grant crew.host → IsKeepingStore called.asked.what
       → HasGoneOn before behind crew crew' (by_host crew.grant.user called.asked.what ∷ [])
   gone-on-kept stands keeps =
       gone-on (subst (λ host. IsHostInStep before.parts behind.history crew.grant host) (sym (ap (λ (c : SerialCrew). c.host) called.crew_is)) (record {
@@ -235,14 +228,14 @@ told-answer nodes standing own (spawns pid image to) is = tt
 told-answer nodes standing own (kills pid to) is = tt
 told-answer nodes standing own other is = absurd is
 
-told-keeps : (what : What) → IsToldOf what → KeepsStore what
+told-keeps : (what : What) → IsToldOf what → IsKeepingStore what
 told-keeps (SpawnMade pid image to fresh) is = tt
 told-keeps (KillMade pid to found) is = tt
 told-keeps other is = absurd is
 
 -- the reply to such an entry is what was heard
 abbrev HasHeard : List Item → What → Reply Box → Type 0
-HasHeard items what reply = (heard : Heard) × (reply ≡ replies.Heard heard) × IsHeardIn items what heard
+HasHeard items what reply = (heard : Hearing) × (reply ≡ replies.Heard heard) × IsHeardIn items what heard
 
 heard-parts : (items : List Item) (what : What) (reply : Reply Box) → IsHeard items what reply → HasHeard items what reply
 heard-parts items what (replies.Heard heard) is = (heard, refl, is)
@@ -254,30 +247,30 @@ told-reply parts state user actor (SpawnMade pid image to fresh) reply of is = i
 told-reply parts state user actor (KillMade pid to found) reply of is = is
 told-reply parts state user actor other reply of is = absurd of
 
-spawned-some : (fresh : Bool) (heard : Heard) → heard ≡ (if fresh then Spawned else HeardUsed) → IsTrue (is_some (heard_reply heard))
+spawned-some : (fresh : Bool) (heard : Hearing) → heard ≡ (if fresh then Spawned else HeardUsed) → IsTrue (is_some (heard_reply heard))
 spawned-some true heard e = ap (λ h. is_some (heard_reply h)) e
 spawned-some false heard e = ap (λ h. is_some (heard_reply h)) e
 
-killed-some : (found : KillFound) (heard : Heard) → heard ≡ heard_of_kill found → IsTrue (is_some (heard_reply heard))
+killed-some : (found : KillFound) (heard : Hearing) → heard ≡ heard_of_kill found → IsTrue (is_some (heard_reply heard))
 killed-some found.Killed heard e = ap (λ h. is_some (heard_reply h)) e
 killed-some found.Unused heard e = ap (λ h. is_some (heard_reply h)) e
 killed-some found.Already heard e = ap (λ h. is_some (heard_reply h)) e
 
-pub told-some : (items : List Item) (what : What) (heard : Heard) → IsToldOf what → IsHeardIn items what heard → IsTrue (is_some (heard_reply heard))
+pub told-some : (items : List Item) (what : What) (heard : Hearing) → IsToldOf what → IsHeardIn items what heard → IsTrue (is_some (heard_reply heard))
 told-some items (SpawnMade pid image to fresh) heard of is = spawned-some fresh heard is
 told-some items (KillMade pid to found) heard of is = killed-some found heard is
 told-some items other heard of is = absurd of
 
-spawned-reply : (fresh : Bool) (heard : Heard) → heard ≡ (if fresh then Spawned else HeardUsed) → Some (if fresh then Done else Used) ≡ heard_reply heard
+spawned-reply : (fresh : Bool) (heard : Hearing) → heard ≡ (if fresh then Spawned else HeardUsed) → Some (if fresh then Done else Used) ≡ heard_reply heard
 spawned-reply true heard e = ap heard_reply (sym e)
 spawned-reply false heard e = ap heard_reply (sym e)
 
-killed-reply : (found : KillFound) (heard : Heard) → heard ≡ heard_of_kill found → Some (kill_reply found) ≡ heard_reply heard
+killed-reply : (found : KillFound) (heard : Hearing) → heard ≡ heard_of_kill found → Some (kill_reply found) ≡ heard_reply heard
 killed-reply found.Killed heard e = ap heard_reply (sym e)
 killed-reply found.Unused heard e = ap heard_reply (sym e)
 killed-reply found.Already heard e = ap heard_reply (sym e)
 
-told-replies : (parts : MachineParts) (state : MachineState) (items : List Item) (what : What) (heard : Heard) → IsToldOf what → IsHeardIn items what heard
+told-replies : (parts : MachineParts) (state : MachineState) (items : List Item) (what : What) (heard : Hearing) → IsToldOf what → IsHeardIn items what heard
     → reply_by parts state what ≡ heard_reply heard
 told-replies parts state items (SpawnMade pid image to fresh) heard of is = spawned-reply fresh heard is
 told-replies parts state items (KillMade pid to found) heard of is = killed-reply found heard is
@@ -300,7 +293,7 @@ module _ (before behind : MachineFacts) (crew crew' : SerialCrew) (call : Asking
       (subst (λ held. IsSomeAnd held (λ cube. IsHeard (items_for (after before.history) cube HOST) called.asked.what reply)) step.held.held
       (told-reply before.parts (after before.history) crew.grant.user HOST called.asked.what reply (what-told of) called.asked.reply_is))
 
-  pub told-done : (heard : Heard) (answer : Answer) → IsStartOrEnd host.inner → IsHeardIn items called.asked.what heard → heard_reply heard ≡ Some answer
+  pub told-done : (heard : Hearing) (answer : Answer) → IsStartOrEnd host.inner → IsHeardIn items called.asked.what heard → heard_reply heard ≡ Some answer
       → (command : Command) (id : BlockId) → request_of id command ≡ Some (in_cube host.inner) → HasDone before behind crew.grant.user command answer (Holding crew')
   told-done heard answer of is told command id request =
       done-by before behind crew crew' (by_host crew.grant.user called.asked.what ∷ []) command answer
@@ -310,7 +303,7 @@ module _ (before behind : MachineFacts) (crew crew' : SerialCrew) (call : Asking
       (told-replies before.parts (after before.history) items called.asked.what heard (what-told of) is ∙ told))
 
 -- what a reply has that was heard
-abbrev heard-or : Heard → Reply Box → Heard
+abbrev heard-or : Hearing → Reply Box → Hearing
 heard-or none (replies.Heard heard) = heard
 heard-or none other = none
 
@@ -320,13 +313,13 @@ inner-same a b e = cc
 module _ (before behind : MachineFacts) (crew crew' : SerialCrew) (call : Asking Box) (reply : Reply Box) (machine : IsLawfulMachine before)
     (step : IsCrewInStep before.parts before.history crew)
     (host : IsHostCall before.parts before.history crew.grant.user call) (called : HasCalled before behind crew crew' call reply) where
-  pub heard-as : (heard : Heard) → reply ≡ replies.Heard heard → IsStartOrEnd host.inner
+  pub heard-as : (heard : Hearing) → reply ≡ replies.Heard heard → IsStartOrEnd host.inner
       → IsHeardIn (items_for (after before.history) step.held.cube HOST) called.asked.what heard
   heard-as heard is of =
       let told = heard-told before behind crew crew' call reply machine step host called of in
       subst (IsHeardIn (items_for (after before.history) step.held.cube HOST) called.asked.what) (ap (heard-or heard) (sym told.1 ∙ is)) told.2
 
-  pub reply-some : (heard : Heard) → reply ≡ replies.Heard heard → IsStartOrEnd host.inner → IsTrue (is_some (heard_reply heard))
+  pub reply-some : (heard : Hearing) → reply ≡ replies.Heard heard → IsStartOrEnd host.inner → IsTrue (is_some (heard_reply heard))
   reply-some heard is of =
       told-some (items_for (after before.history) step.held.cube HOST) called.asked.what heard
       (what-told before behind crew crew' call reply machine step host called of) (heard-as heard is of)

@@ -14,11 +14,11 @@ use Rattle.ce_model.specs.Node.{Call, sends, is_place}
 use Rattle.ce_model.specs.Answers.{answer}
 use Rattle.ce_model.specs.Cube.{send_bytes}
 use Rattle.ce_model.specs.Renaming.{CubeGrant, block_outward, place_outward}
-use Rattle.ce_model.specs.Machine.{IsFitting, after, answered, standing_of, in_cube}
+use Rattle.ce_model.specs.Machine.{IsFitting, after, what_of_request, standing_of, in_cube}
 use Rattle.xm_block.specs.Stores.{ids_of}
 use Rattle.rk_mail.specs.Targets.{targets_of, bytes_of, with_bytes}
-use Rattle.rk_mail.specs.declared.talk.Heard.{Heard}
-use Rattle.rk_mail.specs.declared.talk.Heard.TheVariants.{Posted}
+use Rattle.rk_mail.specs.declared.talk.Hearing.{Hearing}
+use Rattle.rk_mail.specs.declared.talk.Hearing.TheVariants.{Posted}
 use Rattle.rk_mail.specs.declared.talk.Say.TheVariants as say
 use Rattle.rk_node.specs.Boxes.{Box, IsClean}
 use Rattle.ce_host.specs.declared.host.Host.{Host}
@@ -38,6 +38,7 @@ use Rattle.ce_script.specs.Rounds.{serial}
 use Rattle.ce_script.specs.Commands.{by_host}
 use Rattle.ce_record.specs.Asked.{reply_by}
 use Rattle.ce_record.specs.Run.{IsNextCommand}
+use Rattle.ce_record.proofs.Moments.{map-none}
 use Rattle.ce_record.proofs.Asked.{asked}
 use Rattle.ce_record.proofs.AtOnce.{no_store}
 use Rattle.ce_run.specs.declared.seat.Seat.TheVariants.{Holding}
@@ -47,15 +48,9 @@ use Rattle.ce_run.proofs.Seating.{answer-is, done-at-once, done-by}
 use Rattle.ce_run.proofs.Looking.{gone-on-with}
 
 -- what a reply has that was heard
-abbrev heard-or : Heard → Reply Box → Heard
+abbrev heard-or : Hearing → Reply Box → Hearing
 heard-or none (replies.Heard heard) = heard
 heard-or none other = none
-
--- ---- lists
-
-map-none : {X Y : Type 0} (f : X → Y) (xs : List X) → map f xs ≡ [] → xs ≡ []
-map-none f [] e = refl
-map-none f (x ∷ xs) e = absurd (cc)
 
 -- the least block of a store goes out with the bytes
 record IsMessage (to : Place) (bytes : List ℕ) (blocks : List Block) (batch : List (Place × Block)) : Type 0 where
@@ -158,8 +153,8 @@ module _ (before : MachineFacts) (crew : SerialCrew) (machine : IsLawfulMachine 
 
     module _ (behind : MachineFacts) (host : Host) (crew' : SerialCrew) (reply : Reply Box)
         (called : HasCalled before behind (record crew { host = host }) crew' (calls.Say (say.Send 0 batch)) reply) where
-      answered-so : answered before.parts (after before.history) crew.grant.user HOST (in_cube call) ≡ Some called.asked.what
-      answered-so = ap (λ call. answered before.parts (after before.history) crew.grant.user HOST (in_cube call)) (sym call-is) ∙ called.asked.answer
+      answered-so : what_of_request before.parts (after before.history) crew.grant.user HOST (in_cube call) ≡ Some called.asked.what
+      answered-so = ap (λ call. what_of_request before.parts (after before.history) crew.grant.user HOST (in_cube call)) (sym call-is) ∙ called.asked.answer
 
       abbrev sent : What
       sent = SendMade 0 (standing_of (after before.history) step.held.cube).parcel_count ((place_outward step.held.cube.grant.sub to, goes.block.id) ∷ []) bytes
@@ -184,7 +179,7 @@ module _ (before : MachineFacts) (crew : SerialCrew) (machine : IsLawfulMachine 
       send-reply = reply-by reply heard-sent
 
       -- its batch comes back empty
-      pub heard-posted : (heard : Heard) → reply ≡ replies.Heard heard → heard ≡ Posted []
+      pub heard-posted : (heard : Hearing) → reply ≡ replies.Heard heard → heard ≡ Posted []
       heard-posted heard e = ap (heard-or heard) (sym e ∙ send-reply)
 
       module _ (rest : host.store.blocks ≡ drop 1 crew.host.store.blocks) (room : host.store.spare ≡ crew.host.store.spare + 1)
@@ -202,7 +197,7 @@ module _ (before : MachineFacts) (crew : SerialCrew) (machine : IsLawfulMachine 
             (record {
               user = refl;
               actor_is = refl;
-              what = ap (λ call. answered before.parts (after before.history) crew.grant.user HOST (in_cube call)) call-outward ∙ answered-so ∙ ap Some (sym sent-is);
+              what = ap (λ call. what_of_request before.parts (after before.history) crew.grant.user HOST (in_cube call)) call-outward ∙ answered-so ∙ ap Some (sym sent-is);
             })
             ∙ ap (drop 1) first.store_is
 

@@ -8,7 +8,7 @@ use Rattle.ce_model.specs.declared.entry.What.TheVariants.{Drain}
 use Rattle.ce_model.specs.Node as model
 use Rattle.ce_model.specs.Renaming.{entry_inward}
 use Rattle.ce_model.specs.Views.{view}
-use Rattle.ce_model.specs.Machine.{MachineParts, IsLawful, HasHeldCube, after, all_parcels, answered, in_cube, IsFitting}
+use Rattle.ce_model.specs.Machine.{MachineParts, IsLawful, HasHeldCube, after, all_parcels, what_of_request, in_cube, IsFitting}
 use Rattle.rk_node.specs.Boxes.{Box, IsClean}
 use Rattle.ce_machine.specs.Meanings.{MachineFacts}
 use Rattle.ce_machine.specs.declared.call.Call.{Call}
@@ -31,7 +31,7 @@ pub record HasAsked (before behind : MachineFacts) (user : ℕ) (call : Call Box
   pub history : behind.history ≡ before.history ++ by_host user what ∷ []
   pub lawful : IsLawful before.parts behind.history
   pub few : length behind.history < 2 ^ 63
-  pub answer : answered before.parts (after before.history) user HOST (request_of call) ≡ Some what
+  pub answer : what_of_request before.parts (after before.history) user HOST (request_of call) ≡ Some what
   pub reply_is : IsReplyTo home_of IsClean before.parts (after before.history) user HOST what reply
 
 -- ---- calls of a cube

@@ -19,7 +19,7 @@ use Rattle.ce_script.specs.Texts.{report, summary}
 use Rattle.ce_script.specs.declared.record.Record.{Record}
 use Rattle.ce_script.specs.declared.script.Script.{Script}
 use Rattle.ce_script.specs.declared.script.ScriptFault.{ScriptFault}
-use Rattle.ce_run.specs.declared.ended.Ended.{Ended}
+use Rattle.ce_run.specs.declared.ended.RunEnd.{RunEnd}
 use Rattle.ce_run.specs.declared.ended.Fault.{Fault}
 use Rattle.ce_run.specs.declared.ended.Fault.TheVariants.{TooLong, Script as Refused, Usage, Read, Write}
 use Rattle.ce_run.specs.declared.program.TheConstants.{SCRIPT_LIMIT}
@@ -28,7 +28,7 @@ use Rattle.ce_run.specs.Fault.{line_of}
 
 -- How a run ended: the status of each fault, the cause of each fault but Memory, which is free, what was read, and what was
 -- written. It holds of a source and a sink that tell nothing, too.
-pub record HasEnded {S K : Type 0} (words : List (List ℕ)) (source : Reading S) (sink : Writing K) (end : Ended) : Type 0 where
+pub record HasEnded {S K : Type 0} (words : List (List ℕ)) (source : Reading S) (sink : Writing K) (end : RunEnd) : Type 0 where
   -- the status is the fault's, and 0 without one
   pub status : end.status ≡ status_of_end end.fault
   -- the record is there exactly with the statuses 0 and 5
@@ -108,7 +108,7 @@ pub record HasReadScript {S : Type 0} (source : Reading S) (result : Result Scri
 
 -- how a run of this script ended that was written, or began to be written: with this record, whose text was appended; or memory was
 -- wanting before anything was written
-pub record HasFinished {K : Type 0} (script : Script) (seed : Option ℕ) (sink : Writing K) (end : Ended) : Type 0 where
+pub record HasFinished {K : Type 0} (script : Script) (seed : Option ℕ) (sink : Writing K) (end : RunEnd) : Type 0 where
   pub status : end.status ≡ status_of_end end.fault
   pub kept : IsSome end.kept ↔ HasRunToEnd end.fault
   pub legal : IfSome end.kept (IsLegal serial script)
@@ -120,14 +120,14 @@ pub record HasFinished {K : Type 0} (script : Script) (seed : Option ℕ) (sink 
   pub unwritten : HasRunToEnd end.fault ⊎ (sink.new ≡ sink.old)
 
 -- the three clauses of a run together
-pub record IsPromised {S K : Type 0} (words : List (List ℕ)) (source : Reading S) (sink : Writing K) (end : Ended) : Type 0 where
+pub record IsPromised {S K : Type 0} (words : List (List ℕ)) (source : Reading S) (sink : Writing K) (end : RunEnd) : Type 0 where
   pub ended : HasEnded words source sink end
   pub headline : IfSome end.kept (HasRun (asked_by words) source sink end.fault)
   pub complete : IsComplete words source sink end.fault
 
 -- How the words of a command line that can't be read end it: for want of memory as Memory, and else as Usage, and nothing is read
 -- or written.
-pub record HasRefusedWords {S K : Type 0} (error : Error) (source : Reading S) (sink : Writing K) (end : Ended) : Type 0 where
+pub record HasRefusedWords {S K : Type 0} (error : Error) (source : Reading S) (sink : Writing K) (end : RunEnd) : Type 0 where
   pub status : end.status ≡ status_of_end end.fault
   pub memory : error_kind error ≡ OutOfMemory → IsMemory end.fault
   pub usage : (end.fault ≡ Some Usage) ⊎ (error_kind error ≡ OutOfMemory)

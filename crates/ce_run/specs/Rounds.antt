@@ -5,7 +5,7 @@ use Rattle.ce_model.specs.declared.topology.TheConstants.{HOST}
 use Rattle.ce_model.specs.declared.topology.Place.{Place}
 use Rattle.ce_model.specs.declared.entry.Entry.{Entry}
 use Rattle.ce_model.specs.declared.entry.What.TheVariants.{Arm, Look}
-use Rattle.ce_model.specs.declared.entry.Found.{Found}
+use Rattle.ce_model.specs.declared.entry.LookResult.{LookResult}
 use Rattle.ce_model.specs.Parcels.{Parcel}
 use Rattle.ce_model.specs.Node.{looks}
 use Rattle.ce_model.specs.Cube.{parcel_numbered}
@@ -14,7 +14,7 @@ use Rattle.ce_machine.specs.Meanings.{MachineFacts}
 use Rattle.ce_cube.specs.declared.crew.SerialCrew.{SerialCrew}
 use Rattle.ce_cube.specs.Boxes.{IsMadeBy}
 use Rattle.ce_cube.specs.Crews.{HasGoneOn, cube_grant}
-use Rattle.ce_script.specs.Rounds.{serial, joined}
+use Rattle.ce_script.specs.Rounds.{serial, joined_lists}
 use Rattle.ce_script.specs.Commands.{by_host, host_take}
 use Rattle.ce_record.specs.CubeRounds.{IsRoundOf}
 
@@ -23,7 +23,7 @@ abbrev pub HasAllowed : MachineFacts → MachineFacts → SerialCrew → SerialC
 HasAllowed before behind crew crew' count = HasGoneOn before behind crew crew' (by_host crew.grant.user (Arm count) ∷ [])
 
 -- a crew's host looked, and found this
-pub record HasLooked (before behind : MachineFacts) (crew crew' : SerialCrew) (found : Found) : Type 0 where
+pub record HasLooked (before behind : MachineFacts) (crew crew' : SerialCrew) (found : LookResult) : Type 0 where
   pub goes_on : HasGoneOn before behind crew crew' (by_host crew.grant.user (Look found) ∷ [])
   pub made : IsMadeBy before.parts before.history (cube_grant crew.grant) HOST looks (by_host crew.grant.user (Look found))
 
@@ -44,6 +44,6 @@ pub record HasTaken (before behind : MachineFacts) (crew crew' : SerialCrew) (fr
 pub record HasRunRounds (before behind : MachineFacts) (crew crew' : SerialCrew) : Type 0 where
   pub rounds : List (List Entry)
   pub last : List Entry
-  pub goes_on : HasGoneOn before behind crew crew' (joined rounds ++ last)
+  pub goes_on : HasGoneOn before behind crew crew' (joined_lists rounds ++ last)
   pub with_work : AllByRecursion (IsRoundOf serial crew.grant.user (cube_grant crew.grant) true) rounds
   pub without_work : IsRoundOf serial crew.grant.user (cube_grant crew.grant) false last

@@ -6,10 +6,10 @@ ghost use Rattle.std.specs.declared.io.ErrorKind.TheVariants.{OutOfMemory};
 ghost use Rattle.ce_io.specs.Whole.{reading, writing};
 ghost use Rattle.ce_run.specs.Causes.{IsMemory, HasRunToEnd};
 ghost use Rattle.ce_run.specs.Promise.{HasRefusedWords, IsTold, IsPromised};
-ghost use Rattle.ce_run.specs.declared.ended.Ended.{Ended};
+ghost use Rattle.ce_run.specs.declared.ended.RunEnd.{RunEnd};
 ghost use Rattle.ce_run.specs.declared.ended.Fault.TheVariants.{Usage};
 
-use crate::ended::{Ended, Fault, write_fault};
+use crate::ended::{Fault, RunEnd, write_fault};
 use crate::program::{refused, top};
 use ce_gate::Gate;
 use ce_io::{Sink, Source};
@@ -32,7 +32,7 @@ pub fn run_command<R: Threads + Sync, S: Source, K: Sink, E: Sink, G: Gate>(
     gate: &G,
 ) -> u8
     // Of the end of a run, which answers the words, the status is answered, and the fault is told.
-    ensures { (end : Ended) × (result ≡ end.status)
+    ensures { (end : RunEnd) × (result ≡ end.status)
         × IsTold end.fault (writing E.written E.faults errors.old errors.new)
         × MatchResult words
         (λ words. IsPromised (map string_bytes words.items)

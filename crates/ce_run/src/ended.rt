@@ -13,7 +13,7 @@ use thiserror::Error;
 
 /// How a run ended.
 #[derive(Debug, Drop)]
-pub struct Ended {
+pub struct RunEnd {
     /// 0 where the whole text was written; else the status of the fault.
     pub status: u8,
     /// What the run did; there with the statuses 0 and 5.

@@ -10,7 +10,7 @@ mod seat;
 mod serial;
 
 pub use command::run_command;
-pub use ended::{Ended, Fault, write_fault};
+pub use ended::{Fault, RunEnd, write_fault};
 pub use program::{SCRIPT_LIMIT, serial_call, top};
 
 #[cfg(test)]

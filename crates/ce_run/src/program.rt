@@ -10,11 +10,11 @@ ghost use Rattle.ce_script.specs.Rounds.{serial};
 ghost use Rattle.ce_script.specs.Serial.{IsSerial};
 ghost use Rattle.ce_run.specs.Causes.{status_of_end, IsReadingFault, IsMemory, IsServed, HasRunToEnd, HasReported};
 ghost use Rattle.ce_run.specs.Fault.{status_of};
-ghost use Rattle.ce_run.specs.Promise.{HasEnded, HasReadScript, HasRun, HasFinished, IsComplete, text_of};
+ghost use Rattle.ce_run.specs.Promise.{IsPromised, HasEnded, HasReadScript, HasRun, HasFinished, IsComplete, text_of};
 ghost use Rattle.ce_script.specs.Load.{load};
 ghost use Rattle.ce_run.specs.declared.ended.Fault.TheVariants.{Read, Usage, Write};
 
-use crate::ended::{Ended, Fault};
+use crate::ended::{Fault, RunEnd};
 use crate::serial::run_serial;
 use ce_gate::Gate;
 use ce_io::{ReadError, Sink, Source, read_to_end, write_all};
@@ -40,16 +40,10 @@ pub fn top<R: Threads + Sync, S: Source, K: Sink, G: Gate>(
     source: &mut S,
     sink: &mut K,
     _gate: &G,
-) -> Ended
-    ensures ended { HasEnded (map string_bytes words.now)
+) -> RunEnd
+    ensures { IsPromised (map string_bytes words.now)
         (reading S.left S.given S.faults source.old source.new)
         (writing K.written K.faults sink.old sink.new) result }
-    ensures headline { IfSome result.kept (HasRun (line_of (map string_bytes words.now))
-        (reading S.left S.given S.faults source.old source.new)
-        (writing K.written K.faults sink.old sink.new) result.fault) }
-    ensures complete { IsComplete (map string_bytes words.now)
-        (reading S.left S.given S.faults source.old source.new)
-        (writing K.written K.faults sink.old sink.new) result.fault }
 {
     serial_call(alloc, words, source, sink)
 }
@@ -60,7 +54,7 @@ pub fn serial_call<S: Source, K: Sink>(
     words: &[String],
     source: &mut S,
     sink: &mut K,
-) -> Ended
+) -> RunEnd
     ensures ended { HasEnded (map string_bytes words.now)
         (reading S.left S.given S.faults source.old source.new)
         (writing K.written K.faults sink.old sink.new) result }
@@ -97,11 +91,11 @@ fn load_asked(alloc: Global, words: &[String]) -> Result<Option<u32>, Fault>
 }
 
 /// The end of a run that wrote nothing.
-pub(crate) fn refused(fault: Fault) -> Ended
+pub(crate) fn refused(fault: Fault) -> RunEnd
     requires { HasRunToEnd (Some fault) → ⊥ }
     ensures { result ≡ record { status = status_of fault; kept = None; fault = Some fault } }
 {
-    Ended {
+    RunEnd {
         status: fault.status(),
         kept: None,
         fault: Some(fault),
@@ -109,7 +103,7 @@ pub(crate) fn refused(fault: Fault) -> Ended
 }
 
 /// Runs the load of a seed and writes its summary.
-fn run_load<K: Sink>(alloc: Global, seed: u32, sink: &mut K) -> Ended
+fn run_load<K: Sink>(alloc: Global, seed: u32, sink: &mut K) -> RunEnd
     ensures { HasFinished (load seed) (Some seed)
         (writing K.written K.faults sink.old sink.new) result }
 {
@@ -144,7 +138,7 @@ fn read_source<S: Source>(alloc: Global, source: &mut S) -> Result<Script, Fault
 }
 
 /// Runs a script and writes its report, or, where it is the load of a seed, the summary.
-fn run_script<K: Sink>(alloc: Global, script: &Script, seed: Option<u32>, sink: &mut K) -> Ended
+fn run_script<K: Sink>(alloc: Global, script: &Script, seed: Option<u32>, sink: &mut K) -> RunEnd
     requires { IsWithinLimits script.now }
     ensures { HasFinished script.now seed (writing K.written K.faults sink.old sink.new) result }
 {
@@ -174,11 +168,12 @@ fn record_and_text(
 }
 
 /// Writes the text of a run, which has left this record.
-fn write_text<K: Sink>(kept: Record, text: Vec<u8>, sink: &mut K) -> Ended
+fn write_text<K: Sink>(kept: Record, text: Vec<u8>, sink: &mut K) -> RunEnd
     ensures status { result.status ≡ status_of_end result.fault }
     ensures kept { result.kept ≡ Some kept }
     ensures ran { HasRunToEnd result.fault }
-    ensures reported { HasReported result.fault text.items (K.written sink.old) (K.written sink.new) }
+    ensures reported { HasReported result.fault text.items (K.written sink.old)
+        (K.written sink.new) }
     ensures failed { result.fault ≡ Some Write → HasRisen (K.faults sink.old) (K.faults sink.new) }
     ensures passed { (result.fault ≡ Some Write) ⊎ (K.faults sink.new ≡ K.faults sink.old) }
 {
@@ -186,7 +181,7 @@ fn write_text<K: Sink>(kept: Record, text: Vec<u8>, sink: &mut K) -> Ended
         Ok(()) => (0, None),
         Err(_) => (5, Some(Fault::Write)),
     };
-    Ended {
+    RunEnd {
         status,
         kept: Some(kept),
         fault,

@@ -6,20 +6,20 @@ use Rattle.rv_model.specs.Image.{ImageParts, image_parts, image_start}
 use Rattle.rv_asm.specs.declared.fault.AsmFault.{AsmFault}
 use Rattle.rv_asm.specs.declared.fault.AsmKind.TheVariants as kinds
 use Rattle.rv_asm.specs.Literal.{literal_of}
-use Rattle.rv_asm.specs.Faults.{both, gathered, all_of}
-use Rattle.rv_asm.specs.Assembly.{assembled}
+use Rattle.rv_asm.specs.Faults.{both, with_judged, all_of}
+use Rattle.rv_asm.specs.Assembly.{assembly_of}
 use Rattle.ce_text.specs.Name.{is_name}
 use Rattle.rv_asm.specs.Line.{pieces, is_token}
-use Rattle.ce_text.specs.Line.{cut, without_front_blanks, without_end_blanks, trimmed, before_comment}
+use Rattle.ce_text.specs.Line.{cut, without_front_blanks, without_end_blanks, without_outer_blanks, before_comment}
 use Rattle.ce_text.specs.Number.{number_of_digits}
 use Rattle.rv_asm.specs.Statements.{register_upper, register_memory, immediate, registers_immediate, three_registers, two_registers, register_word, register_label, registers_label, one_label, word_value, byte_value, zero_count, statements_of}
 use Rattle.rv_asm.specs.Register.{register_names, register_of}
 use Rattle.rv_asm.specs.Words.{mnemonics, mnemonic_of}
 use Rattle.rv_asm.specs.SecondPass.{address_of, offset_to, parts_of, second_pass}
 use Rattle.rv_asm.specs.FirstPass.{place, place_all, define, equ, lay, statement, line_laid, lines_laid, first_pass}
-use Rattle.rv_asm.specs.Operand.{one_piece, two_pieces, three_pieces, register, number, ranged, name_piece, twelve_bits, memory}
+use Rattle.rv_asm.specs.Operand.{one_piece, two_pieces, three_pieces, register, number, number_in_range, name_piece, twelve_bits, memory}
 use Rattle.ce_script.specs.declared.script.ScriptKind.TheVariants.{Assembly}
-use Rattle.ce_script.specs.Encoding.{word_of}
+use Rattle.rv_inst.specs.Encoding.{word_of}
 use Rattle.ce_script.specs.AssemblyImage.{assembly_image}
 use Rattle.ce_script.specs.Bodies.{fault_at}
 use Rattle.ce_script.specs.Faults.{first_fault}
@@ -28,7 +28,7 @@ use Rattle.ce_script.proofs.Computing.{text, grammar}
 
 -- the image of an assembly text, with all of the assembler unfolded
 unfoldable pub assembler : List ℕ → Result ImageParts AsmFault
-unfolding assembly_image word_of assembled first_pass lines_laid line_laid statement lay equ define place place_all second_pass parts_of offset_to address_of mnemonic_of mnemonics register_of register_names statements_of register_upper register_memory immediate registers_immediate three_registers two_registers register_word register_label registers_label one_label word_value byte_value zero_count one_piece two_pieces three_pieces register number ranged name_piece twelve_bits memory cut without_front_blanks without_end_blanks trimmed before_comment pieces is_token is_name both gathered all_of number_of_digits literal_of
+unfolding assembly_image word_of assembly_of first_pass lines_laid line_laid statement lay equ define place place_all second_pass parts_of offset_to address_of mnemonic_of mnemonics register_of register_names statements_of register_upper register_memory immediate registers_immediate three_registers two_registers register_word register_label registers_label one_label word_value byte_value zero_count one_piece two_pieces three_pieces register number number_in_range name_piece twelve_bits memory cut without_front_blanks without_end_blanks without_outer_blanks before_comment pieces is_token is_name both with_judged all_of number_of_digits literal_of
 assembler text = assembly_image text
 
 one_call : assembly_image (codes "ecall") ≡ Ok (image_parts image_start (0x73 ∷ 0 ∷ 0 ∷ 0 ∷ []) 0)

@@ -5,10 +5,10 @@ use Rattle.rv_model.specs.Image.{ImageParts, image_parts}
 use Rattle.rv_asm.specs.declared.fault.AsmFault.{AsmFault}
 use Rattle.rv_asm.specs.SecondPass.{Part, Instruction, Plain}
 use Rattle.rv_asm.specs.Spelling.{IsSpellingOf}
-use Rattle.rv_asm.specs.Assembly.{Assembly, assembled, IsAssemblyOf, IsLaidOut}
-use Rattle.ce_script.specs.Encoding.{word_of}
+use Rattle.rv_asm.specs.Assembly.{Assembly, assembly_of, IsAssemblyOf, IsLaidOut}
+use Rattle.rv_inst.specs.Encoding.{word_of}
 use Rattle.ce_script.specs.AssemblyImage.{part_bytes, laid_image, assembly_image}
-use Rattle.ce_script.proofs.Encoded.{back}
+use Rattle.rv_inst.proofs.Joined.{back}
 
 -- bytes that lay out parts are the parts' bytes
 spelled : (parts : List Part) (bytes : List ℕ) → IsSpellingOf parts bytes → bytes ≡ part_bytes parts
@@ -31,6 +31,6 @@ unfolding assembly_image
 assembles_image text image a = ap laid_image a.1 ∙ ap Ok (sym (laid_out a.0 image a.2))
 
 -- a fault that a text has for the assembler is the fault of the text
-pub assembles_fault : (text : List ℕ) (fault : AsmFault) → assembled text ≡ Err fault → assembly_image text ≡ Err fault
+pub assembles_fault : (text : List ℕ) (fault : AsmFault) → assembly_of text ≡ Err fault → assembly_image text ≡ Err fault
 unfolding assembly_image
 assembles_fault text fault e = ap laid_image e

@@ -15,8 +15,8 @@ use Rattle.ce_script.specs.declared.reader.rest.Rest.{Rest}
 use Rattle.ce_script.specs.declared.reader.rest.Body.{Body}
 use Rattle.ce_script.specs.Lines.{Line}
 use Rattle.ce_script.specs.Statements.{is_end, body_in}
-use Rattle.ce_script.specs.ReadLines.{texts_left, numbered, left_of, lines_left, size_of, reach_of, IsBodyIn, statements_from}
-use Rattle.ce_script.proofs.BodyLines.{line_at, joined, text_is, first_line, numbered_append}
+use Rattle.ce_script.specs.ReadLines.{texts_left, numbered_lines, left_of, lines_left, size_of, reach_of, IsBodyIn, statements_from}
+use Rattle.ce_script.proofs.BodyLines.{left_shorter, line_at, joined, text_is, first_line, numbered_append}
 use Rattle.ce_script.proofs.Outside.{past_body, body_there, body_missing}
 
 -- ---- pieces
@@ -92,8 +92,8 @@ pub record IsAt (done : List (List ℕ)) (all bytes : List ℕ) : Type 0 where
 -- the search for the end of a body, at what is left
 pub record IsUpTo (rest : Rest) (all : List ℕ) (here : Rest) : Type 0 where
   pub done : List (List ℕ)
-  pub lines : lines_left rest ≡ numbered (rest.before + 1) done ++ lines_left here
-  pub going : list_any is_end (numbered (rest.before + 1) done) ≡ false
+  pub lines : lines_left rest ≡ numbered_lines (rest.before + 1) done ++ lines_left here
+  pub going : list_any is_end (numbered_lines (rest.before + 1) done) ≡ false
   pub bytes : IfSome here.text (λ bytes. IsAt done all bytes.now)
   pub before : here.before ≡ rest.before + length done
   pub reach : reach_of here ≤ reach_of rest
@@ -107,25 +107,28 @@ each_more : (texts : List (List ℕ)) (text : List ℕ) → AllByRecursion IsPie
 each_more [] text each is = (is, tt)
 each_more (one ∷ texts) text each is = (each.0, each_more texts text each.1 is)
 
+pub reach_shorter : (here next : Rest) (bytes : List ℕ) → left_of here ≡ Some bytes → next.before ≡ here.before + 1 → IfSome next.text (λ behind. length behind.now < length bytes) → reach_of next ≤ reach_of here
+reach_shorter here next bytes e before shorter = omega (arith, ap size_of e, before, left_shorter next.text (length bytes) shorter)
+
 module _ (rest here next : Rest) (all bytes front : List ℕ) (up : IsUpTo rest all here) (is : left_of here ≡ Some bytes)
-    (parts : (front, left_of next) ≡ cut is_line_feed bytes) (before : next.before ≡ here.before + 1) where
+    (parts : (front, left_of next) ≡ cut is_line_feed bytes) (before : next.before ≡ here.before + 1) (shorter : IfSome next.text (λ behind. length behind.now < length bytes)) where
   abbrev line : Line
   line = line_at (here.before + 1) front
 
   here_lines : lines_left here ≡ line ∷ lines_left next
   here_lines =
-      ap (λ (left : Option (List ℕ)). numbered (here.before + 1) (texts_left left)) is
+      ap (λ (left : Option (List ℕ)). numbered_lines (here.before + 1) (texts_left left)) is
       ∙ first_line (here.before + 1) bytes front (left_of next) parts
-      ∙ ap (λ (n : ℕ). line ∷ numbered (n + 1) (texts_left (left_of next))) (sym before)
+      ∙ ap (λ (n : ℕ). line ∷ numbered_lines (n + 1) (texts_left (left_of next))) (sym before)
 
-  pub all_lines : lines_left rest ≡ numbered (rest.before + 1) up.done ++ line ∷ lines_left next
-  all_lines = up.lines ∙ ap (λ lines. numbered (rest.before + 1) up.done ++ lines) here_lines
+  pub all_lines : lines_left rest ≡ numbered_lines (rest.before + 1) up.done ++ line ∷ lines_left next
+  all_lines = up.lines ∙ ap (λ lines. numbered_lines (rest.before + 1) up.done ++ lines) here_lines
 
   -- the line is the end
-  pub body_found : (body : Body) → body.at ≡ rest.before → is_end line ≡ true → body.text.now ≡ joined up.done → AllByRecursion IsPiece up.done → reach_of next ≤ reach_of here
+  pub body_found : (body : Body) → body.at ≡ rest.before → is_end line ≡ true → body.text.now ≡ joined up.done → AllByRecursion IsPiece up.done
       → body.at + length body.text.now < reach_of rest → IsBodyIn rest body next
-  body_found body at ends text each shorter room =
-      let lines = numbered (rest.before + 1) up.done in
+  body_found body at ends text each room =
+      let lines = numbered_lines (rest.before + 1) up.done in
       record {
         lines = lines;
         here = ap body_in all_lines ∙ body_there lines (lines_left next) line up.going ends;
@@ -133,21 +136,21 @@ module _ (rest here next : Rest) (all bytes front : List ℕ) (up : IsUpTo rest 
           text = text_is (rest.before + 1) up.done ∙ sym text;
           last = rest.before + 1 + length up.done;
           shown =
-              ap (λ (n : ℕ). numbered (n + 1) (slice_split is_line_feed body.text.now)) at
-              ∙ ap (λ (bytes : List ℕ). numbered (rest.before + 1) (slice_split is_line_feed bytes)) text
-              ∙ ap (numbered (rest.before + 1)) (split_joined up.done each)
+              ap (λ (n : ℕ). numbered_lines (n + 1) (slice_split is_line_feed body.text.now)) at
+              ∙ ap (λ (bytes : List ℕ). numbered_lines (rest.before + 1) (slice_split is_line_feed bytes)) text
+              ∙ ap (numbered_lines (rest.before + 1)) (split_joined up.done each)
               ∙ numbered_append (rest.before + 1) up.done ([] ∷ []);
         };
         at = at;
         past = ap (statements_from true) all_lines ∙ past_body lines (lines_left next) line up.going ends;
-        later = record { lines = omega (arith, up.before, before); reach = omega (arith, shorter, up.reach) };
+        later = record { lines = omega (arith, up.before, before); reach = omega (arith, reach_shorter here next bytes is before shorter, up.reach) };
         room = room;
       }
 
-  more_lines : numbered (rest.before + 1) (up.done ++ front ∷ []) ≡ numbered (rest.before + 1) up.done ++ line ∷ []
+  more_lines : numbered_lines (rest.before + 1) (up.done ++ front ∷ []) ≡ numbered_lines (rest.before + 1) up.done ++ line ∷ []
   more_lines =
       let same : rest.before + 1 + length up.done ≡ here.before + 1 = omega (arith, up.before) in
-      numbered_append (rest.before + 1) up.done (front ∷ []) ∙ ap (λ (n : ℕ). numbered (rest.before + 1) up.done ++ line_at n front ∷ []) same
+      numbered_append (rest.before + 1) up.done (front ∷ []) ∙ ap (λ (n : ℕ). numbered_lines (rest.before + 1) up.done ++ line_at n front ∷ []) same
 
   more_bytes : (left : Option (Bor (List ℕ))) → next.text ≡ left → IfSome here.text (λ bytes. IsAt up.done all bytes.now) → IfSome left (λ behind. IsAt (up.done ++ front ∷ []) all behind.now)
   more_bytes None e at = tt
@@ -168,17 +171,17 @@ module _ (rest here next : Rest) (all bytes front : List ℕ) (up : IsUpTo rest 
       some_at (Some it) e at = let same : it.now ≡ bytes = cc in subst (IsAt up.done all) same at
 
   -- the line is another
-  pub body_goes_on : is_end line ≡ false → reach_of next ≤ reach_of here → IsUpTo rest all next
-  body_goes_on other shorter =
+  pub body_goes_on : is_end line ≡ false → IsUpTo rest all next
+  body_goes_on other =
       record {
         done = up.done ++ front ∷ [];
-        lines = all_lines ∙ sym (append_assoc (numbered (rest.before + 1) up.done) (line ∷ []) (lines_left next)) ∙ ap (λ lines. lines ++ lines_left next) (sym more_lines);
+        lines = all_lines ∙ sym (append_assoc (numbered_lines (rest.before + 1) up.done) (line ∷ []) (lines_left next)) ∙ ap (λ lines. lines ++ lines_left next) (sym more_lines);
         going =
-            ap (list_any is_end) more_lines ∙ list_any-append is_end (numbered (rest.before + 1) up.done) (line ∷ [])
+            ap (list_any is_end) more_lines ∙ list_any-append is_end (numbered_lines (rest.before + 1) up.done) (line ∷ [])
             ∙ ap (λ found. found || (is_end line || false)) up.going ∙ ap (λ ends. ends || false) other;
         bytes = more_bytes next.text refl up.bytes;
         before = before ∙ omega (arith, up.before, length-append up.done (front ∷ []));
-        reach = omega (arith, shorter, up.reach);
+        reach = omega (arith, reach_shorter here next bytes is before shorter, up.reach);
       }
 
 -- the search begins
@@ -199,13 +202,13 @@ begins rest all e = record {
 -- nothing is left, and no end was found
 pub body_ended : (rest here : Rest) (all : List ℕ) → IsUpTo rest all here → left_of here ≡ None → body_in (lines_left rest) ≡ None
 body_ended rest here all up none =
-    let lines = numbered (rest.before + 1) up.done in
-    let empty : lines_left here ≡ [] = ap (λ (left : Option (List ℕ)). numbered (here.before + 1) (texts_left left)) none in
+    let lines = numbered_lines (rest.before + 1) up.done in
+    let empty : lines_left here ≡ [] = ap (λ (left : Option (List ℕ)). numbered_lines (here.before + 1) (texts_left left)) none in
     let all_lines : lines_left rest ≡ lines = up.lines ∙ ap (λ rest. lines ++ rest) empty ∙ append-nil lines in
     body_missing (lines_left rest) (ap (list_any is_end) all_lines ∙ up.going)
 
 pub nothing_left : (rest : Rest) → left_of rest ≡ None → body_in (lines_left rest) ≡ None
-nothing_left rest none = body_missing (lines_left rest) (ap (λ (left : Option (List ℕ)). list_any is_end (numbered (rest.before + 1) (texts_left left))) none)
+nothing_left rest none = body_missing (lines_left rest) (ap (λ (left : Option (List ℕ)). list_any is_end (numbered_lines (rest.before + 1) (texts_left left))) none)
 
 -- what stands before what is left
 pub taken : (all front bytes : List ℕ) → all ≡ front ++ bytes → take (length all - length bytes) all ≡ front
@@ -216,9 +219,6 @@ taken all front bytes e =
 pub is_at : (done : List (List ℕ)) (all : List ℕ) (left : Option (Bor (List ℕ))) (it : Bor (List ℕ)) → left ≡ Some it → IfSome left (λ bytes. IsAt done all bytes.now) → IsAt done all it.now
 is_at done all None it e at = absurd cc
 is_at done all (Some one) it e at = let same : one ≡ it = cc in subst (λ (b : Bor (List ℕ)). IsAt done all b.now) same at
-
-pub reach_shorter : (here next : Rest) (bytes : List ℕ) → left_of here ≡ Some bytes → next.before ≡ here.before + 1 → size_of (left_of next) ≤ length bytes → reach_of next ≤ reach_of here
-reach_shorter here next bytes e before le = omega (arith, ap size_of e, before, le)
 
 -- a body ends before what is left of all
 pub room_left : (rest : Rest) (all bytes : List ℕ) → left_of rest ≡ Some all → rest.before + length (take (length all - length bytes) all) < reach_of rest

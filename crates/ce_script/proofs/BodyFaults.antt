@@ -12,7 +12,7 @@ use Rattle.rv_asm.specs.declared.fault.AsmFault.{AsmFault}
 use Rattle.rv_asm.specs.declared.fault.AsmKind.{AsmKind}
 use Rattle.rv_asm.specs.declared.fault.AsmKind.TheVariants as asm
 use Rattle.rv_asm.specs.Faults.{Unless as UnlessAsm}
-use Rattle.rv_asm.specs.Assembly.{assembled, IsAssemblyOf}
+use Rattle.rv_asm.specs.Assembly.{assembly_of, IsAssemblyOf}
 use Rattle.ce_script.specs.declared.grammar.ImageForm.{ImageForm}
 use Rattle.ce_script.specs.declared.grammar.ImageForm.TheVariants.{Hex, Asm, Rki}
 use Rattle.ce_script.specs.declared.reader.rest.Body.{Body}
@@ -111,7 +111,7 @@ module _ (body : Body) (lines : List Line) (is : IsBody body lines) where
       let e = ap assembly_image is.text ∙ assembles_image body.text.now image a in
       (ap (fault_behind body.at) e, ap (λ r. Some (image_or_nothing r)) e)
 
-  asm_is : (fault : AsmFault) (kind : AsmKind) → kind ≡ fault.kind → assembled body.text.now ≡ Err fault
+  asm_is : (fault : AsmFault) (kind : AsmKind) → kind ≡ fault.kind → assembly_of body.text.now ≡ Err fault
       → form_fault Asm body.at lines ≡ Some (fault_at (body.at + fault.line) (Assembly kind))
   unfolding form_fault
   asm_is fault kind same h =
@@ -119,7 +119,7 @@ module _ (body : Body) (lines : List Line) (is : IsBody body lines) where
       ∙ ap (fault_behind body.at) (assembles_fault body.text.now fault h)
       ∙ ap (λ (k : AsmKind). Some (fault_at (body.at + fault.line) (Assembly k))) (sym same)
 
-  asm_by : (fault : AsmFault) (kind : AsmKind) → kind ≡ fault.kind → ((want : NoMemory) → kind ≡ asm.Memory want → ⊥) → UnlessAsm kind (assembled body.text.now ≡ Err fault)
+  asm_by : (fault : AsmFault) (kind : AsmKind) → kind ≡ fault.kind → ((want : NoMemory) → kind ≡ asm.Memory want → ⊥) → UnlessAsm kind (assembly_of body.text.now ≡ Err fault)
       → Unless (Assembly kind) (form_fault Asm body.at lines ≡ Some (fault_at (body.at + fault.line) (Assembly kind)))
   asm_by fault (asm.Memory want) same not h = absurd (not want refl)
   asm_by fault asm.BadByte same not h = asm_is fault asm.BadByte same h

@@ -11,7 +11,7 @@ use Rattle.ce_text.specs.Words.{words as words_between}
 use Rattle.ce_text.proofs.Splitting.{split_cut, split_behind, cut_pieces}
 use Rattle.ce_script.specs.Lines.{Line, words, has_bad_byte}
 use Rattle.ce_script.specs.Bodies.{has_bad_word, bytes_of, text_of}
-use Rattle.ce_script.specs.ReadLines.{texts_left, numbered, size_of, with_empty}
+use Rattle.ce_script.specs.ReadLines.{texts_left, numbered_lines, size_of, with_empty}
 
 -- the bytes that are left, if any
 abbrev pub left : Option (Bor (List ℕ)) → Option (List ℕ)
@@ -30,32 +30,32 @@ line_at n text = record { number = n; text = text }
 
 -- what is left begins with its first line
 pub first_line : (n : ℕ) (bytes front : List ℕ) (after : Option (List ℕ)) → (front, after) ≡ cut is_line_feed bytes
-    → numbered n (slice_split is_line_feed bytes) ≡ line_at n front ∷ numbered (n + 1) (texts_left after)
+    → numbered_lines n (slice_split is_line_feed bytes) ≡ line_at n front ∷ numbered_lines (n + 1) (texts_left after)
 first_line n bytes front after e =
-    ap (numbered n) (split_cut is_line_feed bytes ∙ ap (cut_pieces is_line_feed) (sym e) ∙ ap (λ rest. front ∷ rest) (same_pieces after))
+    ap (numbered_lines n) (split_cut is_line_feed bytes ∙ ap (cut_pieces is_line_feed) (sym e) ∙ ap (λ rest. front ∷ rest) (same_pieces after))
 
 module _ (n : ℕ) (bytes front : List ℕ) (after : Option (List ℕ)) (parts : (front, after) ≡ cut is_line_feed bytes) where
-  pub found_here : (test : Line → Bool) → test (line_at n front) ≡ true → find test (numbered n (slice_split is_line_feed bytes)) ≡ Some (line_at n front)
-  found_here test e = ap (find test) (first_line n bytes front after parts) ∙ ap (λ here. cond here (Some (line_at n front)) (find test (numbered (n + 1) (texts_left after)))) e
+  pub found_here : (test : Line → Bool) → test (line_at n front) ≡ true → find test (numbered_lines n (slice_split is_line_feed bytes)) ≡ Some (line_at n front)
+  found_here test e = ap (find test) (first_line n bytes front after parts) ∙ ap (λ here. cond here (Some (line_at n front)) (find test (numbered_lines (n + 1) (texts_left after)))) e
 
-  pub goes_on : (test : Line → Bool) → test (line_at n front) ≡ false → find test (numbered n (slice_split is_line_feed bytes)) ≡ find test (numbered (n + 1) (texts_left after))
-  goes_on test e = ap (find test) (first_line n bytes front after parts) ∙ ap (λ here. cond here (Some (line_at n front)) (find test (numbered (n + 1) (texts_left after)))) e
+  pub goes_on : (test : Line → Bool) → test (line_at n front) ≡ false → find test (numbered_lines n (slice_split is_line_feed bytes)) ≡ find test (numbered_lines (n + 1) (texts_left after))
+  goes_on test e = ap (find test) (first_line n bytes front after parts) ∙ ap (λ here. cond here (Some (line_at n front)) (find test (numbered_lines (n + 1) (texts_left after)))) e
 
-  pub bytes_on : (read : List ℕ → Option (List ℕ)) → bytes_of read (numbered n (slice_split is_line_feed bytes)) ≡ flat_map (λ word. unwrap_or (read word) []) (words (line_at n front)) ++ bytes_of read (numbered (n + 1) (texts_left after))
+  pub bytes_on : (read : List ℕ → Option (List ℕ)) → bytes_of read (numbered_lines n (slice_split is_line_feed bytes)) ≡ flat_map (λ word. unwrap_or (read word) []) (words (line_at n front)) ++ bytes_of read (numbered_lines (n + 1) (texts_left after))
   unfolding bytes_of
   bytes_on read = ap (bytes_of read) (first_line n bytes front after parts)
 
-pub no_bytes : (read : List ℕ → Option (List ℕ)) (n : ℕ) → bytes_of read (numbered n []) ≡ []
+pub no_bytes : (read : List ℕ → Option (List ℕ)) (n : ℕ) → bytes_of read (numbered_lines n []) ≡ []
 unfolding bytes_of
 no_bytes read n = refl
 
 -- ---- an empty line at the end
 
-pub numbered_append : (n : ℕ) (front back : List (List ℕ)) → numbered n (front ++ back) ≡ numbered n front ++ numbered (n + length front) back
-numbered_append n [] back = ap (λ m. numbered m back) (omega arith)
+pub numbered_append : (n : ℕ) (front back : List (List ℕ)) → numbered_lines n (front ++ back) ≡ numbered_lines n front ++ numbered_lines (n + length front) back
+numbered_append n [] back = ap (λ m. numbered_lines m back) (omega arith)
 numbered_append n (text ∷ front) back =
     let same : n + 1 + length front ≡ n + length (text ∷ front) = omega arith in
-    ap (λ rest. line_at n text ∷ rest) (numbered_append (n + 1) front back ∙ ap (λ m. numbered (n + 1) front ++ numbered m back) same)
+    ap (λ rest. line_at n text ∷ rest) (numbered_append (n + 1) front back ∙ ap (λ m. numbered_lines (n + 1) front ++ numbered_lines m back) same)
 
 find_last : (test : Line → Bool) (lines : List Line) (last : ℕ) → test (line_at last []) ≡ false → find test (with_empty lines last) ≡ find test lines
 find_last test lines last e =
@@ -93,7 +93,7 @@ shown_bytes read lines last =
 abbrev pub joined : List (List ℕ) → List ℕ
 joined texts = flat_map (λ text. text ++ 10 ∷ []) texts
 
-pub text_is : (n : ℕ) (texts : List (List ℕ)) → text_of (numbered n texts) ≡ joined texts
+pub text_is : (n : ℕ) (texts : List (List ℕ)) → text_of (numbered_lines n texts) ≡ joined texts
 unfolding text_of
 text_is n [] = refl
 text_is n (text ∷ texts) = ap (λ rest. (text ++ 10 ∷ []) ++ rest) (text_is (n + 1) texts)

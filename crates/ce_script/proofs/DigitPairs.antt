@@ -1,7 +1,7 @@
 -- Hexadecimal digits, two for each byte, and eight for an instruction word.
 use Rattle.std.proofs.Common.{◌≡◌, ℕ, suc, ◌+◌, ◌*◌, ◌-◌, ◌^◌, ◌<◌, ◌≤◌, List, [], ◌∷◌, length, get_or, take, drop, Bool, true, false, cond, ◌&&◌, Some, None, refl, sym, ap, ◌∙◌, zero-add, arith, nat_lt, nat_le, nat_eq}
 use native.Mathlib.Numerals.{unary_clauses}
-use Rattle.std.proofs.lemmas.Bool.{ltb-true, le-leb}
+use Rattle.std.proofs.lemmas.Bool.{and_parts, and_right, ltb-true, le-leb}
 use Rattle.std.proofs.lemmas.Bool.Decides.{nat_tests}
 use Rattle.std.proofs.lemmas.List.{take_all}
 use Rattle.std.specs.Prelude.{option_map}
@@ -20,16 +20,8 @@ all_here : (word : List ℕ) → are_digits 16 word ≡ true → all_digits word
 all_here [] e = absurd cc
 all_here (byte ∷ bytes) e = e
 
-and_first : (a b : Bool) → a && b ≡ true → a ≡ true
-and_first true b e = refl
-and_first false b e = absurd cc
-
-and_second : (a b : Bool) → a && b ≡ true → b ≡ true
-and_second true b e = e
-and_second false b e = absurd cc
-
 pub all_of_pairs : (word : List ℕ) → are_byte_digits word ≡ true → all_digits word ≡ true
-all_of_pairs word e = all_here word (and_first (are_digits 16 word) _ e)
+all_of_pairs word e = all_here word (and_parts (are_digits 16 word) _ e).0
 
 -- the first two digits, and the others
 pub record IsPair (word : List ℕ) : Type 0 where
@@ -43,11 +35,12 @@ pair_of [] le e = absurd (omega arith)
 pair_of (one ∷ []) le e = absurd (omega arith)
 pair_of (high ∷ low ∷ word) le e =
     let rest : take (length (high ∷ low ∷ word) - 2) word ≡ word = take_all (length (high ∷ low ∷ word) - 2) word (omega arith) in
-    let others = and_second (nat_lt (digit_value high) 16) _ e in
+    let first = and_parts (nat_lt (digit_value high) 16) _ e in
+    let second = and_parts (nat_lt (digit_value low) 16) _ first.1 in
     record {
-      high = ltb-true _ _ (and_first (nat_lt (digit_value high) 16) _ e);
-      low = ltb-true _ _ (and_first (nat_lt (digit_value low) 16) _ others);
-      others = ap all_digits rest ∙ and_second (nat_lt (digit_value low) 16) _ others;
+      high = ltb-true _ _ first.0;
+      low = ltb-true _ _ second.0;
+      others = ap all_digits rest ∙ second.1;
       bytes =
           ap (λ (n : ℕ). (n * 16 + digit_value low) ∷ digit_bytes word) (zero-add (digit_value high))
           ∙ ap (λ (rest : List ℕ). (digit_value high * 16 + digit_value low) ∷ digit_bytes rest) (sym rest);
@@ -69,8 +62,9 @@ more_power most n = simp unary_clauses (regrouped most (16 ^ n))
 value_below : (value : ℕ) (word : List ℕ) (most : ℕ) → all_digits word ≡ true → value < most → digits_value_after 16 value word < most * 16 ^ length word
 value_below value [] most e lt = omega arith
 value_below value (byte ∷ word) most e lt =
-    let here = ltb-true _ _ (and_first (nat_lt (digit_value byte) 16) _ e) in
-    let more = value_below (value * 16 + digit_value byte) word (most * 16) (and_second (nat_lt (digit_value byte) 16) _ e) (omega (arith, here)) in
+    let both = and_parts (nat_lt (digit_value byte) 16) _ e in
+    let here = ltb-true _ _ both.0 in
+    let more = value_below (value * 16 + digit_value byte) word (most * 16) both.1 (omega (arith, here)) in
     let power = more_power most (length word) in
     omega (arith, more, power)
 
@@ -92,14 +86,10 @@ eight_is n e = grind (arith, nat_tests)
 eight_is_not : (n : ℕ) → (n ≡ 8 → ⊥) → nat_eq n 8 ≡ false
 eight_is_not n e = grind (arith, nat_tests)
 
-and_false : (a : Bool) → a && false ≡ false
-and_false true = refl
-and_false false = refl
-
 pub instruction_is : (word : List ℕ) → length word ≡ 8 → option_map (to_le_bytes w32) (number_of_digits 16 4294967295 word) ≡ instruction_in word
 unfolding instruction_in
 instruction_is word len = let e = eight_is (length word) len in rw e (instruction_by word (are_digits 16 word) refl len)
 
 pub instruction_is_not : (word : List ℕ) → (length word ≡ 8 → ⊥) → instruction_in word ≡ None
 unfolding instruction_in
-instruction_is_not word ne = let e = eight_is_not (length word) ne in let f = and_false (are_digits 16 word) in rw (e, f) refl
+instruction_is_not word ne = let e = eight_is_not (length word) ne in let f = and_right (are_digits 16 word) false refl in rw (e, f) refl

@@ -1,5 +1,6 @@
 -- Lists of different names.
-use Rattle.std.proofs.Common.{◌≡◌, ℕ, List, [], ◌∷◌, ◌++◌, Bool, true, false, not, cond, ◌||◌, refl, sym, ◌∙◌}
+use Rattle.std.proofs.Common.{◌≡◌, ℕ, List, [], ◌∷◌, ◌++◌, Bool, true, false, not, cond, refl, sym, ◌∙◌}
+use Rattle.std.proofs.lemmas.Bool.{not-true, or_parts}
 use Rattle.std.proofs.lemmas.Slice.Eq.{bytes_eq-Decides}
 use Rattle.std.specs.Prelude.{bytes_eq, filter}
 use Rattle.std.specs.List.{AllByRecursion, IsDistinct}
@@ -36,10 +37,6 @@ distinct_each P (name ∷ names) each =
 
 -- ---- names, each where it first appears
 
-not_true : (test : Bool) → not test ≡ true → test ≡ false
-not_true true e = absurd cc
-not_true false e = refl
-
 filter_distinct : (test : List ℕ → Bool) (names : List (List ℕ)) → IsDistinct bytes_eq names → IsDistinct bytes_eq (filter test names)
 unfolding IsDistinct
 filter_distinct test [] is = tt
@@ -54,15 +51,11 @@ unfolding IsDistinct
 distinct_are_distinct [] = tt
 distinct_are_distinct (name ∷ names) =
     let test : List ℕ → Bool = λ other. not (bytes_eq name other) in (
-      each_of (λ other. test other ≡ true) (λ other. bytes_eq name other ≡ false) (filter test (distinct names)) (λ other. not_true (bytes_eq name other)) (each_passes test (distinct names)),
+      each_of (λ other. test other ≡ true) (λ other. bytes_eq name other ≡ false) (filter test (distinct names)) (λ other. not-true (bytes_eq name other)) (each_passes test (distinct names)),
       filter_distinct test (distinct names) (distinct_are_distinct names),
     )
 
 -- ---- one name more
-
-pub neither : (a b : Bool) → a || b ≡ false → (a ≡ false) × (b ≡ false)
-neither true b e = absurd cc
-neither false b e = (refl, e)
 
 flipped : (one other : List ℕ) → bytes_eq one other ≡ false → bytes_eq other one ≡ false
 flipped one other apart =
@@ -75,5 +68,5 @@ pub distinct_behind : (names : List (List ℕ)) (name : List ℕ) → IsDistinct
 unfolding IsDistinct
 distinct_behind [] name is apart = (tt, tt)
 distinct_behind (first ∷ names) name is apart =
-    let both = neither (bytes_eq name first) (is_among names name) apart in
+    let both = or_parts (bytes_eq name first) (is_among names name) apart in
     (each_behind (λ other. bytes_eq first other ≡ false) names name is.0 (flipped name first both.0), distinct_behind names name is.1 both.1)

@@ -5,33 +5,33 @@ use Rattle.std.proofs.lemmas.List.Sums.{count_by-le-length}
 use Rattle.rv_model.specs.declared.memory.NoMemory.{NoMemory}
 use Rattle.rv_model.specs.Image.{image_start}
 use Rattle.ce_text.specs.Bytes.{is_line_feed}
-use Rattle.ce_text.specs.Line.{trimmed, lines}
+use Rattle.ce_text.specs.Line.{without_outer_blanks, lines}
 use Rattle.rv_asm.specs.declared.fault.AsmKind.{AsmKind}
 use Rattle.rv_asm.specs.declared.fault.AsmKind.TheVariants as asm
 use Rattle.rv_asm.specs.declared.fault.AsmFault.{AsmFault}
 use Rattle.rv_asm.specs.declared.statement.Statement.{Statement}
-use Rattle.rv_asm.specs.declared.statement.Placed.{Placed}
+use Rattle.rv_asm.specs.declared.statement.PlacedStatement.{PlacedStatement}
 use Rattle.rv_asm.specs.declared.symbols.Symbol.{Symbol}
 use Rattle.rv_asm.specs.Names.{Names}
 use Rattle.rv_asm.specs.Faults.{◌>>=◌, refuse, Unless}
-use Rattle.rv_asm.specs.FirstPass.{Laid, laid_of, nothing_laid, place, place_all, define, equ, lay, statement, labelled, line_laid, at_line, lines_laid, first_pass}
+use Rattle.rv_asm.specs.FirstPass.{LayoutSoFar, laid_of, nothing_laid, place, place_all, define, equ, lay, statement, labelled_statement, line_laid, at_line, lines_laid, first_pass}
 use Rattle.rv_asm.specs.SecondPass.{Part, parts_of, second_pass}
-use Rattle.rv_asm.specs.Assembly.{Assembly, entry_of, assembled}
+use Rattle.rv_asm.specs.Assembly.{Assembly, entry_of, assembly_of}
 use Rattle.rv_asm.specs.Sizes.{size_of}
 use Rattle.rv_image.specs.Fault.{is_entry}
 
 -- ---- statements and the lines that they stand on
 
 -- the statements stand on lines up to this one
-abbrev AreUpTo : ℕ → List Placed → Type 0
+abbrev AreUpTo : ℕ → List PlacedStatement → Type 0
 AreUpTo last [] = Unit {0}
 AreUpTo last (placed ∷ others) = (placed.line ≤ last) × AreUpTo last others
 
-up_push : (last : ℕ) (these : List Placed) (one : Placed) → AreUpTo last these → one.line ≤ last → AreUpTo last (these ++ one ∷ [])
+up_push : (last : ℕ) (these : List PlacedStatement) (one : PlacedStatement) → AreUpTo last these → one.line ≤ last → AreUpTo last (these ++ one ∷ [])
 up_push last [] one h le = (le, tt)
 up_push last (first ∷ others) one h le = (h.0, up_push last others one h.1 le)
 
-up_more : (before last : ℕ) (these : List Placed) → before ≤ last → AreUpTo before these → AreUpTo last these
+up_more : (before last : ℕ) (these : List PlacedStatement) → before ≤ last → AreUpTo before these → AreUpTo last these
 up_more before last [] le h = tt
 up_more before last (first ∷ others) le h =
     let here = h.0 in
@@ -40,68 +40,68 @@ up_more before last (first ∷ others) le h =
 -- ---- a line of a text
 
 -- where all that is laid stands on lines up to this one, so does what is laid then
-record HasKept {E : Type 0} (line : ℕ) (laid : Laid) (r : Result Laid E) : Type 0 where
-  up : (next : Laid) → r ≡ Ok next → AreUpTo line laid.statements → AreUpTo line next.statements
+record HasKept {E : Type 0} (line : ℕ) (laid : LayoutSoFar) (r : Result LayoutSoFar E) : Type 0 where
+  up : (next : LayoutSoFar) → r ≡ Ok next → AreUpTo line laid.statements → AreUpTo line next.statements
 
-refused : {E : Type 0} (line : ℕ) (laid : Laid) (kind : E) → HasKept line laid (Err kind)
+refused : {E : Type 0} (line : ℕ) (laid : LayoutSoFar) (kind : E) → HasKept line laid (Err kind)
 refused line laid kind = record { up = λ next e h. absurd cc }
 
-abbrev statements_in : {E : Type 0} → List Placed → Result Laid E → List Placed
+abbrev statements_in : {E : Type 0} → List PlacedStatement → Result LayoutSoFar E → List PlacedStatement
 statements_in other (Ok laid) = laid.statements
 statements_in other (Err kind) = other
 
-keeps_ok : {E : Type 0} (line : ℕ) (laid one : Laid) → (AreUpTo line laid.statements → AreUpTo line one.statements) → HasKept {E = E} line laid (Ok one)
+keeps_ok : {E : Type 0} (line : ℕ) (laid one : LayoutSoFar) → (AreUpTo line laid.statements → AreUpTo line one.statements) → HasKept {E = E} line laid (Ok one)
 keeps_ok {E} line laid one h = record { up = λ next e before. subst (AreUpTo line) (ap (statements_in {E = E} laid.statements) e) (h before) }
 
-keeps_next : {A E : Type 0} (line : ℕ) (laid : Laid) (r : Result A E) (next : A → Result Laid E) → ((x : A) → HasKept line laid (next x)) → HasKept line laid (r >>= next)
+keeps_next : {A E : Type 0} (line : ℕ) (laid : LayoutSoFar) (r : Result A E) (next : A → Result LayoutSoFar E) → ((x : A) → HasKept line laid (next x)) → HasKept line laid (r >>= next)
 keeps_next line laid (Ok x) next h = h x
 keeps_next line laid (Err kind) next h = refused line laid kind
 
-keeps_then : {E : Type 0} (line : ℕ) (laid : Laid) (r : Result Laid E) (next : Laid → Result Laid E) → HasKept line laid r → ((one : Laid) → HasKept line one (next one)) → HasKept line laid (r >>= next)
+keeps_then : {E : Type 0} (line : ℕ) (laid : LayoutSoFar) (r : Result LayoutSoFar E) (next : LayoutSoFar → Result LayoutSoFar E) → HasKept line laid r → ((one : LayoutSoFar) → HasKept line one (next one)) → HasKept line laid (r >>= next)
 keeps_then line laid (Ok one) next first h = record { up = λ last e before. (h one).up last e (first.up one refl before) }
 keeps_then line laid (Err kind) next first h = refused line laid kind
 
-named : (line : ℕ) (laid : Laid) (names : Names) → HasKept {E = AsmKind} line laid (Ok (laid_of names laid.statements laid.size))
+named : (line : ℕ) (laid : LayoutSoFar) (names : Names) → HasKept {E = AsmKind} line laid (Ok (laid_of names laid.statements laid.size))
 named line laid names = keeps_ok line laid _ (λ h. h)
 
-placed : (line : ℕ) (laid : Laid) (it : Statement) (size : ℕ) → HasKept {E = AsmKind} line laid (Ok (laid_of laid.names (laid.statements ++ record { line = line; statement = it } ∷ []) size))
+placed : (line : ℕ) (laid : LayoutSoFar) (it : Statement) (size : ℕ) → HasKept {E = AsmKind} line laid (Ok (laid_of laid.names (laid.statements ++ record { line = line; statement = it } ∷ []) size))
 placed line laid it size = keeps_ok line laid _ (λ h. up_push line laid.statements (record { line = line; statement = it }) h (omega arith))
 
-place_keeps : (line : ℕ) (laid : Laid) (it : Statement) → HasKept line laid (place line laid it)
+place_keeps : (line : ℕ) (laid : LayoutSoFar) (it : Statement) → HasKept line laid (place line laid it)
 unfolding place
 place_keeps line laid it = search (keeps_next, placed)
 
-place_all_keeps : (line : ℕ) (laid : Laid) (these : List Statement) → HasKept line laid (place_all line laid these)
+place_all_keeps : (line : ℕ) (laid : LayoutSoFar) (these : List Statement) → HasKept line laid (place_all line laid these)
 unfolding place_all
 place_all_keeps line laid [] = keeps_ok line laid laid (λ h. h)
 place_all_keeps line laid (it ∷ these) = keeps_then line laid (place line laid it) _ (place_keeps line laid it) (λ one. place_all_keeps line one these)
 
-define_keeps : (line : ℕ) (laid : Laid) (name : List ℕ) (symbol : Symbol) → HasKept line laid (define laid name symbol)
+define_keeps : (line : ℕ) (laid : LayoutSoFar) (name : List ℕ) (symbol : Symbol) → HasKept line laid (define laid name symbol)
 unfolding define
 define_keeps line laid name symbol = search (keeps_next, named)
 
-equ_keeps : (line : ℕ) (laid : Laid) (operands : List ℕ) → HasKept line laid (equ laid operands)
+equ_keeps : (line : ℕ) (laid : LayoutSoFar) (operands : List ℕ) → HasKept line laid (equ laid operands)
 unfolding equ
 equ_keeps line laid operands = search (keeps_next, define_keeps)
 
-lay_keeps : (line : ℕ) (laid : Laid) (word operands : List ℕ) → HasKept line laid (lay line laid word operands)
+lay_keeps : (line : ℕ) (laid : LayoutSoFar) (word operands : List ℕ) → HasKept line laid (lay line laid word operands)
 unfolding lay
 lay_keeps line laid word operands = search (keeps_next, place_all_keeps)
 
-either_keeps : (line : ℕ) (laid : Laid) (test : Bool) (first second : Result Laid AsmKind) → HasKept line laid first → HasKept line laid second → HasKept line laid (cond test first second)
+either_keeps : (line : ℕ) (laid : LayoutSoFar) (test : Bool) (first second : Result LayoutSoFar AsmKind) → HasKept line laid first → HasKept line laid second → HasKept line laid (cond test first second)
 either_keeps line laid true first second h g = h
 either_keeps line laid false first second h g = g
 
-statement_keeps : (line : ℕ) (laid : Laid) (bytes : List ℕ) → HasKept line laid (statement line laid bytes)
+statement_keeps : (line : ℕ) (laid : LayoutSoFar) (bytes : List ℕ) → HasKept line laid (statement line laid bytes)
 unfolding statement
 statement_keeps line laid [] = keeps_ok line laid laid (λ h. h)
 statement_keeps line laid (byte ∷ bytes) = search (keeps_next, either_keeps, equ_keeps, lay_keeps)
 
-labelled_keeps : (line : ℕ) (laid : Laid) (front : List ℕ) (rest : Option (List ℕ)) → HasKept line laid (labelled line laid front rest)
-labelled_keeps line laid front None = statement_keeps line laid (trimmed front)
+labelled_keeps : (line : ℕ) (laid : LayoutSoFar) (front : List ℕ) (rest : Option (List ℕ)) → HasKept line laid (labelled_statement line laid front rest)
+labelled_keeps line laid front None = statement_keeps line laid (without_outer_blanks front)
 labelled_keeps line laid front (Some rest) = search (keeps_next, keeps_then, define_keeps, statement_keeps)
 
-line_keeps : (number : ℕ) (laid : Laid) (line : List ℕ) → HasKept number laid (line_laid number laid line)
+line_keeps : (number : ℕ) (laid : LayoutSoFar) (line : List ℕ) → HasKept number laid (line_laid number laid line)
 unfolding line_laid
 line_keeps number laid line = search (keeps_next, labelled_keeps)
 
@@ -112,12 +112,12 @@ line_in (Ok x) = 0
 line_in (Err fault) = fault.line
 
 -- statements and faults of lines behind so many stand on one of them
-record Lines (before : ℕ) (laid : Laid) (these : List (List ℕ)) (r : Result Laid AsmFault) : Type 0 where
-  up : (out : Laid) → r ≡ Ok out → AreUpTo before laid.statements → AreUpTo (before + length these) out.statements
+record AreOnLines (before : ℕ) (laid : LayoutSoFar) (these : List (List ℕ)) (r : Result LayoutSoFar AsmFault) : Type 0 where
+  up : (out : LayoutSoFar) → r ≡ Ok out → AreUpTo before laid.statements → AreUpTo (before + length these) out.statements
   fault : (fault : AsmFault) → r ≡ Err fault → fault.line ≤ before + length these
 
-lines_by : (before : ℕ) (laid : Laid) (line : List ℕ) (these : List (List ℕ)) (r : Result Laid AsmKind) → HasKept (before + 1) laid r
-    → ((one : Laid) → Lines (before + 1) one these (lines_laid (before + 1) one these)) → Lines before laid (line ∷ these) (at_line (before + 1) r >>= λ one. lines_laid (before + 1) one these)
+lines_by : (before : ℕ) (laid : LayoutSoFar) (line : List ℕ) (these : List (List ℕ)) (r : Result LayoutSoFar AsmKind) → HasKept (before + 1) laid r
+    → ((one : LayoutSoFar) → AreOnLines (before + 1) one these (lines_laid (before + 1) one these)) → AreOnLines before laid (line ∷ these) (at_line (before + 1) r >>= λ one. lines_laid (before + 1) one these)
 lines_by before laid line these (Ok one) keeps others = record {
   up = λ out e h. up_more (before + 1 + length these) (before + length (line ∷ these)) out.statements (omega arith)
       ((others one).up out e (keeps.up one refl (up_more before (before + 1) laid.statements (omega arith) h)));
@@ -125,10 +125,10 @@ lines_by before laid line these (Ok one) keeps others = record {
 }
 lines_by before laid line these (Err kind) keeps others = record {
   up = λ out e h. absurd cc;
-  fault = λ fault e. let same : before + 1 ≡ fault.line = ap (line_in {A = Laid}) e in omega (arith, same);
+  fault = λ fault e. let same : before + 1 ≡ fault.line = ap (line_in {A = LayoutSoFar}) e in omega (arith, same);
 }
 
-all_lines : (before : ℕ) (laid : Laid) (these : List (List ℕ)) → Lines before laid these (lines_laid before laid these)
+all_lines : (before : ℕ) (laid : LayoutSoFar) (these : List (List ℕ)) → AreOnLines before laid these (lines_laid before laid these)
 unfolding lines_laid
 all_lines before laid [] = record {
   up = λ out e h. up_more before (before + 0) out.statements (omega arith) (subst (AreUpTo before) (ap (statements_in {E = AsmFault} laid.statements) e) h);
@@ -139,7 +139,7 @@ all_lines before laid (line ∷ these) =
 
 -- ---- the second pass
 
-second_by : (one : Placed) (last : ℕ) (here : Result (List Part) AsmKind) (there : Result (List Part) AsmFault) (fault : AsmFault) → one.line ≤ last
+second_by : (one : PlacedStatement) (last : ℕ) (here : Result (List Part) AsmKind) (there : Result (List Part) AsmFault) (fault : AsmFault) → one.line ≤ last
     → (there ≡ Err fault → fault.line ≤ last) → (at_line one.line here >>= λ parts. there >>= λ more. Ok (parts ++ more)) ≡ Err fault → fault.line ≤ last
 second_by one last (Err kind) there fault le h e =
     let same : one.line ≡ fault.line = ap (line_in {A = List Part}) e in
@@ -147,7 +147,7 @@ second_by one last (Err kind) there fault le h e =
 second_by one last (Ok parts) (Err other) fault le h e = h e
 second_by one last (Ok parts) (Ok more) fault le h e = absurd cc
 
-second_line : (names : Names) (address last : ℕ) (these : List Placed) (fault : AsmFault) → AreUpTo last these → second_pass names address these ≡ Err fault → fault.line ≤ last
+second_line : (names : Names) (address last : ℕ) (these : List PlacedStatement) (fault : AsmFault) → AreUpTo last these → second_pass names address these ≡ Err fault → fault.line ≤ last
 unfolding second_pass
 second_line names address last [] fault up e = absurd cc
 second_line names address last (one ∷ others) fault up e =
@@ -171,22 +171,22 @@ entry_line true last fault e =
 entry_line false last fault e = absurd cc
 
 -- what comes behind the second pass
-abbrev entered : Laid → List Part → Result Assembly AsmFault
+abbrev entered : LayoutSoFar → List Part → Result Assembly AsmFault
 entered laid parts =
     at_line 0 (refuse (not (is_entry (entry_of laid.names) laid.size)) asm.Entry) >>= λ begins. Ok (record { entry = entry_of laid.names; parts = parts })
 
-entered_line : (laid : Laid) (parts : List Part) (last : ℕ) (fault : AsmFault) → entered laid parts ≡ Err fault → fault.line ≤ last
+entered_line : (laid : LayoutSoFar) (parts : List Part) (last : ℕ) (fault : AsmFault) → entered laid parts ≡ Err fault → fault.line ≤ last
 entered_line laid parts last fault e =
     let test = not (is_entry (entry_of laid.names) laid.size) in
     then_line (at_line 0 (refuse test asm.Entry)) (λ begins. Ok (record { entry = entry_of laid.names; parts = parts })) last fault
     (entry_line test last) (λ begins here other. absurd cc) e
 
 -- what comes behind the first pass
-abbrev behind_first : Laid → Result Assembly AsmFault
+abbrev behind_first : LayoutSoFar → Result Assembly AsmFault
 behind_first laid = second_pass laid.names image_start laid.statements >>= entered laid
 
-assembled_line : (text : List ℕ) (fault : AsmFault) → assembled text ≡ Err fault → fault.line ≤ 0 + length (lines text)
-unfolding assembled first_pass
+assembled_line : (text : List ℕ) (fault : AsmFault) → assembly_of text ≡ Err fault → fault.line ≤ 0 + length (lines text)
+unfolding assembly_of first_pass
 assembled_line text fault e =
     let last = 0 + length (lines text) in
     let all = all_lines 0 nothing_laid (lines text) in
@@ -207,7 +207,7 @@ known (asm.Memory want) not h = absurd (not want refl)
 known kind not h = h
 
 -- there are no more lines than bytes and one
-pub fault_line : (text : List ℕ) (fault : AsmFault) → ((want : NoMemory) → fault.kind ≡ asm.Memory want → ⊥) → Unless fault.kind (assembled text ≡ Err fault) → fault.line ≤ length text + 1
+pub fault_line : (text : List ℕ) (fault : AsmFault) → ((want : NoMemory) → fault.kind ≡ asm.Memory want → ⊥) → Unless fault.kind (assembly_of text ≡ Err fault) → fault.line ≤ length text + 1
 fault_line text fault not h =
     let le = assembled_line text fault (known fault.kind not h) in
     let few = fewer text in

@@ -1,6 +1,6 @@
 -- The reader stands one statement further.
 use Rattle.std.proofs.Common.{◌≡◌, ℕ, suc, ◌+◌, ◌<◌, List, [], ◌∷◌, ◌++◌, length, Bool, true, false, not, cond, ◌&&◌, ◌||◌, Option, Some, None, refl, sym, ap, ◌∙◌, append-nil, append_assoc, arith, nat_lt, map}
-use Rattle.std.proofs.lemmas.Bool.{lt-ltb}
+use Rattle.std.proofs.lemmas.Bool.{lt-ltb, not-false}
 use Rattle.std.proofs.lemmas.List.{length-append}
 use Rattle.std.specs.Prelude.{IfSome, is_some, filter_map, option_map, option_and_then, unwrap_or, bytes_eq}
 use Rattle.std.specs.Option.{option_or}
@@ -18,11 +18,11 @@ use Rattle.ce_script.specs.Verbs.{verb_of, is_machine, is_image, is_user, is_com
 use Rattle.ce_script.specs.Statements.{Statement, operand, is_of}
 use Rattle.ce_script.specs.Bodies.{fault_at}
 use Rattle.ce_script.specs.Sayings.{of_kind, names_in, distinct, number_of, place_at, image_names, users, last_user, command_by, command_in, command_at}
-use Rattle.ce_script.specs.Faults.{refused, is_among, first_some, statement_fault, image_fault}
+use Rattle.ce_script.specs.Faults.{fault_where, is_among, first_some, statement_fault, image_fault}
 use Rattle.ce_script.specs.Reading.{with_name, word_fault, place_fault, operands_judged}
 use Rattle.ce_script.specs.Standing.{names_of, AreFew, with_statement, with_command, rest_fault, verb_fault, line_judged, statement_judged, IsBehind, HasReadUpTo}
 use Rattle.ce_script.proofs.Spots.{or_none, map_none, refused_none}
-use Rattle.ce_script.proofs.Judged.{not_false, names_append}
+use Rattle.ce_script.proofs.Judged.{names_append}
 use Rattle.ce_script.proofs.Members.{among_distinct}
 use Rattle.ce_script.proofs.Users.{distinct_behind_one}
 use Rattle.ce_script.proofs.WithinLimits.{last_user_among, images_append}
@@ -87,10 +87,10 @@ user_number front more e =
 -- ---- commands
 
 no_operand : (names : List (List ℕ)) (name : List ℕ) (rest : Option ScriptKind)
-    → option_or (option_or (refused (not (is_name name)) BadName) (refused (not (is_among names name)) UnknownImage)) rest ≡ None → is_among names name ≡ true
+    → option_or (option_or (fault_where (not (is_name name)) BadName) (fault_where (not (is_among names name)) UnknownImage)) rest ≡ None → is_among names name ≡ true
 no_operand names name rest e =
-    not_false (is_among names name)
-    (refused_none (not (is_among names name)) UnknownImage (or_none (refused (not (is_name name)) BadName) (refused (not (is_among names name)) UnknownImage) (or_none _ rest e).0).1)
+    not-false (is_among names name)
+    (refused_none (not (is_among names name)) UnknownImage (or_none (fault_where (not (is_name name)) BadName) (fault_where (not (is_among names name)) UnknownImage) (or_none _ rest e).0).1)
 
 command_same : (verb : Verb) (names more : List (List ℕ)) (here : Statement) → is_command verb ≡ true → operands_judged names verb here ≡ None → command_by verb (names ++ more) here ≡ command_by verb names here
 unfolding operands_judged
@@ -160,10 +160,10 @@ first_machine false user e = refl
 pub has_user : (machine user : Bool) (verb : Verb) → is_command verb ≡ true → place_fault machine user verb ≡ None → user ≡ true
 unfolding place_fault
 has_user machine user verb command e =
-    let one = refused (not (is_machine verb) && not machine) NoMachine in
-    let two = refused (is_machine verb && machine) SecondMachine in
-    let last = (or_none two (refused (is_command verb && not user) NoUser) (or_none one _ e).1).1 in
-    not_false user (sym (ap (λ b. b && not user) command) ∙ refused_none (is_command verb && not user) NoUser last)
+    let one = fault_where (not (is_machine verb) && not machine) NoMachine in
+    let two = fault_where (is_machine verb && machine) SecondMachine in
+    let last = (or_none two (fault_where (is_command verb && not user) NoUser) (or_none one _ e).1).1 in
+    not-false user (sym (ap (λ b. b && not user) command) ∙ refused_none (is_command verb && not user) NoUser last)
 
 module _ (all rest : List Statement) (here : Statement) (reader : Reader) (verb : Verb) (is : verb_of (words here.line) ≡ Some verb) (st : HasReadUpTo all reader (here ∷ rest)) (few : AreFew reader)
     (none : statement_judged reader here ≡ None) where

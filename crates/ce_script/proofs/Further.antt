@@ -1,5 +1,6 @@
 -- How the reader's calls come together to a statement and to a line.
 use Rattle.std.proofs.Common.{◌≡◌, ℕ, ◌+◌, ◌≤◌, nat_lt, codes, vec_len, Bor, List, [], ◌∷◌, ◌++◌, length, get_or, Bool, true, false, not, cond, ◌&&◌, ◌||◌, ◌==◌, Option, Some, None, Result, Ok, Err, refl, sym, ap, subst, ◌∙◌, arith, map, append-nil}
+use Rattle.std.proofs.lemmas.Bool.{not-false}
 use Rattle.std.proofs.lemmas.Bool.Decides.{Decides-eqb, nat_tests}
 use Rattle.std.proofs.lemmas.List.{length-append, length-map}
 use Rattle.std.proofs.lemmas.Slice.Eq.{bytes_eq-Decides}
@@ -26,16 +27,15 @@ use Rattle.ce_script.specs.Names.{is_name}
 use Rattle.ce_script.specs.Verbs.{verbs, verb_of, is_image, is_command, form_of, operands_of, NewImage}
 use Rattle.ce_script.specs.Statements.{Statement, operand, are_only, is_end, begins_image, body_in, statements}
 use Rattle.ce_script.specs.Bodies.{fault_at, body_fault}
-use Rattle.ce_script.specs.Faults.{first_fault, first_some, refused, operand_fault, is_unknown, has_unknown_form, has_wrong_count, image_fault, statement_fault}
+use Rattle.ce_script.specs.Faults.{first_fault, first_some, fault_where, operand_fault, is_unknown, has_unknown_form, has_wrong_count, image_fault, statement_fault}
 use Rattle.ce_script.specs.Sayings.{image_said, dimension, images, users, commands}
 use Rattle.ce_script.specs.Reading.{Unless, word_fault, place_fault, with_name}
-use Rattle.ce_script.specs.ReadLines.{line_of, here_of, lines_left, inside_behind, statements_from, texts_left, numbered, left_of}
+use Rattle.ce_script.specs.ReadLines.{line_of, here_of, lines_left, inside_behind, statements_from, texts_left, numbered_lines, left_of}
 use Rattle.ce_script.specs.Scripts.{IsScript, IsNoMemory}
 use Rattle.ce_script.specs.Standing.{nothing_said, fault_among, IsBehind, names_of, AreFew, new_image_fault, HasReadUpTo, HasKept, with_statement, rest_fault, verb_fault, begin_fault, statement_judged, with_body, on_line, HasSaidImage, IsPast, HasSaidStatement}
 use Rattle.ce_script.proofs.BodyFaults.{unless_map}
 use Rattle.ce_script.proofs.BodyLines.{line_at, first_line}
 use Rattle.ce_script.proofs.Following.{free, has_user, one_further}
-use Rattle.ce_script.proofs.Judged.{not_false}
 use Rattle.ce_script.proofs.Outside.{from_outside}
 use Rattle.ce_script.proofs.Spots.{or_none, refused_none}
 use Rattle.ce_script.proofs.Stepping.{statement_same}
@@ -51,14 +51,14 @@ form_there (verb ∷ name ∷ form ∷ others) known e none = let missing = ap i
 pub image_has_form : (here : Statement) → verb_of (words here.line) ≡ Some Image → word_fault here ≡ None → form_of (operand 2 here) ≡ None → ⊥
 unfolding word_fault
 image_has_form here e right none =
-    let behind = (or_none (refused (has_bad_byte here.line) BadByte) (option_or (refused (is_unknown here) UnknownWord) (refused (has_wrong_count here) WordCount)) right).1 in
-    let both = or_none (refused (is_unknown here) UnknownWord) (refused (has_wrong_count here) WordCount) behind in
+    let behind = (or_none (fault_where (has_bad_byte here.line) BadByte) (option_or (fault_where (is_unknown here) UnknownWord) (fault_where (has_wrong_count here) WordCount)) right).1 in
+    let both = or_none (fault_where (is_unknown here) UnknownWord) (fault_where (has_wrong_count here) WordCount) behind in
     let all = words here.line in
     let known : has_unknown_form all ≡ false =
     sym (ap (λ (found : Option Verb). is_none found || (option_map_or is_image found false && has_unknown_form all)) e) ∙ refused_none (is_unknown here) UnknownWord both.0 in
     let count : not (length all == 3) ≡ false =
     sym (ap (λ (found : Option Verb). not (length all == 1 + length (option_map_or operands_of found []))) e) ∙ refused_none (has_wrong_count here) WordCount both.1 in
-    form_there all known ((Decides-eqb (length all) 3).0 (not_false (length all == 3) count)) none
+    form_there all known ((Decides-eqb (length all) 3).0 (not-false (length all == 3) count)) none
 
 pub no_image : (verb : Verb) → (verb ≡ Image → ⊥) → is_image verb ≡ false
 no_image Image other = absurd (other refl)
@@ -170,13 +170,13 @@ at_most most n e = grind (arith, nat_tests)
 few_said : (reader : Reader) (verb : Verb) (here : Statement) → AreFew reader → rest_fault reader verb here ≡ None → AreFew (with_statement reader verb here)
 few_said reader User here few none =
     let names = with_name reader.script.users (operand 1 here) in
-    let over = (or_none (refused (not (is_name (operand 1 here))) BadName) (refused (nat_lt greatest_users (length names)) TooMany) none).1 in
+    let over = (or_none (fault_where (not (is_name (operand 1 here))) BadName) (fault_where (nat_lt greatest_users (length names)) TooMany) none).1 in
     record { users = at_most greatest_users (length names) (refused_none (nat_lt greatest_users (length names)) TooMany over); images = few.images }
 few_said reader Image here few none =
     let name = operand 1 here in
     let names = names_of reader ++ name ∷ [] in
     let named = (or_none (new_image_fault (names_of reader) name) _ none).0 in
-    let over = (or_none (operand_fault (names_of reader) NewImage name) (refused (nat_lt greatest_images (length names)) TooMany) named).1 in
+    let over = (or_none (operand_fault (names_of reader) NewImage name) (fault_where (nat_lt greatest_images (length names)) TooMany) named).1 in
     let most = at_most greatest_images (length names) (refused_none (nat_lt greatest_images (length names)) TooMany over) in
     record {
       users = few.users;
@@ -269,9 +269,9 @@ line_keeps old new line rest (Err fault) few some wrong all stands =
 pub next_line : (here next : Rest) (bytes front : List ℕ) → left_of here ≡ Some bytes → (front, left_of next) ≡ cut is_line_feed bytes → next.before ≡ here.before + 1
     → lines_left here ≡ record { number = next.before; text = front } ∷ lines_left next
 next_line here next bytes front is parts before =
-    ap (λ (left : Option (List ℕ)). numbered (here.before + 1) (texts_left left)) is
+    ap (λ (left : Option (List ℕ)). numbered_lines (here.before + 1) (texts_left left)) is
     ∙ first_line (here.before + 1) bytes front (left_of next) parts
-    ∙ ap (λ (n : ℕ). line_at n front ∷ numbered (n + 1) (texts_left (left_of next))) (sym before)
+    ∙ ap (λ (n : ℕ). line_at n front ∷ numbered_lines (n + 1) (texts_left (left_of next))) (sym before)
 
 -- ---- a text
 
@@ -280,7 +280,7 @@ unfolding dimension images users
 behind_nothing = record { dim = refl; machine = refl; has_user = refl; user = tt; images = refl; users = refl }
 
 -- the reader begins
-pub begins_reading : (text : List ℕ) → HasReadUpTo (statements text) nothing_said (statements_from false (numbered 1 (slice_split is_line_feed text)))
+pub begins_reading : (text : List ℕ) → HasReadUpTo (statements text) nothing_said (statements_from false (numbered_lines 1 (slice_split is_line_feed text)))
 unfolding commands lines
 begins_reading text =
     subst (HasReadUpTo (statements text) nothing_said) (from_outside text)
@@ -292,7 +292,7 @@ few_at_first = record { users = omega arith; images = omega arith }
 -- the reader is at the end
 pub ends_reading : (text : List ℕ) (reader : Reader) (rest : Rest) → left_of rest ≡ None → HasReadUpTo (statements text) reader (statements_from false (lines_left rest)) → IsScript text reader.script
 unfolding first_fault statements_from
-ends_reading text reader rest none stands = by (subst (HasReadUpTo (statements text) reader) (ap (λ (left : Option (List ℕ)). statements_from false (numbered (rest.before + 1) (texts_left left))) none) stands)
+ends_reading text reader rest none stands = by (subst (HasReadUpTo (statements text) reader) (ap (λ (left : Option (List ℕ)). statements_from false (numbered_lines (rest.before + 1) (texts_left left))) none) stands)
   where
     by : HasReadUpTo (statements text) reader [] → IsScript text reader.script
     by at =

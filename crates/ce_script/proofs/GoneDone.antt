@@ -7,8 +7,8 @@ use Rattle.ce_model.specs.declared.process.Status.TheVariants.{Stopped}
 use Rattle.ce_model.specs.declared.topology.TheConstants.{HOST}
 use Rattle.ce_model.specs.declared.entry.Entry.{Entry}
 use Rattle.ce_model.specs.declared.entry.What.TheVariants.{Arm, Look, HostTake, Send as SendMade, Spawn as SpawnMade, Take}
-use Rattle.ce_model.specs.declared.entry.Found.TheVariants.{Quiet as FoundQuiet}
-use Rattle.ce_model.specs.declared.entry.Given.TheVariants.{Start, Idle}
+use Rattle.ce_model.specs.declared.entry.LookResult.TheVariants.{Quiet as FoundQuiet}
+use Rattle.ce_model.specs.declared.entry.TakeResult.TheVariants.{Start, Idle}
 use Rattle.ce_model.specs.Limits.{process_count, host_home, greatest_dim}
 use Rattle.ce_model.specs.Subcubes.{extract, relative}
 use Rattle.ce_model.specs.Node.{Node, fresh, takes, process_at}
@@ -52,7 +52,7 @@ posted image = hears (image ∷ []) (says (begun image)).node (told 0)
 abbrev ended : ImageParts → Node
 ended image = (says (says (posted image)).node).node
 
-pub record SaysRow (image : ImageParts) : Type 0 where
+pub record HasSaidRow (image : ImageParts) : Type 0 where
   pub over : (says (says (posted image)).node).call ≡ takes 0 1 None
   pub stopped : (process_at (ended image) 0).status ≡ Stopped (Gone 0x8000_0000)
 
@@ -89,20 +89,20 @@ received : (image : ImageParts) → IsRecv serial (the_cube image) (sent_to (ope
 unfolding sent_to
 received image = record { rounds = []; end = message_next 0; with_work = tt; without_work = tt; entries = refl; reply = refl }
 
-run_over : (image : ImageParts) → SaysRow image → AreTurnsOver (the_cube image) (opening (the_cube image)) run_trace
+run_over : (image : ImageParts) → HasSaidRow image → AreTurnsOver (the_cube image) (opening (the_cube image)) run_trace
 unfolding state hears
 run_over image h = turns_over 0 image run_trace (rw h.over refl)
 
-recv_over : (image : ImageParts) → SaysRow image → AreTurnsOver (the_cube image) (opening (the_cube image)) recv_trace
+recv_over : (image : ImageParts) → HasSaidRow image → AreTurnsOver (the_cube image) (opening (the_cube image)) recv_trace
 unfolding state hears
 recv_over image h = turns_over 0 image recv_trace (rw h.over refl)
 
-dumped : (image : ImageParts) → SaysRow image
+dumped : (image : ImageParts) → HasSaidRow image
     → State (Stopped (Gone 0x8000_0000)) ≡ State (process_at (rest (the_cube image) (opening (the_cube image)) 0 run_trace) 0).status
 unfolding state hears
 dumped image h = rw h.stopped refl
 
-pub alice_did : (image : ImageParts) → SaysRow image → AreDoings serial (machine_of (the_script image)) the_record.history 0 alice_done alice_doings
+pub alice_did : (image : ImageParts) → HasSaidRow image → AreDoings serial (machine_of (the_script image)) the_record.history 0 alice_done alice_doings
 unfolding moments holding relative extract process_count host_home greatest_dim
 alice_did image h = record {
   replies = refl;

@@ -5,10 +5,10 @@ use Rattle.rv_model.specs.Image.{ImageParts}
 use Rattle.ce_model.specs.declared.topology.TheConstants.{HOST}
 use Rattle.ce_model.specs.declared.entry.Entry.{Entry}
 use Rattle.ce_model.specs.declared.entry.What.TheVariants.{Arm, Look, Note, Take}
-use Rattle.ce_model.specs.declared.entry.Found.TheVariants.{Quiet as FoundQuiet}
-use Rattle.ce_model.specs.declared.entry.Given.TheVariants.{Start, Idle}
+use Rattle.ce_model.specs.declared.entry.LookResult.TheVariants.{Quiet as FoundQuiet}
+use Rattle.ce_model.specs.declared.entry.TakeResult.TheVariants.{Start, Idle}
 use Rattle.ce_host.specs.declared.answer.Answer.TheVariants.{Quiet}
-use Rattle.ce_script.specs.Rounds.{threaded, joined, is_take, IsTurn, is_dispatch, IsShare, IsThreadedRound}
+use Rattle.ce_script.specs.Rounds.{threaded, joined_lists, is_take, IsTurn, is_dispatch, IsShare, IsThreadedRound}
 use Rattle.ce_script.specs.Commands.{IsRun}
 use Rattle.ce_script.proofs.Rows.{two_rounds, by}
 
@@ -92,6 +92,6 @@ last_behind before (entry ∷ entries) last = last_behind (Some entry) entries l
 pub serial_is_not_threaded : IsThreadedRound 0 (started ∷ noted ∷ []) → ⊥
 serial_is_not_threaded round =
     let share = round.shares 0 (lit< tt) in
-    let same : Some noted ≡ Some share.last = ap (last_or None) share.all ∙ last_behind None (joined share.turns) share.last in
+    let same : Some noted ≡ Some share.last = ap (last_or None) share.all ∙ last_behind None (joined_lists share.turns) share.last in
     let take : option_map is_take (Some noted) ≡ Some true = ap (option_map is_take) same ∙ ap (λ test. Some test) share.last_take.0 in
     absurd (cc)

@@ -1,6 +1,5 @@
 -- An index after a name got its place.
-use Rattle.std.proofs.Common.{◌≡◌, ℕ, ◌+◌, ◌≤◌, Bool, true, false, cond, ◌==◌, List, [], ◌∷◌, ◌++◌, length, Option, Some, None, refl, sym, ap, subst, ◌∙◌, ⊎_elim, arith, nat_lt, not}
-use Rattle.std.proofs.lemmas.Bool.{cases_Bool, cond-true, cond-false}
+use Rattle.std.proofs.Common.{◌≡◌, ℕ, ◌+◌, ◌≤◌, Bool, true, false, cond, ◌==◌, List, [], ◌∷◌, ◌++◌, length, Option, Some, None, refl, sym, ap, ◌∙◌, arith, nat_lt, not}
 use Rattle.std.proofs.lemmas.Bool.Decides.{nat_tests}
 use Rattle.std.proofs.lemmas.List.{length-append}
 use Rattle.std.proofs.lemmas.List.Folds.{position_or_len_push}
@@ -9,43 +8,17 @@ use Rattle.std.proofs.lemmas.Slice.Eq.{bytes_eq-Decides}
 use Rattle.std.specs.Prelude.{bytes_eq, position, is_some}
 use Rattle.std.specs.Option.{option_or}
 use Rattle.std.specs.List.{position_or_len}
-use Rattle.std.specs.Ordering.{is_eq, nat_cmp}
-use Rattle.std.specs.Cmp.{eq_by_cmp_equiv}
-use Rattle.std.specs.Cmp.Lexicographic.{slice_cmp, bytes_decides, nat_list_cmp_total, nat_list_eq_equiv, texts_ties}
-use Rattle.std.specs.Global.{Vec}
-use Rattle.std.specs.BTreeMap as tree
-use Rattle.std.specs.Map.{lookup, update, IsKeyTest, AreApart, KeepsOthers}
-use Rattle.ce_script.specs.declared.reader.index.NameIndex.{NameIndex}
+use Rattle.std.specs.Cmp.Lexicographic.{nat_list_eq_equiv}
+use Rattle.std.specs.Map.{update}
+use Rattle.ce_text.specs.declared.names.NameTable.{NameTable}
+use Rattle.ce_text.specs.Names.{meanings_of}
 use Rattle.ce_script.specs.declared.script.ScriptKind.TheVariants.{NameTaken}
-use Rattle.ce_script.specs.Faults.{refused, is_among, operand_fault}
-use Rattle.ce_script.specs.Places.{place_in, IsIndexOf}
+use Rattle.ce_script.specs.Faults.{fault_where, is_among, operand_fault}
+use Rattle.ce_script.specs.Places.{IsIndexOf}
 use Rattle.ce_script.specs.Standing.{new_image_fault}
 use Rattle.ce_script.specs.Verbs.{NewImage}
 use Rattle.ce_script.proofs.Judging.{among_place}
 use Rattle.ce_script.proofs.Spots.{or_none, refused_none}
-
--- ---- the map
-
-apart : (bs cs ks : List ℕ) → bytes_eq bs cs ≡ false → is_eq (slice_cmp nat_cmp bs ks) ≡ true → is_eq (slice_cmp nat_cmp cs ks) ≡ false
-apart bs cs ks n y = sym (texts_ties cs ks) ∙ (nat_list_eq_equiv.symm cs ks ∙ sym (nat_list_eq_equiv.congr bs ks cs (texts_ties bs ks ∙ y)) ∙ n)
-
-other_entries : {K X : Type 0} (eq : K → K → Bool) (test : K → Bool) (old new : List (K × X)) → KeepsOthers eq test old new → (other : K → Bool) → IsKeyTest eq other → AreApart test other → lookup other new ≡ lookup other old
-unfolding KeepsOthers
-other_entries eq test old new h = h
-
-by_bytes : {W : Type 0} (f g : List ℕ → W) (bs : List ℕ) (w : W) → g bs ≡ w → ((cs : List ℕ) → bytes_eq bs cs ≡ false → g cs ≡ f cs) → (cs : List ℕ) → g cs ≡ cond (bytes_eq bs cs) w (f cs)
-by_bytes f g bs w here other cs =
-    ⊎_elim
-    (λ y. subst (λ l. g l ≡ w) ((bytes_decides bs cs).0 y) here ∙ sym (cond-true (bytes_eq bs cs) w (f cs) y))
-    (λ n. other cs n ∙ sym (cond-false (bytes_eq bs cs) w (f cs) n))
-    (cases_Bool (bytes_eq bs cs))
-
-pub added : (old new : NameIndex) (key : Vec ℕ) (place : ℕ)
-    → tree.UpdatesBy (λ x y. slice_cmp nat_cmp x.items y.items) (λ k. slice_cmp nat_cmp key.items k.items) old.places new.places (Some place)
-    → (name : List ℕ) → place_in new name ≡ update bytes_eq (place_in old) key.items (Some place) name
-added old new key place h =
-    by_bytes (place_in old) (place_in new) key.items (Some place) h.1
-    (λ cs e. other_entries _ _ _ _ h.3 _ (λ x y. (eq_by_cmp_equiv nat_list_cmp_total).congr cs x.items y.items) (λ k. apart key.items cs k.items e))
 
 -- ---- the places of names with one more
 
@@ -82,12 +55,16 @@ place_more names name other true e none =
 place_more names name other false e none =
     sym (place_pushed (bytes_eq other) names name false (nat_list_eq_equiv.symm other name ∙ e) ∙ or_none_is (position (bytes_eq other) names))
 
+-- an index of no names
+pub no_index : (index : NameTable ℕ) → meanings_of index ≡ (λ name. None) → IsIndexOf index []
+no_index index e name = ap (λ (f : List ℕ → Option ℕ). f name) e
+
 -- an index of names, with the next name at the next place
-pub index_more : (old new : NameIndex) (names : List (List ℕ)) (name : List ℕ) (place : ℕ) → IsIndexOf old names → position (bytes_eq name) names ≡ None → place ≡ length names
-    → place_in new ≡ update bytes_eq (place_in old) name (Some place) → IsIndexOf new (names ++ name ∷ [])
+pub index_more : (old new : NameTable ℕ) (names : List (List ℕ)) (name : List ℕ) (place : ℕ) → IsIndexOf old names → position (bytes_eq name) names ≡ None → place ≡ length names
+    → meanings_of new ≡ update bytes_eq (meanings_of old) name (Some place) → IsIndexOf new (names ++ name ∷ [])
 index_more old new names name place is none last e other =
     ap (λ (f : List ℕ → Option ℕ). f other) e
-    ∙ ap (λ (n : ℕ). cond (bytes_eq name other) (Some n) (place_in old other)) last
+    ∙ ap (λ (n : ℕ). cond (bytes_eq name other) (Some n) (meanings_of old other)) last
     ∙ ap (λ (found : Option ℕ). cond (bytes_eq name other) (Some (length names)) found) (is other)
     ∙ place_more names name other (bytes_eq name other) refl none
 
@@ -95,7 +72,7 @@ index_more old new names name place is none last e other =
 pub no_place : (names : List (List ℕ)) (name : List ℕ) → new_image_fault names name ≡ None → position (bytes_eq name) names ≡ None
 no_place names name e =
     let named = (or_none (operand_fault names NewImage name) _ e).0 in
-    let free = (or_none _ (refused (is_among names name) NameTaken) named).1 in
+    let free = (or_none _ (fault_where (is_among names name) NameTaken) named).1 in
     by (position (bytes_eq name) names) (among_place names name ∙ refused_none (is_among names name) NameTaken free)
   where
     by : (found : Option ℕ) → is_some found ≡ false → found ≡ None

@@ -1,5 +1,5 @@
 -- What is known of a statement without a fault.
-use Rattle.std.proofs.Common.{◌≡◌, List, [], ◌++◌, Bool, true, false, not, Option, Some, None, refl, ap, subst, ◌∙◌}
+use Rattle.std.proofs.Common.{◌≡◌, List, [], ◌++◌, Bool, true, false, Option, Some, None, refl, ap, subst, ◌∙◌}
 use Rattle.std.proofs.lemmas.List.{map-append}
 use Rattle.std.proofs.lemmas.List.Elements.{filter-append}
 use Rattle.std.specs.Prelude.{option_map}
@@ -12,12 +12,8 @@ use Rattle.ce_script.specs.Verbs.{verb_of, is_machine, is_image, is_user, operan
 use Rattle.ce_script.specs.Statements.{Statement, operand, is_of}
 use Rattle.ce_script.specs.Bodies.{fault_at}
 use Rattle.ce_script.specs.Sayings.{of_kind, names_in}
-use Rattle.ce_script.specs.Faults.{expected, lacks_machine, lacks_user, placed_fault, operands_fault, is_one_too_many, line_faults, line_fault, image_fault, statement_fault}
+use Rattle.ce_script.specs.Faults.{expected_operands, lacks_machine, lacks_user, placed_fault, operands_fault, is_one_too_many, line_faults, line_fault, image_fault, statement_fault}
 use Rattle.ce_script.proofs.Spots.{or_none, map_none, each_none, each_mapped_none, refused_none, each_of}
-
-pub not_false : (test : Bool) → not test ≡ false → test ≡ true
-not_false true e = refl
-not_false false e = absurd cc
 
 -- ---- a statement without a fault
 
@@ -25,7 +21,7 @@ not_false false e = absurd cc
 pub record IsRight (spot : Spot Statement) : Type 0 where
   pub machine : lacks_machine spot ≡ false
   pub user : lacks_user spot ≡ false
-  pub operands : AllByRecursion (λ placed. placed_fault spot placed ≡ None) (enumerate_from 1 (expected spot.here))
+  pub operands : AllByRecursion (λ placed. placed_fault spot placed ≡ None) (enumerate_from 1 (expected_operands spot.here))
   pub many : is_one_too_many spot ≡ false
 
 right : (spot : Spot Statement) → statement_fault spot ≡ None → IsRight spot
@@ -36,7 +32,7 @@ right spot e =
     record {
       machine = refused_none _ _ rows.1.1.1.0;
       user = refused_none _ _ rows.1.1.1.1.1.0;
-      operands = each_mapped_none (placed_fault spot) (enumerate_from 1 (expected spot.here)) rows.1.1.1.1.1.1.0;
+      operands = each_mapped_none (placed_fault spot) (enumerate_from 1 (expected_operands spot.here)) rows.1.1.1.1.1.1.0;
       many = refused_none _ _ rows.1.1.1.1.1.1.1.0;
     }
 

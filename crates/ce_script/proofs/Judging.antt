@@ -1,5 +1,6 @@
 -- How the reader's tests are those of the definitions.
 use Rattle.std.proofs.Common.{◌≡◌, ℕ, suc, ◌+◌, ◌<◌, ◌≤◌, List, [], ◌∷◌, ◌++◌, length, get_or, Bool, true, false, not, cond, ◌&&◌, ◌||◌, ◌==◌, Option, Some, None, refl, sym, ap, ◌∙◌, arith, nat_lt}
+use Rattle.std.proofs.lemmas.Bool.{and_parts, or_parts}
 use Rattle.std.proofs.lemmas.Bool.Decides.{nat_tests}
 use Rattle.std.proofs.lemmas.List.{length-append}
 use Rattle.std.proofs.lemmas.Slice.Eq.{bytes_eq-Decides}
@@ -21,7 +22,7 @@ use Rattle.ce_text.specs.Table.{look_up}
 use Rattle.ce_script.specs.Verbs.{verbs, verb_of, is_image, operands_of, OldImage}
 use Rattle.ce_script.specs.Statements.{Statement, operand}
 use Rattle.ce_script.specs.Sayings.{number_of}
-use Rattle.ce_script.specs.Faults.{refused, has_unknown_form, is_among, operand_fault}
+use Rattle.ce_script.specs.Faults.{fault_where, has_unknown_form, is_among, operand_fault}
 use Rattle.ce_script.specs.Reading.{word_fault, user_fault}
 use Rattle.ce_script.specs.Standing.{new_image_fault, with_user}
 
@@ -118,14 +119,10 @@ user_fits names name e f lt =
 same : (name : List ℕ) → bytes_eq name name ≡ true
 same name = (bytes_eq-Decides name name).1 refl
 
-both_not : (a b : Bool) → a || b ≡ false → (a ≡ false) × (b ≡ false)
-both_not true b e = absurd cc
-both_not false b e = (refl, e)
-
 last_place : (names : List (List ℕ)) (name : List ℕ) → is_among names name ≡ false → position_or_len (bytes_eq name) (names ++ name ∷ []) ≡ length names
 last_place [] name e = ap (λ same. cond (not same) (1 + 0) 0) (same name)
 last_place (one ∷ names) name e =
-    let both = both_not (bytes_eq name one) (is_among names name) e in
+    let both = or_parts (bytes_eq name one) (is_among names name) e in
     let more = last_place names name both.1 in
     ap (λ here. cond (not here) (1 + position_or_len (bytes_eq name) (names ++ name ∷ [])) 0) both.0 ∙ omega (arith, more)
 
@@ -163,9 +160,9 @@ verb_found here found e = sym (e ∙ first_word (words here.line))
 
 abbrev judged_by : (here : Statement) (found : Option Verb) → Option ScriptKind
 judged_by here found =
-    option_or (refused (has_bad_byte here.line) BadByte)
-    (option_or (refused (is_none found || (option_map_or is_image found false && has_unknown_form (words here.line))) UnknownWord)
-    (refused (not (length (words here.line) == 1 + length (option_map_or operands_of found []))) WordCount))
+    option_or (fault_where (has_bad_byte here.line) BadByte)
+    (option_or (fault_where (is_none found || (option_map_or is_image found false && has_unknown_form (words here.line))) UnknownWord)
+    (fault_where (not (length (words here.line) == 1 + length (option_map_or operands_of found []))) WordCount))
 
 judged_is : (here : Statement) (found : Option Verb) → verb_of (words here.line) ≡ found → word_fault here ≡ judged_by here found
 unfolding word_fault
@@ -181,10 +178,6 @@ no_verb here e f = judged_is here None f ∙ rw e refl
 pub no_form : (here : Statement) (verb : Verb) → has_bad_byte here.line ≡ false → verb_of (words here.line) ≡ Some verb → is_image verb && has_unknown_form (words here.line) ≡ true
     → word_fault here ≡ Some UnknownWord
 no_form here verb e f unknown = judged_is here (Some verb) f ∙ rw (e, unknown) refl
-
-and_no : (a : Bool) → a && false ≡ false
-and_no true = refl
-and_no false = refl
 
 -- an image has a form or no third word
 abbrev pub HasForm : Verb → Statement → Type 0
@@ -216,23 +209,16 @@ ascii_byte byte e = grind (arith, nat_tests)
 ascii_letter : (byte : ℕ) → is_ascii_alphabetic byte ≡ true → byte < 128
 ascii_letter byte e = grind (arith, nat_tests)
 
-and_first : (a b : Bool) → a && b ≡ true → a ≡ true
-and_first true b e = refl
-and_first false b e = absurd cc
-
-and_second : (a b : Bool) → a && b ≡ true → b ≡ true
-and_second true b e = e
-and_second false b e = absurd cc
-
 ascii_bytes : (bytes : List ℕ) → list_all is_name_byte bytes ≡ true → IsAscii bytes
 ascii_bytes [] e = IsAscii-nil
 ascii_bytes (byte ∷ bytes) e =
-    IsAscii-cons byte bytes (ascii_byte byte (and_first (is_name_byte byte) _ e)) (ascii_bytes bytes (and_second (is_name_byte byte) _ e))
+    let both = and_parts (is_name_byte byte) _ e in
+    IsAscii-cons byte bytes (ascii_byte byte both.0) (ascii_bytes bytes both.1)
 
 pub name_is_text : (name : List ℕ) → is_name name ≡ true → IsUtf8 name
 unfolding is_name
 name_is_text [] e = absurd cc
 name_is_text (byte ∷ bytes) e =
-    let front = and_first (is_ascii_alphabetic byte && list_all is_name_byte bytes) _ e in
-    IsUtf8-from_ascii (byte ∷ bytes)
-    (IsAscii-cons byte bytes (ascii_letter byte (and_first (is_ascii_alphabetic byte) _ front)) (ascii_bytes bytes (and_second (is_ascii_alphabetic byte) _ front)))
+    let front = and_parts (is_ascii_alphabetic byte && list_all is_name_byte bytes) _ e in
+    let both = and_parts (is_ascii_alphabetic byte) _ front.0 in
+    IsUtf8-from_ascii (byte ∷ bytes) (IsAscii-cons byte bytes (ascii_letter byte both.0) (ascii_bytes bytes both.1))

@@ -6,7 +6,6 @@ pub mod BodyLines
 pub mod Computing
 pub mod DigitPairs
 pub mod Distinct
-pub mod Encoded
 pub mod FaultLines
 pub mod FirstFaults
 pub mod Following
@@ -43,7 +42,6 @@ pub mod Stepping
 pub mod TextSamples
 pub mod UnbornDone
 pub mod UsedAgainDone
-pub mod UsedAgainLawful
 pub mod UsedAgainLegal
 pub mod Users
 pub mod WithinLimits

@@ -1,5 +1,6 @@
 -- The names of a text without a fault.
 use Rattle.std.proofs.Common.{◌≡◌, ℕ, List, [], ◌∷◌, ◌++◌, Bool, true, false, not, cond, refl, sym, subst}
+use Rattle.std.proofs.lemmas.Bool.{not-false}
 use Rattle.std.proofs.lemmas.List.{append_assoc, append-nil}
 use Rattle.std.specs.Prelude.{IsTrue, bytes_eq}
 use Rattle.std.specs.List.{AllByRecursion, IsDistinct}
@@ -11,10 +12,10 @@ use Rattle.ce_script.specs.Names.{is_name}
 use Rattle.ce_script.specs.Verbs.{verb_of, is_image, is_user}
 use Rattle.ce_script.specs.Statements.{Statement, operand, is_of}
 use Rattle.ce_script.specs.Sayings.{of_kind, names_in, image_names, users}
-use Rattle.ce_script.specs.Faults.{is_among, refused}
+use Rattle.ce_script.specs.Faults.{is_among, fault_where}
 use Rattle.ce_script.specs.Bounds.{AreNames}
 use Rattle.ce_script.proofs.Spots.{or_none, refused_none, each_of}
-use Rattle.ce_script.proofs.Judged.{not_false, IsRight, operands_right, the_verb, image_alone, user_alone, names_append}
+use Rattle.ce_script.proofs.Judged.{IsRight, operands_right, the_verb, image_alone, user_alone, names_append}
 use Rattle.ce_script.proofs.Distinct.{distinct_each, distinct_are_distinct, distinct_behind}
 
 -- what holds of the statement of each spot holds of each statement
@@ -36,7 +37,7 @@ each_name kind P (one ∷ others) each =
 
 user_name : (spot : Spot Statement) → IsRight spot → is_of is_user spot.here ≡ true → IsTrue (is_name (operand 1 spot.here))
 user_name spot right is =
-    not_false (is_name (operand 1 spot.here))
+    not-false (is_name (operand 1 spot.here))
     (refused_none (not (is_name (operand 1 spot.here))) BadName (operands_right spot User (the_verb is_user User user_alone (verb_of (words spot.here.line)) is) right).0)
 
 -- what is known of the name of an image that begins
@@ -48,8 +49,8 @@ image_name : (spot : Spot Statement) → IsRight spot → is_of is_image spot.he
 image_name spot right is =
     let name = operand 1 spot.here in
     let judged = (operands_right spot Image (the_verb is_image Image image_alone (verb_of (words spot.here.line)) is) right).0 in
-    let both = or_none (refused (not (is_name name)) BadName) (refused (is_among (image_names spot.before) name) NameTaken) judged in
-    record { named = not_false (is_name name) (refused_none (not (is_name name)) BadName both.0); apart = refused_none (is_among (image_names spot.before) name) NameTaken both.1 }
+    let both = or_none (fault_where (not (is_name name)) BadName) (fault_where (is_among (image_names spot.before) name) NameTaken) judged in
+    record { named = not-false (is_name name) (refused_none (not (is_name name)) BadName both.0); apart = refused_none (is_among (image_names spot.before) name) NameTaken both.1 }
 
 -- ---- different names
 
@@ -76,15 +77,15 @@ images_apart before (here ∷ behind) apart each =
 pub user_names_are : (all : List Statement) → AllByRecursion IsRight (spots all) → AreNames (users all)
 unfolding users
 user_names_are all each =
-    let Named : List ℕ → Type 0 = λ name. IsTrue (is_name name) in
-    let Said : Statement → Type 0 = λ one. is_of is_user one ≡ true → Named (operand 1 one) in
-    let said = each_here Said [] all (each_of IsRight (λ spot. Said spot.here) (spots all) user_name each) in
-    record { each = distinct_each Named (names_in (of_kind is_user all)) (each_name is_user Named all said); distinct = distinct_are_distinct (names_in (of_kind is_user all)) }
+    let IsName : List ℕ → Type 0 = λ name. IsTrue (is_name name) in
+    let HasName : Statement → Type 0 = λ one. is_of is_user one ≡ true → IsName (operand 1 one) in
+    let said = each_here HasName [] all (each_of IsRight (λ spot. HasName spot.here) (spots all) user_name each) in
+    record { each = distinct_each IsName (names_in (of_kind is_user all)) (each_name is_user IsName all said); distinct = distinct_are_distinct (names_in (of_kind is_user all)) }
 
 pub image_names_are : (all : List Statement) → AllByRecursion IsRight (spots all) → AreNames (image_names all)
 unfolding image_names IsDistinct
 image_names_are all each =
-    let Named : List ℕ → Type 0 = λ name. IsTrue (is_name name) in
-    let Said : Statement → Type 0 = λ one. is_of is_image one ≡ true → Named (operand 1 one) in
-    let said = each_here Said [] all (each_of IsRight (λ spot. Said spot.here) (spots all) (λ spot right is. (image_name spot right is).named) each) in
-    record { each = each_name is_image Named all said; distinct = images_apart [] all tt each }
+    let IsName : List ℕ → Type 0 = λ name. IsTrue (is_name name) in
+    let HasName : Statement → Type 0 = λ one. is_of is_image one ≡ true → IsName (operand 1 one) in
+    let said = each_here HasName [] all (each_of IsRight (λ spot. HasName spot.here) (spots all) (λ spot right is. (image_name spot right is).named) each) in
+    record { each = each_name is_image IsName all said; distinct = images_apart [] all tt each }

@@ -6,7 +6,7 @@ use Rattle.std.specs.Str.Parse.{digits_value}
 use Rattle.ce_text.specs.Number.{are_digits, number_of_digits}
 use Rattle.ce_script.specs.declared.script.ScriptKind.{ScriptKind}
 use Rattle.ce_script.specs.Spellings.{number_digits, greatest_number, number_to}
-use Rattle.ce_script.specs.Faults.{refused}
+use Rattle.ce_script.specs.Faults.{fault_where}
 
 above : (n most : ℕ) → n ≤ most → nat_le n most ≡ true
 above n most le = grind (arith, nat_tests)
@@ -31,9 +31,9 @@ wider word number most le e =
 
 -- a number that is found is no fault, and the one that any limit gives
 pub number_there : (kind : ScriptKind) (word : List ℕ) (number most : ℕ) → most ≤ greatest_number → Some number ≡ number_to most word
-    → (refused (is_none (number_to most word)) kind ≡ None) × (Some (unwrap_or (number_to greatest_number word) 0) ≡ Some number)
+    → (fault_where (is_none (number_to most word)) kind ≡ None) × (Some (unwrap_or (number_to greatest_number word) 0) ≡ Some number)
 number_there kind word number most le e =
-    (ap (λ (found : Option ℕ). refused (is_none found) kind) (sym e), ap (λ (found : Option ℕ). Some (unwrap_or found 0)) (wider word number most le e))
+    (ap (λ (found : Option ℕ). fault_where (is_none found) kind) (sym e), ap (λ (found : Option ℕ). Some (unwrap_or found 0)) (wider word number most le e))
 
-pub number_missing : (kind : ScriptKind) (word : List ℕ) (most : ℕ) → None ≡ number_to most word → refused (is_none (number_to most word)) kind ≡ Some kind
-number_missing kind word most e = ap (λ (found : Option ℕ). refused (is_none found) kind) (sym e)
+pub number_missing : (kind : ScriptKind) (word : List ℕ) (most : ℕ) → None ≡ number_to most word → fault_where (is_none (number_to most word)) kind ≡ Some kind
+number_missing kind word most e = ap (λ (found : Option ℕ). fault_where (is_none found) kind) (sym e)

@@ -12,7 +12,7 @@ use Rattle.ce_script.specs.Spellings.{greatest_number, number_to, data_in}
 use Rattle.ce_script.specs.Verbs.{OldImage}
 use Rattle.ce_script.specs.Statements.{Statement, operand}
 use Rattle.ce_script.specs.Sayings.{number_of, place_at, command_by}
-use Rattle.ce_script.specs.Faults.{first_some, refused, operand_fault}
+use Rattle.ce_script.specs.Faults.{first_some, fault_where, operand_fault}
 use Rattle.ce_script.specs.Reading.{operands_judged}
 
 or_none : {A : Type 0} (one : Option A) → option_or one None ≡ one
@@ -25,7 +25,7 @@ or_assoc (Some x) two three = refl
 
 -- the number at a place is none, or above this
 abbrev pub number_fault : ℕ → ℕ → Statement → Option ScriptKind
-number_fault place most here = refused (is_none (number_to most (operand place here))) BadNumber
+number_fault place most here = fault_where (is_none (number_to most (operand place here))) BadNumber
 
 -- the numbers of a place
 abbrev pub place_fault_at : ℕ → Statement → Option ScriptKind
@@ -70,12 +70,12 @@ module _ (names : List (List ℕ)) (here : Statement) where
         ∙ ap (λ (found : Option Place). Some (made.Spawn image (unwrap_or found (place_at 2 here)))) placed.1,
   )
 
-  pub send_fault : operands_judged names Send here ≡ option_or (place_fault_at 1 here) (refused (is_none (data_in (operand 3 here))) BadHex)
+  pub send_fault : operands_judged names Send here ≡ option_or (place_fault_at 1 here) (fault_where (is_none (data_in (operand 3 here))) BadHex)
   unfolding operands_judged
   send_fault =
       let node = number_fault 1 greatest_number here in
       let pid = number_fault 2 greatest_number here in
-      let hex = refused (is_none (data_in (operand 3 here))) BadHex in
+      let hex = fault_where (is_none (data_in (operand 3 here))) BadHex in
       ap (λ last. option_or node (option_or pid last)) (or_none hex)
       ∙ ap (λ rest. option_or node (option_or rest hex)) (sym (or_none pid))
       ∙ sym (or_assoc node (option_or pid None) hex)

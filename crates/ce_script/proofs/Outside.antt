@@ -1,5 +1,6 @@
 -- The statements of a text, line by line.
 use Rattle.std.proofs.Common.{◌≡◌, ℕ, suc, ◌+◌, ◌-◌, ◌==◌, ◌≤◌, List, [], ◌∷◌, ◌++◌, length, drop, Bool, true, false, not, cond, ◌||◌, Some, None, refl, sym, ap, ◌∙◌, arith}
+use Rattle.std.proofs.lemmas.Bool.{or_parts}
 use Rattle.std.proofs.lemmas.List.{reverse-append, length-reverse, length-append, drop_all, drop-append-le, take_at}
 use Rattle.std.proofs.lemmas.List.Folds.{list_any-append}
 use Rattle.std.specs.Prelude.{filter_map, reverse}
@@ -57,10 +58,6 @@ from_outside text = statements_behind [] (lines text)
 
 -- ---- behind a body
 
-both_not : (a b : Bool) → a || b ≡ false → (a ≡ false) × (b ≡ false)
-both_not true b e = absurd cc
-both_not false b e = (refl, e)
-
 inside_goes : (line : Line) (behind : List Line) → statements_from true (line ∷ behind) ≡ statements_from (inside_behind true line) behind
 unfolding statements_from
 inside_goes line behind =
@@ -74,7 +71,7 @@ pub past_body : (body behind : List Line) (end : Line) → list_any is_end body 
 past_body [] behind end none e =
     inside_goes end behind ∙ ap (λ ends. statements_from (cond ends false (true || begins_image end)) behind) e
 past_body (line ∷ body) behind end none e =
-    let both = both_not (is_end line) (list_any is_end body) none in
+    let both = or_parts (is_end line) (list_any is_end body) none in
     inside_goes line (body ++ end ∷ behind)
     ∙ ap (λ ends. statements_from (cond ends false (true || begins_image line)) (body ++ end ∷ behind)) both.0
     ∙ past_body body behind end both.1 e
@@ -82,7 +79,7 @@ past_body (line ∷ body) behind end none e =
 first_end : (body behind : List Line) (end : Line) → list_any is_end body ≡ false → is_end end ≡ true → position_or_len is_end (body ++ end ∷ behind) ≡ length body
 first_end [] behind end none e = ap (λ ends. cond (not ends) (1 + position_or_len is_end behind) 0) e
 first_end (line ∷ body) behind end none e =
-    let both = both_not (is_end line) (list_any is_end body) none in
+    let both = or_parts (is_end line) (list_any is_end body) none in
     let more = first_end body behind end both.1 e in
     ap (λ ends. cond (not ends) (1 + position_or_len is_end (body ++ end ∷ behind)) 0) both.0 ∙ omega (arith, more)
 

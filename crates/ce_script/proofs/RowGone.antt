@@ -7,8 +7,8 @@ use Rattle.hex.specs.Hex.{encode_with}
 use Rattle.ce_model.specs.declared.process.Status.TheVariants.{Stopped}
 use Rattle.ce_model.specs.declared.topology.TheConstants.{HOST}
 use Rattle.ce_model.specs.declared.entry.What.TheVariants.{Getcube as GetcubeMade, Arm, Look, HostTake, Send as SendMade, Spawn as SpawnMade, Take}
-use Rattle.ce_model.specs.declared.entry.Found.TheVariants.{Quiet as FoundQuiet}
-use Rattle.ce_model.specs.declared.entry.Given.TheVariants.{Start, Idle}
+use Rattle.ce_model.specs.declared.entry.LookResult.TheVariants.{Quiet as FoundQuiet}
+use Rattle.ce_model.specs.declared.entry.TakeResult.TheVariants.{Start, Idle}
 use Rattle.ce_model.specs.Limits.{host_home, greatest_dim}
 use Rattle.ce_model.specs.Subcubes.{extract, relative}
 use Rattle.ce_model.specs.Views.{view}

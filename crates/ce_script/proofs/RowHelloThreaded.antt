@@ -5,8 +5,8 @@ use Rattle.rv_model.specs.Image.{ImageParts}
 use Rattle.ce_model.specs.Limits.{greatest_dim}
 use Rattle.ce_model.specs.declared.topology.TheConstants.{HOST}
 use Rattle.ce_model.specs.declared.entry.What.TheVariants.{Getcube as GetcubeMade, Arm, Look, Spawn as SpawnMade, Note, Take}
-use Rattle.ce_model.specs.declared.entry.Found.TheVariants.{Quiet as FoundQuiet}
-use Rattle.ce_model.specs.declared.entry.Given.TheVariants.{Start, Idle}
+use Rattle.ce_model.specs.declared.entry.LookResult.TheVariants.{Quiet as FoundQuiet}
+use Rattle.ce_model.specs.declared.entry.TakeResult.TheVariants.{Start, Idle}
 use Rattle.ce_model.specs.Subcubes.{extract, relative}
 use Rattle.ce_model.specs.Views.{view}
 use Rattle.ce_host.specs.declared.command.Command.TheVariants.{Getcube, Spawn, Run}

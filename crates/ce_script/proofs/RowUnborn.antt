@@ -6,8 +6,8 @@ use Rattle.hex.specs.Hex.{encode_with}
 use Rattle.ce_model.specs.declared.topology.TheConstants.{HOST}
 use Rattle.ce_model.specs.declared.entry.What.{What}
 use Rattle.ce_model.specs.declared.entry.What.TheVariants.{Getcube as GetcubeMade, Arm, Look, HostTake, Send as SendMade, Spawn as SpawnMade, Take}
-use Rattle.ce_model.specs.declared.entry.Found.TheVariants.{Quiet as FoundQuiet}
-use Rattle.ce_model.specs.declared.entry.Given.TheVariants.{Start, Mail, Idle}
+use Rattle.ce_model.specs.declared.entry.LookResult.TheVariants.{Quiet as FoundQuiet}
+use Rattle.ce_model.specs.declared.entry.TakeResult.TheVariants.{Start, Mail, Idle}
 use Rattle.ce_model.specs.Limits.{host_home, greatest_dim}
 use Rattle.ce_model.specs.Subcubes.{extract, relative}
 use Rattle.ce_model.specs.Views.{view}
@@ -18,13 +18,7 @@ use Rattle.ce_host.specs.declared.answer.Answer.TheVariants.{None as Nothing, Gr
 use Rattle.ce_script.specs.declared.record.Record.{Record}
 use Rattle.ce_script.specs.declared.script.Script.{Script}
 use Rattle.ce_script.specs.Texts.{report}
-use Rattle.ce_script.proofs.Rows.{lines, by, place, block, subcube}
-
-abbrev pub first_bytes : List ℕ
-first_bytes = 0xAA ∷ []
-
-abbrev pub second_bytes : List ℕ
-second_bytes = 0xBB ∷ []
+use Rattle.ce_script.proofs.Rows.{first_bytes, second_bytes, lines, by, place, block, subcube}
 
 abbrev pub the_script : ImageParts → Script
 the_script image = record {

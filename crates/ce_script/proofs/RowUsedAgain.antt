@@ -1,16 +1,15 @@
--- The worked row in which a cube is given back with messages that wait, and its node is used again: what is written about it.
-use Rattle.std.proofs.Common.{◌≡◌, ℕ, List, [], ◌∷◌, ◌++◌, Some, None, true, codes, refl}
+-- The worked row in which a cube is given back with messages that wait, and its node is used again: what is written about the
+-- history of the model's row.
+use Rattle.std.proofs.Common.{◌≡◌, ℕ, List, [], ◌∷◌, ◌++◌, Some, codes, refl}
 use Rattle.std.specs.Fmt.{digits}
 use Rattle.rv_model.specs.Image.{ImageParts}
 use Rattle.hex.specs.Hex.{encode_with}
-use Rattle.ce_model.specs.declared.topology.TheConstants.{HOST}
-use Rattle.ce_model.specs.declared.entry.Entry.{Entry}
-use Rattle.ce_model.specs.declared.entry.What.TheVariants.{Getcube as GetcubeMade, Drain, Freecube as FreecubeMade, Arm, Look, Send as SendMade, Spawn as SpawnMade, Take}
-use Rattle.ce_model.specs.declared.entry.Found.TheVariants.{Quiet as FoundQuiet}
-use Rattle.ce_model.specs.declared.entry.Given.TheVariants.{Start, Idle}
+pub use Rattle.ce_script.proofs.Rows.{first_bytes, second_bytes, third_bytes}
 use Rattle.ce_model.specs.Limits.{host_home, greatest_dim}
 use Rattle.ce_model.specs.Subcubes.{extract, relative}
 use Rattle.ce_model.specs.Views.{view}
+use Rattle.ce_model.proofs.Rows.UsedAgain.{first_cube, second_cube}
+pub use Rattle.ce_model.proofs.Rows.UsedAgain.{first_sends as alice_sends}
 use Rattle.ce_host.specs.declared.command.Command.{Command}
 use Rattle.ce_host.specs.declared.command.Command.TheVariants.{Getcube, Send, Freecube, Spawn, Run}
 use Rattle.ce_host.specs.declared.answer.Answer.{Answer}
@@ -18,16 +17,7 @@ use Rattle.ce_host.specs.declared.answer.Answer.TheVariants.{Granted, Freed, Ok 
 use Rattle.ce_script.specs.declared.record.Record.{Record}
 use Rattle.ce_script.specs.declared.script.Script.{Script}
 use Rattle.ce_script.specs.Texts.{report}
-use Rattle.ce_script.proofs.Rows.{lines, by, place, block, subcube}
-
-abbrev pub first_bytes : List ℕ
-first_bytes = 0xAA ∷ []
-
-abbrev pub second_bytes : List ℕ
-second_bytes = 0xBB ∷ []
-
-abbrev pub third_bytes : List ℕ
-third_bytes = 0xCC ∷ []
+use Rattle.ce_script.proofs.Rows.{lines, place, subcube}
 
 abbrev pub the_script : ImageParts → Script
 the_script image = record {
@@ -46,24 +36,10 @@ alice_done =
 abbrev pub bob_done : List (Command × Answer)
 bob_done = (Getcube 0, Granted (subcube 0 0)) ∷ (Spawn 0 (place 0 0), Done) ∷ (Run 10, Quiet) ∷ []
 
--- alice's host sends the message of this number in its block of the same index
-abbrev pub alice_sends : ℕ → List ℕ → Entry
-alice_sends number bytes = by 0 HOST (SendMade 0 number ((place 0 0, block 256 number) ∷ []) bytes)
-
-abbrev pub alice_history : List Entry
-alice_history =
-    by 0 HOST (GetcubeMade 0 (Some (subcube 0 0))) ∷ alice_sends 0 first_bytes ∷ alice_sends 1 second_bytes ∷ alice_sends 2 third_bytes ∷ by 0 HOST Drain
-    ∷ by 0 HOST FreecubeMade ∷ []
-
-abbrev pub bob_history : List Entry
-bob_history =
-    by 1 HOST (GetcubeMade 0 (Some (subcube 0 0))) ∷ by 1 HOST (SpawnMade 0 0 (place 0 0) true) ∷ by 1 HOST (Arm 10)
-    ∷ by 1 0 (Take 0 0 None (Start 0 0)) ∷ by 1 0 (Take 1 0 None Idle) ∷ by 1 HOST (Look FoundQuiet) ∷ []
-
 abbrev pub the_record : Record
 the_record = record {
   users = record { name = codes "alice"; done = alice_done } ∷ record { name = codes "bob"; done = bob_done } ∷ [];
-  history = alice_history ++ bob_history;
+  history = first_cube ++ second_cube;
 }
 
 abbrev pub the_report : List ℕ

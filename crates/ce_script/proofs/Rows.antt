@@ -2,18 +2,15 @@
 use Rattle.std.proofs.Common.{refl, ◌++◌, ◌∷◌, ℕ, zero, suc, List, [], IsTrue, flat_map, take, drop, sym, append-nil, arith}
 use Rattle.rv_model.specs.Image.{ImageParts}
 use Rattle.ce_model.specs.declared.topology.TheConstants.{HOST}
-use Rattle.ce_model.specs.declared.topology.Place.{Place}
-use Rattle.ce_model.specs.declared.topology.BlockId.{BlockId}
-use Rattle.ce_model.specs.declared.topology.Subcube.{Subcube}
 use Rattle.ce_model.specs.declared.entry.Entry.{Entry}
-use Rattle.ce_model.specs.declared.entry.What.{What}
 use Rattle.ce_model.specs.declared.entry.What.TheVariants.{Arm, Look}
-use Rattle.ce_model.specs.declared.entry.Found.TheVariants.{Quiet as FoundQuiet}
+use Rattle.ce_model.specs.declared.entry.LookResult.TheVariants.{Quiet as FoundQuiet}
+pub use Rattle.ce_model.specs.Literals.{of_actor as by, place, block, sub_at as subcube, aa as first_bytes, bb as second_bytes, cc_ as third_bytes}
 use Rattle.ce_model.specs.Cube.{Cube, opening, next_call}
 use Rattle.ce_host.specs.declared.command.Command.{Command}
 use Rattle.ce_host.specs.declared.answer.Answer.{Answer}
 use Rattle.ce_host.specs.declared.answer.Answer.TheVariants.{Quiet}
-use Rattle.ce_script.specs.Rounds.{RoundKind, IsTurn, IsSerialRound, IsRoundWithWork, IsRoundWithoutWork, AreTurnsOver, asks_for_work, joined}
+use Rattle.ce_script.specs.Rounds.{RoundKind, IsTurn, IsSerialRound, IsRoundWithWork, IsRoundWithoutWork, AreTurnsOver, asks_for_work, joined_lists}
 use Rattle.ce_script.specs.Commands.{IsRun}
 use Rattle.ce_script.specs.Moments.{moments}
 use Rattle.ce_script.specs.Doings.{Doing}
@@ -21,18 +18,6 @@ use Rattle.ce_script.specs.Doings.{Doing}
 -- lines of text
 abbrev pub lines : List (List ℕ) → List ℕ
 lines texts = flat_map (λ text. text ++ 10 ∷ []) texts
-
-abbrev pub by : ℕ → ℕ → What → Entry
-by user actor what = record { user = user; actor = actor; what = what }
-
-abbrev pub place : ℕ → ℕ → Place
-place node pid = record { node = node; pid = pid }
-
-abbrev pub block : ℕ → ℕ → BlockId
-block home index = record { home = home; index = index }
-
-abbrev pub subcube : ℕ → ℕ → Subcube
-subcube mask base = record { mask = mask; base = base }
 
 -- a command whose entries are so many of the history, behind so many
 abbrev pub doing_in : List Entry → Command → Answer → ℕ → ℕ → Doing
@@ -54,7 +39,7 @@ turns_over user image t asks (suc r) below = absurd (omega (arith, below))
 
 -- a run of one round with work and one without, whose look finds the cube quiet
 pub two_rounds : (kind : RoundKind) (user : ℕ) (image : ImageParts) (count : ℕ) (work idle : List Entry) → IsRoundWithWork kind 0 work → IsRoundWithoutWork kind 0 idle
-    → IsRun kind (one_cube user image) count Quiet (by user HOST (Arm count) ∷ (joined (work ∷ []) ++ (idle ++ by user HOST (Look FoundQuiet) ∷ [])))
+    → IsRun kind (one_cube user image) count Quiet (by user HOST (Arm count) ∷ (joined_lists (work ∷ []) ++ (idle ++ by user HOST (Look FoundQuiet) ∷ [])))
 two_rounds kind user image count work idle with_work without_work = record {
   rounds = work ∷ [];
   last = idle;

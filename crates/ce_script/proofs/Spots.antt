@@ -6,7 +6,7 @@ use Rattle.std.specs.List.{AllByRecursion, cons_option}
 use Rattle.std.specs.Option.{option_or}
 use Rattle.ce_script.specs.declared.script.ScriptKind.{ScriptKind}
 use Rattle.ce_script.specs.Lines.{Spot, spots_behind}
-use Rattle.ce_script.specs.Faults.{first_some, refused}
+use Rattle.ce_script.specs.Faults.{first_some, fault_where}
 
 -- ---- options
 
@@ -27,7 +27,7 @@ each_mapped_none f [] e = tt
 each_mapped_none f (one ∷ others) e =
     let both = or_none (f one) (first_some (map f others)) e in (both.0, each_mapped_none f others both.1)
 
-pub refused_none : (test : Bool) (kind : ScriptKind) → refused test kind ≡ None → test ≡ false
+pub refused_none : (test : Bool) (kind : ScriptKind) → fault_where test kind ≡ None → test ≡ false
 refused_none true kind e = absurd cc
 refused_none false kind e = refl
 

@@ -18,7 +18,7 @@ use Rattle.ce_script.specs.Verbs.{verb_of, is_machine, is_image, is_user, is_com
 use Rattle.ce_script.specs.Statements.{Statement, operand, is_of}
 use Rattle.ce_script.specs.Bodies.{fault_at}
 use Rattle.ce_script.specs.Sayings.{of_kind, names_in, distinct, image_said, images, image_names, users}
-use Rattle.ce_script.specs.Faults.{first_some, refused, is_unknown, has_wrong_count, has_unknown_form, operand_fault, operands_fault, is_one_too_many, lacks_end, lacks_machine, lacks_user, is_second_machine, line_fault, image_fault, statement_fault}
+use Rattle.ce_script.specs.Faults.{first_some, fault_where, is_unknown, has_wrong_count, has_unknown_form, operand_fault, operands_fault, is_one_too_many, lacks_end, lacks_machine, lacks_user, is_second_machine, line_fault, image_fault, statement_fault}
 use Rattle.ce_script.specs.Reading.{word_fault, place_fault, operands_judged, with_name}
 use Rattle.ce_script.specs.Standing.{names_of, AreFew, rest_fault, verb_fault, line_judged, statement_judged, IsBehind}
 use Rattle.ce_script.proofs.Judged.{names_append}
@@ -123,13 +123,13 @@ placed_same front rest here reader verb is e =
 
 -- the fault of the place
 place_same : (front rest : List Statement) (here : Statement) (reader : Reader) (verb : Verb) → IsBehind reader front → verb_of (words here.line) ≡ Some verb
-    → option_or (refused (lacks_machine (record { before = front; here = here; behind = rest })) NoMachine)
-    (option_or (refused (is_second_machine (record { before = front; here = here; behind = rest })) SecondMachine) (refused (lacks_user (record { before = front; here = here; behind = rest })) NoUser))
+    → option_or (fault_where (lacks_machine (record { before = front; here = here; behind = rest })) NoMachine)
+    (option_or (fault_where (is_second_machine (record { before = front; here = here; behind = rest })) SecondMachine) (fault_where (lacks_user (record { before = front; here = here; behind = rest })) NoUser))
     ≡ place_fault (is_some reader.script.dim) (is_some reader.user) verb
 unfolding place_fault
 place_same front rest here reader verb is e =
     let table : Bool → Bool → Bool → Bool → Option ScriptKind = λ machine begun command user.
-    option_or (refused (not machine && not begun) NoMachine) (option_or (refused (machine && begun) SecondMachine) (refused (command && not user) NoUser)) in
+    option_or (fault_where (not machine && not begun) NoMachine) (option_or (fault_where (machine && begun) SecondMachine) (fault_where (command && not user) NoUser)) in
     ap (λ b. table b (list_any (is_of is_machine) front) (is_of is_command here) (list_any (is_of is_user) front)) (kind_is is_machine here verb e)
     ∙ ap (λ b. table (is_machine verb) b (is_of is_command here) (list_any (is_of is_user) front)) (sym is.machine)
     ∙ ap (λ b. table (is_machine verb) (is_some reader.script.dim) b (list_any (is_of is_user) front)) (kind_is is_command here verb e)
@@ -138,12 +138,12 @@ place_same front rest here reader verb is e =
 -- what stands behind the operands
 abbrev behind_operands : (reader : Reader) (verb : Verb) (here : Statement) → Option ScriptKind
 behind_operands reader verb here =
-    option_or (refused (nat_lt greatest_users (length (cond (is_user verb) (with_name reader.script.users (operand 1 here)) reader.script.users))
+    option_or (fault_where (nat_lt greatest_users (length (cond (is_user verb) (with_name reader.script.users (operand 1 here)) reader.script.users))
     || nat_lt greatest_images (length (names_of reader ++ cond (is_image verb) (operand 1 here ∷ []) []))) TooMany)
-    (refused (is_image verb && is_none here.body) NoEnd)
+    (fault_where (is_image verb && is_none here.body) NoEnd)
 
-few_by : (users images : Bool) (operands : Option ScriptKind) → users ≡ false → images ≡ false → option_or operands (option_or (refused (users || images) TooMany) (refused (false && true) NoEnd)) ≡ operands
-few_by users images operands e f = ap (λ u. option_or operands (option_or (refused (u || images) TooMany) None)) e ∙ ap (λ i. option_or operands (option_or (refused i TooMany) None)) f ∙ or_none operands
+few_by : (users images : Bool) (operands : Option ScriptKind) → users ≡ false → images ≡ false → option_or operands (option_or (fault_where (users || images) TooMany) (fault_where (false && true) NoEnd)) ≡ operands
+few_by users images operands e f = ap (λ u. option_or operands (option_or (fault_where (u || images) TooMany) None)) e ∙ ap (λ i. option_or operands (option_or (fault_where i TooMany) None)) f ∙ or_none operands
 
 few_images : (reader : Reader) → AreFew reader → nat_lt greatest_images (length (names_of reader ++ [])) ≡ false
 few_images reader few =
@@ -162,20 +162,20 @@ rest_same : (reader : Reader) (verb : Verb) (here : Statement) → AreFew reader
 unfolding operands_judged
 rest_same reader User here few =
     let name = operand 1 here in
-    let bad = refused (not (is_name name)) BadName in
+    let bad = fault_where (not (is_name name)) BadName in
     let more = nat_lt greatest_users (length (with_name reader.script.users name)) in
-    ap (λ images. option_or (option_or bad None) (option_or (refused (more || images) TooMany) None)) (few_images reader few)
-    ∙ ap (λ over. option_or (option_or bad None) (option_or (refused over TooMany) None)) (or_false more)
-    ∙ ap (λ rest. option_or (option_or bad None) rest) (or_none (refused more TooMany))
-    ∙ ap (λ front. option_or front (refused more TooMany)) (or_none bad)
+    ap (λ images. option_or (option_or bad None) (option_or (fault_where (more || images) TooMany) None)) (few_images reader few)
+    ∙ ap (λ over. option_or (option_or bad None) (option_or (fault_where over TooMany) None)) (or_false more)
+    ∙ ap (λ rest. option_or (option_or bad None) rest) (or_none (fault_where more TooMany))
+    ∙ ap (λ front. option_or front (fault_where more TooMany)) (or_none bad)
 rest_same reader Image here few =
     let name = operand 1 here in
     let named = operand_fault (names_of reader) NewImage name in
     let over = nat_lt greatest_images (length (names_of reader ++ name ∷ [])) in
-    let end = refused (is_none here.body) NoEnd in
-    ap (λ users. option_or (option_or named None) (option_or (refused (users || over) TooMany) end)) (few_users reader few)
-    ∙ ap (λ front. option_or front (option_or (refused over TooMany) end)) (or_none named)
-    ∙ sym (or_assoc named (refused over TooMany) end)
+    let end = fault_where (is_none here.body) NoEnd in
+    ap (λ users. option_or (option_or named None) (option_or (fault_where (users || over) TooMany) end)) (few_users reader few)
+    ∙ ap (λ front. option_or front (option_or (fault_where over TooMany) end)) (or_none named)
+    ∙ sym (or_assoc named (fault_where over TooMany) end)
 rest_same reader Machine here few = few_by _ _ (operands_judged (names_of reader) Machine here) (few_users reader few) (few_images reader few)
 rest_same reader Getcube here few = few_by _ _ (operands_judged (names_of reader) Getcube here) (few_users reader few) (few_images reader few)
 rest_same reader Peek here few = few_by _ _ (operands_judged (names_of reader) Peek here) (few_users reader few) (few_images reader few)
@@ -195,13 +195,13 @@ unfolding line_fault word_fault
 with_verb front rest here reader verb is few e =
     let spot : Spot Statement = record { before = front; here = here; behind = rest } in
     let word = word_fault here in
-    let end = refused (lacks_end here) NoEnd in
-    let many = refused (is_one_too_many spot) TooMany in
-    in_parts (refused (has_bad_byte here.line) BadByte) (refused (is_unknown here) UnknownWord) (refused (has_wrong_count here) WordCount) (refused (lacks_machine spot) NoMachine) (refused (is_second_machine spot) SecondMachine) (refused (lacks_user spot) NoUser) (operands_fault spot) many end
+    let end = fault_where (lacks_end here) NoEnd in
+    let many = fault_where (is_one_too_many spot) TooMany in
+    in_parts (fault_where (has_bad_byte here.line) BadByte) (fault_where (is_unknown here) UnknownWord) (fault_where (has_wrong_count here) WordCount) (fault_where (lacks_machine spot) NoMachine) (fault_where (is_second_machine spot) SecondMachine) (fault_where (lacks_user spot) NoUser) (operands_fault spot) many end
     ∙ ap (λ place. option_or word (option_or place (option_or (operands_fault spot) (option_or many end)))) (place_same front rest here reader verb is e)
     ∙ ap (λ operands. option_or word (option_or (place_fault (is_some reader.script.dim) (is_some reader.user) verb) (option_or operands (option_or many end)))) (placed_same front rest here reader verb is e)
-    ∙ ap (λ over. option_or word (option_or (place_fault (is_some reader.script.dim) (is_some reader.user) verb) (option_or (operands_judged (names_of reader) verb here) (option_or (refused over TooMany) end)))) (too_many reader front rest here verb is few e)
-    ∙ ap (λ image. option_or word (option_or (place_fault (is_some reader.script.dim) (is_some reader.user) verb) (option_or (operands_judged (names_of reader) verb here) (option_or (refused (nat_lt greatest_users (length (cond (is_user verb) (with_name reader.script.users (operand 1 here)) reader.script.users)) || nat_lt greatest_images (length (names_of reader ++ cond (is_image verb) (operand 1 here ∷ []) []))) TooMany) (refused (image && is_none here.body) NoEnd))))) (kind_is is_image here verb e)
+    ∙ ap (λ over. option_or word (option_or (place_fault (is_some reader.script.dim) (is_some reader.user) verb) (option_or (operands_judged (names_of reader) verb here) (option_or (fault_where over TooMany) end)))) (too_many reader front rest here verb is few e)
+    ∙ ap (λ image. option_or word (option_or (place_fault (is_some reader.script.dim) (is_some reader.user) verb) (option_or (operands_judged (names_of reader) verb here) (option_or (fault_where (nat_lt greatest_users (length (cond (is_user verb) (with_name reader.script.users (operand 1 here)) reader.script.users)) || nat_lt greatest_images (length (names_of reader ++ cond (is_image verb) (operand 1 here ∷ []) []))) TooMany) (fault_where (image && is_none here.body) NoEnd))))) (kind_is is_image here verb e)
     ∙ ap (λ rest. option_or word (option_or (place_fault (is_some reader.script.dim) (is_some reader.user) verb) rest)) (rest_same reader verb here few)
     ∙ ap (λ found. option_or word (option_and_then (λ it. verb_fault reader it here) found)) (sym e)
 
@@ -209,11 +209,11 @@ without_verb : (front rest : List Statement) (here : Statement) (reader : Reader
     → line_fault (record { before = front; here = here; behind = rest }) ≡ line_judged reader here
 unfolding line_fault word_fault
 without_verb front rest here reader e =
-    let bytes = refused (has_bad_byte here.line) BadByte in
+    let bytes = fault_where (has_bad_byte here.line) BadByte in
     let spot : Spot Statement = record { before = front; here = here; behind = rest } in
-    let count = refused (has_wrong_count here) WordCount in
-    let later = option_or count (option_or (refused (lacks_machine spot) NoMachine) (option_or (refused (is_second_machine spot) SecondMachine) (option_or (refused (lacks_user spot) NoUser) (option_or (operands_fault spot) (option_or (refused (is_one_too_many spot) TooMany) (option_or (refused (lacks_end here) NoEnd) None)))))) in
-    let unknown : refused (is_unknown here) UnknownWord ≡ Some UnknownWord = ap (λ (found : Option Verb). refused (is_none found || (is_of is_image here && has_unknown_form (words here.line))) UnknownWord) e in
+    let count = fault_where (has_wrong_count here) WordCount in
+    let later = option_or count (option_or (fault_where (lacks_machine spot) NoMachine) (option_or (fault_where (is_second_machine spot) SecondMachine) (option_or (fault_where (lacks_user spot) NoUser) (option_or (operands_fault spot) (option_or (fault_where (is_one_too_many spot) TooMany) (option_or (fault_where (lacks_end here) NoEnd) None)))))) in
+    let unknown : fault_where (is_unknown here) UnknownWord ≡ Some UnknownWord = ap (λ (found : Option Verb). fault_where (is_none found || (is_of is_image here && has_unknown_form (words here.line))) UnknownWord) e in
     ap (λ it. option_or bytes (option_or it later)) unknown
     ∙ last bytes (option_and_then (λ it. verb_fault reader it here) (verb_of (words here.line)))
     ∙ sym (ap (λ it. option_or (option_or bytes (option_or it count)) (option_and_then (λ it. verb_fault reader it here) (verb_of (words here.line)))) unknown)

@@ -7,9 +7,9 @@ use Rattle.hex.specs.Hex.{encode_with}
 use Rattle.ce_model.specs.declared.process.Status.TheVariants.{Unborn, Running, Asking, Polling, Stopped}
 use Rattle.ce_model.specs.declared.topology.TheConstants.{HOST}
 use Rattle.ce_model.specs.declared.entry.What.TheVariants.{Arm, Look, HostTake, Send as SendMade, Spawn as SpawnMade, Kill as KillMade, Note, Take}
-use Rattle.ce_model.specs.declared.entry.Found.TheVariants.{Quiet as FoundQuiet, Spent as FoundSpent, Busy}
+use Rattle.ce_model.specs.declared.entry.LookResult.TheVariants.{Quiet as FoundQuiet, Spent as FoundSpent, Busy}
 use Rattle.ce_model.specs.declared.entry.KillFound.TheVariants.{Killed as FoundKilled, Unused as FoundUnused, Already as FoundAlready}
-use Rattle.ce_model.specs.declared.entry.Given.TheVariants.{Start, Mail, Kill as GivenKill, Poll, Idle, Spent as GivenSpent}
+use Rattle.ce_model.specs.declared.entry.TakeResult.TheVariants.{Start, Mail, Kill as GivenKill, Poll, Idle, Spent as GivenSpent}
 use Rattle.ce_model.specs.Limits.{host_home}
 use Rattle.ce_host.specs.declared.command.Command.TheVariants.{Getcube, Peek, Freecube, Spawn, Kill, Send, Run, Recv, Dump, Trace}
 use Rattle.ce_host.specs.declared.answer.Answer.TheVariants.{NoCube, Held, None as Nothing, Granted, Peeked, Freed, Ok as Done, NoPlace, Used, Unused, Already, NoStore, Quiet, Spent, Message, State, Entries}

@@ -5,15 +5,15 @@ use Rattle.rv_model.specs.Image.{ImageParts}
 use Rattle.ce_model.specs.declared.topology.TheConstants.{HOST}
 use Rattle.ce_model.specs.declared.entry.Entry.{Entry}
 use Rattle.ce_model.specs.declared.entry.What.TheVariants.{Arm, Look, HostTake, Spawn as SpawnMade, Take}
-use Rattle.ce_model.specs.declared.entry.Found.TheVariants.{Quiet as FoundQuiet}
-use Rattle.ce_model.specs.declared.entry.Given.TheVariants.{Start, Mail, Idle}
+use Rattle.ce_model.specs.declared.entry.LookResult.TheVariants.{Quiet as FoundQuiet}
+use Rattle.ce_model.specs.declared.entry.TakeResult.TheVariants.{Start, Mail, Idle}
 use Rattle.ce_model.specs.Limits.{process_count, home_blocks, host_home, greatest_dim}
 use Rattle.ce_model.specs.Subcubes.{extract, relative}
 use Rattle.ce_model.specs.Parcels.{Parcel}
 use Rattle.ce_model.specs.Node.{Node, fresh, takes}
 use Rattle.ce_model.specs.Saying.{says}
 use Rattle.ce_model.specs.Hearing.{hears, start_of, mail_of, told}
-use Rattle.ce_model.specs.Trace.{sent_to, taken_by, waiting}
+use Rattle.ce_model.specs.Trace.{sent_to, taken_by, waiting_items}
 use Rattle.ce_model.specs.Cube.{Cube, opening, state, hoststore}
 use Rattle.ce_host.specs.declared.command.Command.{Command}
 use Rattle.ce_host.specs.declared.command.Command.TheVariants.{Getcube, Send, Spawn, Recv}
@@ -24,8 +24,8 @@ use Rattle.ce_script.specs.Moments.{moments, holding}
 use Rattle.ce_script.specs.Commands.{IsRecv, message_next, no_message}
 use Rattle.ce_script.specs.Doings.{Doing, AreDoings}
 use Rattle.ce_script.specs.Legal.{machine_of}
-use Rattle.ce_script.proofs.Rows.{doing_in, one_cube, turn_is_round, turns_over, by, place, block, subcube}
-use Rattle.ce_script.proofs.RowUnborn.{first_bytes, second_bytes, sent, sent_back, the_script, the_record, alice_done}
+use Rattle.ce_script.proofs.Rows.{first_bytes, second_bytes, doing_in, one_cube, turn_is_round, turns_over, by, place, block, subcube}
+use Rattle.ce_script.proofs.RowUnborn.{sent, sent_back, the_script, the_record, alice_done}
 
 abbrev doing : Command → Answer → ℕ → ℕ → Doing
 doing = doing_in the_record.history
@@ -62,7 +62,7 @@ abbrev sent_bb : ImageParts → Node
 sent_bb image = hears (image ∷ []) (says (given_bb image)).node (told 0)
 
 -- between two messages the process waits for one
-pub record SaysRow (image : ImageParts) : Type 0 where
+pub record HasSaidRow (image : ImageParts) : Type 0 where
   pub after_aa : (says (sent_aa image)).call ≡ takes 1 0 None
   pub after_bb : (says (sent_bb image)).call ≡ takes 1 0 None
   pub still : (says (says (sent_bb image)).node).call ≡ takes 1 0 None
@@ -146,19 +146,19 @@ third_received image = record {
   reply = refl;
 }
 
-first_over : (image : ImageParts) → SaysRow image → AreTurnsOver (the_cube image) (opening (the_cube image)) first_trace
-unfolding state waiting sent_to taken_by
+first_over : (image : ImageParts) → HasSaidRow image → AreTurnsOver (the_cube image) (opening (the_cube image)) first_trace
+unfolding state waiting_items sent_to taken_by
 first_over image h = turns_over 0 image first_trace (rw h.after_aa refl)
 
-second_over : (image : ImageParts) → SaysRow image → AreTurnsOver (the_cube image) (opening (the_cube image)) second_trace
-unfolding state waiting sent_to taken_by
+second_over : (image : ImageParts) → HasSaidRow image → AreTurnsOver (the_cube image) (opening (the_cube image)) second_trace
+unfolding state waiting_items sent_to taken_by
 second_over image h = turns_over 0 image second_trace (rw h.after_bb refl)
 
-third_over : (image : ImageParts) → SaysRow image → AreTurnsOver (the_cube image) (opening (the_cube image)) third_trace
-unfolding state hears waiting sent_to taken_by
+third_over : (image : ImageParts) → HasSaidRow image → AreTurnsOver (the_cube image) (opening (the_cube image)) third_trace
+unfolding state hears waiting_items sent_to taken_by
 third_over image h = turns_over 0 image third_trace (rw h.still refl)
 
-pub alice_did : (image : ImageParts) → SaysRow image → AreDoings serial (machine_of (the_script image)) the_record.history 0 alice_done alice_doings
+pub alice_did : (image : ImageParts) → HasSaidRow image → AreDoings serial (machine_of (the_script image)) the_record.history 0 alice_done alice_doings
 unfolding moments holding hoststore relative extract process_count home_blocks host_home greatest_dim
 alice_did image h = record {
   replies = refl;

@@ -5,8 +5,8 @@ use Rattle.rv_model.specs.Image.{ImageParts}
 use Rattle.ce_model.specs.declared.topology.TheConstants.{HOST}
 use Rattle.ce_model.specs.declared.entry.Entry.{Entry}
 use Rattle.ce_model.specs.declared.entry.What.TheVariants.{Arm, Look, Spawn as SpawnMade, Take}
-use Rattle.ce_model.specs.declared.entry.Found.TheVariants.{Quiet as FoundQuiet}
-use Rattle.ce_model.specs.declared.entry.Given.TheVariants.{Start, Idle}
+use Rattle.ce_model.specs.declared.entry.LookResult.TheVariants.{Quiet as FoundQuiet}
+use Rattle.ce_model.specs.declared.entry.TakeResult.TheVariants.{Start, Idle}
 use Rattle.ce_model.specs.Limits.{process_count, home_blocks, host_home, greatest_dim}
 use Rattle.ce_model.specs.Subcubes.{extract, relative}
 use Rattle.ce_model.specs.Node.{Node, fresh, takes}
@@ -22,8 +22,8 @@ use Rattle.ce_script.specs.Moments.{moments, holding}
 use Rattle.ce_script.specs.Commands.{IsRun}
 use Rattle.ce_script.specs.Doings.{Doing, AreDoings}
 use Rattle.ce_script.specs.Legal.{IsRecordOfScript, machine_of}
-use Rattle.ce_script.proofs.Rows.{two_rounds, doing_in, one_cube, turn_is_round, turns_over, by, place, subcube}
-use Rattle.ce_script.proofs.RowUsedAgain.{first_bytes, second_bytes, third_bytes, the_script, the_record, alice_done, bob_done}
+use Rattle.ce_script.proofs.Rows.{first_bytes, second_bytes, third_bytes, two_rounds, doing_in, one_cube, turn_is_round, turns_over, by, place, subcube}
+use Rattle.ce_script.proofs.RowUsedAgain.{the_script, the_record, alice_done, bob_done}
 
 pub is_kept : (image : ImageParts) → IsRecordOfScript (the_script image) the_record
 is_kept image = record { users = refl; commands = (refl, (refl, tt)) }
@@ -60,7 +60,7 @@ abbrev pub begun : ImageParts → Node
 begun image = hears (image ∷ []) (says (fresh 0 0 1)).node (start_of 0 0)
 
 -- what the process says: at first the node asks for work; then its process waits for a message, and does so still
-pub record SaysRow (image : ImageParts) : Type 0 where
+pub record HasSaidRow (image : ImageParts) : Type 0 where
   pub asks : (says (fresh 0 0 1)).call ≡ takes 0 0 None
   pub waits : (says (begun image)).call ≡ takes 1 0 None
   pub still : (says (says (begun image)).node).call ≡ takes 1 0 None
@@ -77,7 +77,7 @@ run_segment = by 1 HOST (Arm 10) ∷ (start_round ++ (idle_round ++ by 1 HOST (L
 abbrev pub bob_trace : List Entry
 bob_trace = by 1 HOST (SpawnMade 0 0 (place 0 0) true) ∷ run_segment
 
-bob_over : (image : ImageParts) → SaysRow image → AreTurnsOver (bob_cube image) (opening (bob_cube image)) bob_trace
+bob_over : (image : ImageParts) → HasSaidRow image → AreTurnsOver (bob_cube image) (opening (bob_cube image)) bob_trace
 unfolding state hears
 bob_over image h = turns_over 1 image bob_trace (rw h.still refl)
 
@@ -90,7 +90,7 @@ idle_is_round = turn_is_round idle_round (refl, tt, (refl, tt))
 bob_run : (image : ImageParts) → IsRun serial (bob_cube image) 10 Quiet run_segment
 bob_run image = two_rounds serial 1 image 10 start_round idle_round (start_is_round, refl) (idle_is_round, refl)
 
-pub bob_did : (image : ImageParts) → SaysRow image → AreDoings serial (machine_of (the_script image)) the_record.history 1 bob_done bob_doings
+pub bob_did : (image : ImageParts) → HasSaidRow image → AreDoings serial (machine_of (the_script image)) the_record.history 1 bob_done bob_doings
 unfolding moments holding relative extract process_count greatest_dim
 bob_did image h = record {
   replies = refl;

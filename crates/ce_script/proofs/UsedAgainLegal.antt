@@ -5,16 +5,17 @@ use Rattle.rv_model.specs.Image.{ImageParts}
 use Rattle.ce_model.specs.declared.topology.TheConstants.{HOST}
 use Rattle.ce_model.specs.declared.entry.Entry.{Entry}
 use Rattle.ce_model.specs.declared.entry.What.TheVariants.{Arm, Spawn, Take}
-use Rattle.ce_model.specs.declared.entry.Given.TheVariants.{Start, Idle}
+use Rattle.ce_model.specs.declared.entry.TakeResult.TheVariants.{Start, Idle}
 use Rattle.ce_model.specs.Limits.{process_count, home_blocks, host_home, greatest_dim}
 use Rattle.ce_model.specs.Subcubes.{extract, deposit, relative, subcubes, first_free}
 use Rattle.ce_model.specs.Answers.{answer, is_quiet}
-use Rattle.ce_model.specs.Trace.{sent_to, taken_by, waiting, spawned, killed, mark, armed, dispatched, parcels}
+use Rattle.ce_model.specs.Trace.{sent_to, taken_by, waiting_items, spawned_ids, killed_ids, mark, allowed_dispatches, made_dispatches, parcels}
 use Rattle.ce_model.specs.Views.{view}
-use Rattle.ce_model.specs.Cube.{Cube, opening, state, hoststore, HostCall, Solo, acts, whole_trace, acted, solo, next_entry, start_image, allow, look_round, IsAlone}
+use Rattle.ce_model.specs.Cube.{Cube, opening, state, hoststore, HostCall, Solo, acts, whole_trace, solo_from, solo, next_entry, start_image, allow, look_round, IsAlone}
 use Rattle.ce_model.specs.Owners.{IsOwned}
 use Rattle.ce_model.specs.Order.{IsInOrder}
-use Rattle.ce_model.specs.Machine.{after}
+use Rattle.ce_model.specs.Machine.{IsLawful, after}
+use Rattle.ce_model.proofs.Rows.UsedAgain.{row_is_lawful}
 use Rattle.ce_script.specs.Rounds.{serial}
 use Rattle.ce_script.specs.Moments.{moments, holding}
 use Rattle.ce_host.specs.declared.command.Command.TheVariants.{Getcube}
@@ -23,10 +24,9 @@ use Rattle.ce_host.specs.declared.answer.Answer.TheVariants.{Held, None as Nothi
 use Rattle.ce_script.specs.Doings.{IsRefusedExactly, Doing, AreRefusedExactly}
 use Rattle.ce_script.specs.Legal.{EachCube, IsLegal, images_of, machine_of}
 use Rattle.ce_script.specs.Serial.{IsSerial}
-use Rattle.ce_script.proofs.Rows.{doing_in, by, place}
-use Rattle.ce_script.proofs.RowUsedAgain.{first_bytes, second_bytes, third_bytes, the_script, the_record, alice_sends}
-use Rattle.ce_script.proofs.UsedAgainDone.{SaysRow, alice_doings, bob_doings, bob_cube, bob_trace, is_kept, alice_did, bob_did}
-use Rattle.ce_script.proofs.UsedAgainLawful.{is_lawful}
+use Rattle.ce_script.proofs.Rows.{first_bytes, second_bytes, third_bytes, doing_in, by, place}
+use Rattle.ce_script.proofs.RowUsedAgain.{the_script, the_record, alice_sends}
+use Rattle.ce_script.proofs.UsedAgainDone.{HasSaidRow, alice_doings, bob_doings, bob_cube, bob_trace, is_kept, alice_did, bob_did}
 
 -- ---- refusals
 
@@ -48,7 +48,7 @@ abbrev alice_trace : List Entry
 alice_trace = alice_sends 0 first_bytes ∷ alice_sends 1 second_bytes ∷ alice_sends 2 third_bytes ∷ []
 
 alice_alone : (image : ImageParts) → IsAlone (alice_cube image) alice_trace
-unfolding solo acted next_entry hoststore answer waiting sent_to taken_by spawned killed mark armed dispatched parcels process_count home_blocks host_home
+unfolding solo solo_from next_entry hoststore answer waiting_items sent_to taken_by spawned_ids killed_ids mark allowed_dispatches made_dispatches parcels process_count home_blocks host_home
 alice_alone image = refl
 
 -- bob's cube in the middle of its run
@@ -83,27 +83,27 @@ abbrev rested_now : Solo
 rested_now = now_at (spawned_entry ∷ armed_entry ∷ started_entry ∷ rested_entry ∷ []) (look_round ∷ [])
 
 spawns : (image : ImageParts) → bob_acts image (now_at [] (start_image 0 (place 0 0) ∷ allow 10 ∷ look_round ∷ [])) HOST ≡ Some spawned_now
-unfolding next_entry hoststore answer waiting sent_to taken_by spawned killed mark armed dispatched parcels process_count home_blocks host_home
+unfolding next_entry hoststore answer waiting_items sent_to taken_by spawned_ids killed_ids mark allowed_dispatches made_dispatches parcels process_count home_blocks host_home
 spawns image = refl
 
 arms : (image : ImageParts) → bob_acts image spawned_now HOST ≡ Some armed_now
-unfolding next_entry hoststore answer waiting sent_to taken_by spawned killed mark armed dispatched parcels home_blocks host_home
+unfolding next_entry hoststore answer waiting_items sent_to taken_by spawned_ids killed_ids mark allowed_dispatches made_dispatches parcels home_blocks host_home
 arms image = refl
 
-starts : (image : ImageParts) → SaysRow image → bob_acts image armed_now 0 ≡ Some started_now
-unfolding next_entry state hoststore answer waiting sent_to taken_by spawned killed mark armed dispatched parcels home_blocks host_home
+starts : (image : ImageParts) → HasSaidRow image → bob_acts image armed_now 0 ≡ Some started_now
+unfolding next_entry state hoststore answer waiting_items sent_to taken_by spawned_ids killed_ids mark allowed_dispatches made_dispatches parcels home_blocks host_home
 starts image h = rw h.asks refl
 
-rests : (image : ImageParts) → SaysRow image → bob_acts image started_now 0 ≡ Some rested_now
-unfolding next_entry state hoststore answer waiting sent_to taken_by spawned killed mark armed dispatched parcels home_blocks host_home
+rests : (image : ImageParts) → HasSaidRow image → bob_acts image started_now 0 ≡ Some rested_now
+unfolding next_entry state hoststore answer waiting_items sent_to taken_by spawned_ids killed_ids mark allowed_dispatches made_dispatches parcels home_blocks host_home
 rests image h = rw h.waits refl
 
 looks : (image : ImageParts) → bob_acts image rested_now HOST ≡ Some (now_at bob_trace [])
-unfolding next_entry hoststore answer is_quiet waiting sent_to taken_by spawned killed mark armed dispatched parcels home_blocks host_home
+unfolding next_entry hoststore answer is_quiet waiting_items sent_to taken_by spawned_ids killed_ids mark allowed_dispatches made_dispatches parcels home_blocks host_home
 looks image = refl
 
-bob_alone : (image : ImageParts) → SaysRow image → IsAlone (bob_cube image) bob_trace
-unfolding solo acted
+bob_alone : (image : ImageParts) → HasSaidRow image → IsAlone (bob_cube image) bob_trace
+unfolding solo solo_from
 bob_alone image h =
     let cube = bob_cube image in
     let go : Option Solo → List ℕ → Option (List Entry) = λ now schedule. option_and_then (λ (end : Solo). whole_trace end.trace end.asked) (fold (λ now' actor. option_and_then (λ solo. acts cube (opening cube) solo actor) now') now schedule) in
@@ -113,16 +113,20 @@ bob_alone image h =
     ∙ ap (λ now. go now (HOST ∷ [])) (rests image h)
     ∙ ap (λ now. go now []) (looks image)
 
-are_alone : (image : ImageParts) → SaysRow image → EachCube IsAlone (images_of (the_script image)) the_record.history
+are_alone : (image : ImageParts) → HasSaidRow image → EachCube IsAlone (images_of (the_script image)) the_record.history
 unfolding view extract relative host_home greatest_dim
 are_alone image h = (alice_alone image, (bob_alone image h, tt))
 
 -- ---- the record
 
+-- the machine allows the history, which is that of the model's row
+pub is_lawful : (image : ImageParts) → HasSaidRow image → IsLawful (machine_of (the_script image)) the_record.history
+is_lawful image h = row_is_lawful image (record { asks = h.asks; waits = h.waits })
+
 abbrev doings_by : ℕ → List Doing
 doings_by user = if user == 0 then alice_doings else bob_doings
 
-pub is_legal : (image : ImageParts) → SaysRow image
+pub is_legal : (image : ImageParts) → HasSaidRow image
     → EachCube (λ cube t. IsOwned cube (opening cube) t) (images_of (the_script image)) the_record.history
     → EachCube (λ cube t. IsInOrder (opening cube).standing t) (images_of (the_script image)) the_record.history
     → IsLegal serial (the_script image) the_record
@@ -137,7 +141,7 @@ is_legal image h owned in_order = record {
   refused = (alice_refused image, (bob_refused image, tt));
 }
 
-pub is_serial : (image : ImageParts) → SaysRow image → IsSerial (the_script image) the_record
+pub is_serial : (image : ImageParts) → HasSaidRow image → IsSerial (the_script image) the_record
 unfolding moments
 is_serial image h = record {
   doings = map (λ doing. (0, doing)) alice_doings ++ map (λ doing. (1, doing)) bob_doings;

@@ -1,5 +1,6 @@
 -- A text without a fault keeps the limits.
 use Rattle.std.proofs.Common.{◌≡◌, ℕ, ◌*◌, ◌<◌, ◌≤◌, List, [], ◌∷◌, ◌++◌, length, Bool, true, false, not, cond, ◌&&◌, ◌||◌, Option, Some, None, refl, sym, ap, subst, ◌∙◌, arith, nat_lt, nat_le, map}
+use Rattle.std.proofs.lemmas.Bool.{not-false, or_parts}
 use Rattle.std.proofs.lemmas.Bool.Decides.{nat_tests}
 use Rattle.std.proofs.lemmas.List.{length-map}
 use Rattle.std.specs.Prelude.{IfSome, find, is_none, unwrap_or, option_map, option_and_then, bytes_eq, codes}
@@ -23,8 +24,7 @@ use Rattle.ce_script.specs.Faults.{is_among, operand_fault, statement_fault, fir
 use Rattle.ce_script.specs.Scripts.{IsScript}
 use Rattle.ce_script.specs.Bounds.{AreNames, IsCommandWithin, IsOwnCommandWithin, IsWithinLimits}
 use Rattle.ce_script.proofs.Spots.{or_none, each_mapped_none, refused_none, each_of, each_both, each_made, each_whole, last_spot}
-use Rattle.ce_script.proofs.Judged.{not_false, IsRight, each_right, operands_right, the_verb, machine_alone, names_append}
-use Rattle.ce_script.proofs.Distinct.{neither}
+use Rattle.ce_script.proofs.Judged.{IsRight, each_right, operands_right, the_verb, machine_alone, names_append}
 use Rattle.ce_script.proofs.NamesSaid.{user_names_are, image_names_are}
 use Rattle.ce_script.proofs.Members.{number_below, among_front, among_distinct, last_among}
 
@@ -51,7 +51,7 @@ at_most most names word e =
 old_image : (before more : List (List ℕ)) (word : List ℕ) → operand_fault before OldImage word ≡ None → number_of word (before ++ more) < length (before ++ more)
 old_image before more word e =
     let unknown = refused_none (not (is_among before word)) UnknownImage (or_none _ _ e).1 in
-    number_below (before ++ more) word (among_front before more word (not_false (is_among before word) unknown))
+    number_below (before ++ more) word (among_front before more word (not-false (is_among before word) unknown))
 
 pub two_each : (digits : List ℕ) → 2 * length (digit_bytes digits) ≤ length digits
 two_each [] = omega arith
@@ -179,14 +179,14 @@ own_within spot is own e =
 each_own_within : (all : List Statement) → AllByRecursion IsRight (spots all) → AllByRecursion (IsOwnCommandWithin (length (users all)) (length (image_names all))) (commands all)
 unfolding commands
 each_own_within all each =
-    let Whole : Spot Statement → Type 0 = λ spot. spot.before ++ spot.here ∷ spot.behind ≡ all in
-    let Own : ℕ × Command → Type 0 = IsOwnCommandWithin (length (users all)) (length (image_names all)) in
-    let Known : Spot Statement → Type 0 = λ spot. IsRight spot × Whole spot in
-    let Made : Spot Statement → Type 0 = λ spot. (own : ℕ × Command) → command_at all spot ≡ Some own → Own own in
-    each_made (command_at all) Own (spots all)
-    (each_of Known Made (spots all)
+    let IsWhole : Spot Statement → Type 0 = λ spot. spot.before ++ spot.here ∷ spot.behind ≡ all in
+    let IsWithin : ℕ × Command → Type 0 = IsOwnCommandWithin (length (users all)) (length (image_names all)) in
+    let IsKnown : Spot Statement → Type 0 = λ spot. IsRight spot × IsWhole spot in
+    let IsMadeWithin : Spot Statement → Type 0 = λ spot. (own : ℕ × Command) → command_at all spot ≡ Some own → IsWithin own in
+    each_made (command_at all) IsWithin (spots all)
+    (each_of IsKnown IsMadeWithin (spots all)
     (λ spot known own e. subst (λ (every : List Statement). command_at every spot ≡ Some own → IsOwnCommandWithin (length (users every)) (length (image_names every)) own) known.1 (own_within spot known.0 own) e)
-    (each_both IsRight Whole (spots all) each (each_whole [] all)))
+    (each_both IsRight IsWhole (spots all) each (each_whole [] all)))
 
 -- ---- how many users and images
 
@@ -199,7 +199,7 @@ few [] each = (omega arith, omega arith)
 few (first ∷ others) each =
     let last = last_spot IsRight [] first others each in
     let P : List Statement → Type 0 = λ all. nat_lt greatest_users (length (users all)) || nat_lt greatest_images (length (image_names all)) ≡ false in
-    let both = neither (nat_lt greatest_users (length (users (first ∷ others)))) (nat_lt greatest_images (length (image_names (first ∷ others)))) (subst P last.2 last.1.many) in
+    let both = or_parts (nat_lt greatest_users (length (users (first ∷ others)))) (nat_lt greatest_images (length (image_names (first ∷ others)))) (subst P last.2 last.1.many) in
     (not_more _ greatest_users both.0, not_more _ greatest_images both.1)
 
 -- ---- the machine
@@ -266,16 +266,16 @@ within_limits text script is =
     let each = all_right text is.no_fault in
     let counts = few all each in
     let image_count : length script.images ≡ length (image_names all) = ap length is.images ∙ same_count all in
-    let Own : ℕ → ℕ → List (ℕ × Command) → Type 0 = λ users images said. AllByRecursion (IsOwnCommandWithin users images) said in
+    let AreWithin : ℕ → ℕ → List (ℕ × Command) → Type 0 = λ users images said. AllByRecursion (IsOwnCommandWithin users images) said in
     record {
       dim = subst (λ (dim : Option ℕ). IfSome dim (λ d. d ≤ greatest_dim)) (sym is.dim) (dim_within all each);
       users = subst (λ (users : List (List ℕ)). length users ≤ greatest_users) (sym is.users) counts.0;
       user_names = subst AreNames (sym is.users) (user_names_are all each);
       images = subst (λ (n : ℕ). n ≤ greatest_images) (sym image_count) counts.1;
       image_names = subst AreNames (sym (ap (map (λ (named : Named). named.name)) is.images ∙ same_names all)) (image_names_are all each);
-      commands = subst (λ said. Own (length script.users) (length script.images) said) (sym is.commands)
-          (subst (λ (n : ℕ). Own n (length script.images) (commands all)) (sym (ap length is.users))
-          (subst (λ (n : ℕ). Own (length (users all)) n (commands all)) (sym image_count) (each_own_within all each)));
+      commands = subst (λ said. AreWithin (length script.users) (length script.images) said) (sym is.commands)
+          (subst (λ (n : ℕ). AreWithin n (length script.images) (commands all)) (sym (ap length is.users))
+          (subst (λ (n : ℕ). AreWithin (length (users all)) n (commands all)) (sym image_count) (each_own_within all each)));
       machine = λ e.
           let empty = none_at_all all (no_machine all each (sym is.dim ∙ e)) in
           (is.images ∙ empty.0, is.users ∙ empty.1, is.commands ∙ empty.2);

@@ -4,8 +4,8 @@ use Rattle.std.specs.Int.{w32, to_le_bytes}
 use Rattle.rv_model.specs.Image.{ImageParts, image_parts}
 use Rattle.rv_asm.specs.declared.fault.AsmFault.{AsmFault}
 use Rattle.rv_asm.specs.SecondPass.{Part, Instruction, Plain}
-use Rattle.rv_asm.specs.Assembly.{Assembly, assembled}
-use Rattle.ce_script.specs.Encoding.{word_of}
+use Rattle.rv_asm.specs.Assembly.{Assembly, assembly_of}
+use Rattle.rv_inst.specs.Encoding.{word_of}
 
 -- the bytes of parts, an instruction as its word, the lowest byte first
 abbrev pub part_bytes : List Part → List ℕ
@@ -20,4 +20,4 @@ laid_image (Err fault) = Err fault
 
 -- the image that a text describes, or its first fault, with the line in the text
 unfoldable pub assembly_image : List ℕ → Result ImageParts AsmFault
-assembly_image text = laid_image (assembled text)
+assembly_image text = laid_image (assembly_of text)

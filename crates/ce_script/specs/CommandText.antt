@@ -6,7 +6,7 @@ use Rattle.ce_model.specs.declared.process.Status.{Status}
 use Rattle.ce_model.specs.declared.process.Status.TheVariants.{Unborn, Running, Asking, Polling, Stopped}
 use Rattle.ce_model.specs.declared.topology.Place.{Place}
 use Rattle.ce_daemon.specs.declared.grant.Grant.{Grant}
-use Rattle.ce_daemon.specs.declared.grant.Peeked.{Peeked}
+use Rattle.ce_daemon.specs.declared.grant.PeekResult.{PeekResult}
 use Rattle.ce_host.specs.declared.command.Command.{Command}
 use Rattle.ce_host.specs.declared.command.Command.TheVariants.{Getcube, Peek, Freecube, Spawn, Kill, Send, Run, Recv, Dump, Trace}
 use Rattle.ce_host.specs.declared.answer.Answer.{Answer}
@@ -66,7 +66,7 @@ grant_text kept grant =
     codes ", "
     ++ words (user_name kept grant.user ∷ codes "dim" ∷ decimal grant.dim ∷ subcube_words grant.sub)
 
-abbrev pub peeked_text : Record → Peeked → List ℕ
+abbrev pub peeked_text : Record → PeekResult → List ℕ
 peeked_text kept found =
     words (codes "free" ∷ decimal found.free ∷ []) ++ flat_map (grant_text kept) found.grants
 

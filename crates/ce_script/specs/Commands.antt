@@ -8,8 +8,8 @@ use Rattle.ce_model.specs.declared.topology.Subcube.{Subcube}
 use Rattle.ce_model.specs.declared.entry.Entry.{Entry}
 use Rattle.ce_model.specs.declared.entry.What.{What}
 use Rattle.ce_model.specs.declared.entry.What.TheVariants.{Getcube as GetcubeMade, Peek as PeekMade, Drain, Freecube as FreecubeMade, Arm, Look, HostTake, Send as SendMade, Spawn as SpawnMade, Kill as KillMade}
-use Rattle.ce_model.specs.declared.entry.Found.{Found}
-use Rattle.ce_model.specs.declared.entry.Found.TheVariants.{Quiet as FoundQuiet, Spent as FoundSpent, Busy}
+use Rattle.ce_model.specs.declared.entry.LookResult.{LookResult}
+use Rattle.ce_model.specs.declared.entry.LookResult.TheVariants.{Quiet as FoundQuiet, Spent as FoundSpent, Busy}
 use Rattle.ce_model.specs.declared.entry.KillFound.{KillFound}
 use Rattle.ce_model.specs.declared.entry.KillFound.TheVariants.{Killed, Unused as FoundUnused, Already as FoundAlready}
 use Rattle.ce_model.specs.Parcels.{Parcel, Item}
@@ -18,12 +18,12 @@ use Rattle.ce_model.specs.Renaming.{entry_inward}
 use Rattle.ce_model.specs.Trace.{sent_to}
 use Rattle.ce_model.specs.Cube.{Cube, CubeState, opening, hoststore, parcel_numbered, rest}
 use Rattle.ce_model.specs.Machine.{MachineParts, after, cube_of}
-use Rattle.ce_daemon.specs.Peeks.{peeked}
+use Rattle.ce_daemon.specs.Peeks.{peek_result}
 use Rattle.ce_host.specs.declared.command.Command.{Command}
 use Rattle.ce_host.specs.declared.command.Command.TheVariants.{Getcube, Peek, Freecube, Spawn, Kill, Send, Run, Recv, Dump, Trace}
 use Rattle.ce_host.specs.declared.answer.Answer.{Answer}
 use Rattle.ce_host.specs.declared.answer.Answer.TheVariants.{NoCube, Held, None as Nothing, Granted, Peeked as PeekFound, Freed, Ok as Done, NoPlace, Used, Unused, Already, NoStore, Quiet, Spent, Message, State, Entries}
-use Rattle.ce_script.specs.Rounds.{RoundKind, joined, IsRoundWithWork, IsRoundWithoutWork, AreTurnsOver}
+use Rattle.ce_script.specs.Rounds.{RoundKind, joined_lists, IsRoundWithWork, IsRoundWithoutWork, AreTurnsOver}
 use Rattle.ce_script.specs.Moments.{Moment, entries_of, Holding}
 
 -- an entry of a user's host
@@ -53,7 +53,7 @@ abbrev pub IsPeek : MachineParts → ℕ → Answer → List Moment → Type 0
 IsPeek machine user answer moments =
     (before : List Entry)
     × (moments ≡ record { before = before; entry = by_host user PeekMade } ∷ [])
-    × (answer ≡ PeekFound (peeked machine (after before)))
+    × (answer ≡ PeekFound (peek_result machine (after before)))
 
 -- ---- at a place
 
@@ -89,7 +89,7 @@ IsSend user (id ∷ others) to bytes answer segment =
 -- ---- with rounds
 
 -- what `run` is answered, by what its look found; none ends with a look that finds Busy
-abbrev pub run_reply : Found → Option Answer
+abbrev pub run_reply : LookResult → Option Answer
 run_reply FoundQuiet = Some Quiet
 run_reply FoundSpent = Some Spent
 run_reply Busy = None
@@ -99,12 +99,12 @@ pub record IsRun (kind : RoundKind) (cube : Cube) (count : ℕ) (answer : Answer
     (segment : List Entry) : Type 0 where
   pub rounds : List (List Entry)
   pub last : List Entry
-  pub found : Found
+  pub found : LookResult
   pub with_work : AllByRecursion (IsRoundWithWork kind cube.dim) rounds
   pub without_work : IsRoundWithoutWork kind cube.dim last
   pub entries : segment
       ≡ by_host cube.user (Arm count)
-      ∷ (joined rounds ++ (last ++ by_host cube.user (Look found) ∷ []))
+      ∷ (joined_lists rounds ++ (last ++ by_host cube.user (Look found) ∷ []))
   pub reply : run_reply found ≡ Some answer
 
 -- how `recv` ends
@@ -114,7 +114,7 @@ pub data RecvEnd : Type 0 where
   -- none is there, and behind a round without work the one of this number
   message_behind_rest : List Entry → ℕ → RecvEnd
   -- none is there, nor behind a round without work, and a look finds how the cube stands
-  no_message : List Entry → Found → RecvEnd
+  no_message : List Entry → LookResult → RecvEnd
 
 -- the host looks for a message: the one of this number is there, or none
 abbrev pub host_take : ℕ → Option ℕ → Entry
@@ -138,7 +138,7 @@ end_rounds (no_message round found) = round ∷ []
 abbrev pub message_reply : Option Parcel → Option Answer
 message_reply parcel = option_map (λ found. Message found.from found.block.bytes) parcel
 
-abbrev pub no_message_reply : Found → Option Answer
+abbrev pub no_message_reply : LookResult → Option Answer
 no_message_reply FoundQuiet = Some Nothing
 no_message_reply FoundSpent = Some Spent
 no_message_reply Busy = None

@@ -7,12 +7,12 @@ use Rattle.ce_model.specs.declared.topology.BlockId.{BlockId}
 use Rattle.ce_model.specs.declared.entry.Entry.{Entry}
 use Rattle.ce_model.specs.declared.entry.What.{What}
 use Rattle.ce_model.specs.declared.entry.What.TheVariants.{Arm, Look, HostTake, Send, Spawn, Kill, Note, Take}
-use Rattle.ce_model.specs.declared.entry.Found.{Found}
-use Rattle.ce_model.specs.declared.entry.Found.TheVariants.{Quiet, Spent as FoundSpent, Busy}
+use Rattle.ce_model.specs.declared.entry.LookResult.{LookResult}
+use Rattle.ce_model.specs.declared.entry.LookResult.TheVariants.{Quiet, Spent as FoundSpent, Busy}
 use Rattle.ce_model.specs.declared.entry.KillFound.{KillFound}
 use Rattle.ce_model.specs.declared.entry.KillFound.TheVariants.{Killed, Unused, Already}
-use Rattle.ce_model.specs.declared.entry.Given.{Given}
-use Rattle.ce_model.specs.declared.entry.Given.TheVariants.{Start, Mail, Kill as GivenKill, Poll, Idle, Spent}
+use Rattle.ce_model.specs.declared.entry.TakeResult.{TakeResult}
+use Rattle.ce_model.specs.declared.entry.TakeResult.TheVariants.{Start, Mail, Kill as GivenKill, Poll, Idle, Spent}
 use Rattle.ce_script.specs.declared.script.Script.{Script}
 use Rattle.ce_script.specs.TextParts.{line, image_name, bytes_text, place_text, block_text}
 
@@ -32,7 +32,7 @@ target_text target = place_text target.0 ++ codes "=" ++ block_text target.1
 abbrev pub targets_text : List (Place × BlockId) → List ℕ
 targets_text targets = join_with_byte 44 (map target_text targets)
 
-abbrev pub found_text : Found → List ℕ
+abbrev pub found_text : LookResult → List ℕ
 found_text Quiet = codes "quiet"
 found_text FoundSpent = codes "spent"
 found_text Busy = codes "busy"
@@ -43,7 +43,7 @@ kill_found_text Unused = codes "unused"
 kill_found_text Already = codes "already"
 
 -- what a node is given
-abbrev pub given_words : Script → Given → List (List ℕ)
+abbrev pub given_words : Script → TakeResult → List (List ℕ)
 given_words script (Start pid image) = codes "start" ∷ decimal pid ∷ image_name script image ∷ []
 given_words script (Mail pid number) = codes "mail" ∷ decimal pid ∷ decimal number ∷ []
 given_words script (GivenKill pid) = codes "kill" ∷ decimal pid ∷ []

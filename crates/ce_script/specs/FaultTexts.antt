@@ -1,5 +1,5 @@
 -- The texts of faults, as they are told to who gave the script.
-use Rattle.std.specs.Prelude.{ℕ, List, ◌++◌, codes}
+use Rattle.std.specs.Prelude.{ℕ, List, [], ◌++◌, codes}
 use Rattle.rv_asm.specs.declared.fault.AsmKind.{AsmKind}
 use Rattle.rv_asm.specs.declared.fault.AsmKind.TheVariants as assembly
 use Rattle.ce_script.specs.declared.script.ScriptKind.{ScriptKind}
@@ -9,7 +9,7 @@ use Rattle.ce_script.specs.declared.script.ScriptKind.TheVariants.{BadByte, Unkn
 abbrev pub no_memory : List ℕ
 no_memory = codes "no memory"
 
--- the text of an assembler's kind; no script's fault has this one
+-- the text of an assembler's kind; a script's own kinds stand for Memory and BadByte, so no fault of a script has these two
 abbrev pub assembly_text : AsmKind → List ℕ
 assembly_text assembly.BadByte = codes "bad byte"
 assembly_text assembly.NameTaken = codes "name taken"
@@ -24,21 +24,30 @@ assembly_text assembly.TooFar = codes "too far"
 assembly_text assembly.Entry = codes "entry"
 assembly_text (assembly.Memory cause) = no_memory
 
+-- what the text of a kind begins with: the whole of it, but for a fault that the assembler found
+unfoldable pub kind_part : ScriptKind → List ℕ
+kind_part BadByte = codes "bad byte"
+kind_part UnknownWord = codes "unknown word"
+kind_part WordCount = codes "wrong number of words"
+kind_part NoMachine = codes "no machine line"
+kind_part SecondMachine = codes "second machine line"
+kind_part NoUser = codes "no user line"
+kind_part BadNumber = codes "bad number"
+kind_part BadName = codes "bad name"
+kind_part BadHex = codes "bad hex"
+kind_part NameTaken = codes "name taken"
+kind_part TooMany = codes "too many"
+kind_part UnknownImage = codes "unknown image"
+kind_part NoEnd = codes "no end line"
+kind_part (Assembly kind) = codes "assembly: "
+kind_part BadImage = codes "bad image"
+kind_part (Memory cause) = no_memory
+
+-- behind it stands the assembler's own text, where the assembler found the fault, and else nothing
+unfoldable pub assembly_part : ScriptKind → List ℕ
+assembly_part (Assembly kind) = assembly_text kind
+assembly_part other = []
+
 -- the text of a kind
 unfoldable pub kind_text : ScriptKind → List ℕ
-kind_text BadByte = codes "bad byte"
-kind_text UnknownWord = codes "unknown word"
-kind_text WordCount = codes "wrong number of words"
-kind_text NoMachine = codes "no machine line"
-kind_text SecondMachine = codes "second machine line"
-kind_text NoUser = codes "no user line"
-kind_text BadNumber = codes "bad number"
-kind_text BadName = codes "bad name"
-kind_text BadHex = codes "bad hex"
-kind_text NameTaken = codes "name taken"
-kind_text TooMany = codes "too many"
-kind_text UnknownImage = codes "unknown image"
-kind_text NoEnd = codes "no end line"
-kind_text (Assembly kind) = codes "assembly: " ++ assembly_text kind
-kind_text BadImage = codes "bad image"
-kind_text (Memory cause) = no_memory
+kind_text kind = kind_part kind ++ assembly_part kind

@@ -23,8 +23,8 @@ first_some [] = None
 first_some (one ∷ others) = option_or one (first_some others)
 
 -- this kind, where the test holds
-abbrev pub refused : Bool → ScriptKind → Option ScriptKind
-refused test kind = if test then Some kind else None
+abbrev pub fault_where : Bool → ScriptKind → Option ScriptKind
+fault_where test kind = if test then Some kind else None
 
 -- ---- questions about a statement
 
@@ -40,12 +40,12 @@ is_unknown statement =
     || (is_of is_image statement && has_unknown_form (words statement.line))
 
 -- the words that belong behind the first word
-abbrev pub expected : Statement → List Operand
-expected statement = option_map_or operands_of (verb_of (words statement.line)) []
+abbrev pub expected_operands : Statement → List Operand
+expected_operands statement = option_map_or operands_of (verb_of (words statement.line)) []
 
 -- it has not as many words as belong to its verb
 abbrev pub has_wrong_count : Statement → Bool
-has_wrong_count statement = not (length (words statement.line) == 1 + length (expected statement))
+has_wrong_count statement = not (length (words statement.line) == 1 + length (expected_operands statement))
 
 -- ---- questions about a statement and the earlier ones
 
@@ -68,15 +68,15 @@ is_among names name = list_any (bytes_eq name) names
 
 -- what is wrong with an operand, where the earlier images have these names
 abbrev pub operand_fault : List (List ℕ) → Operand → List ℕ → Option ScriptKind
-operand_fault images (Number most) word = refused (is_none (number_to most word)) BadNumber
+operand_fault images (Number most) word = fault_where (is_none (number_to most word)) BadNumber
 operand_fault images NewImage word =
-    option_or (refused (not (is_name word)) BadName) (refused (is_among images word) NameTaken)
+    option_or (fault_where (not (is_name word)) BadName) (fault_where (is_among images word) NameTaken)
 operand_fault images Form word = None
 operand_fault images OldImage word =
-    option_or (refused (not (is_name word)) BadName)
-    (refused (not (is_among images word)) UnknownImage)
-operand_fault images Name word = refused (not (is_name word)) BadName
-operand_fault images Data word = refused (is_none (data_in word)) BadHex
+    option_or (fault_where (not (is_name word)) BadName)
+    (fault_where (not (is_among images word)) UnknownImage)
+operand_fault images Name word = fault_where (not (is_name word)) BadName
+operand_fault images Data word = fault_where (is_none (data_in word)) BadHex
 
 -- what is wrong with the operand at a place
 abbrev pub placed_fault : Spot Statement → ℕ × Operand → Option ScriptKind
@@ -85,7 +85,7 @@ placed_fault spot placed =
 
 -- what is wrong with the operands, from left to right
 unfoldable pub operands_fault : Spot Statement → Option ScriptKind
-operands_fault spot = first_some (map (placed_fault spot) (enumerate_from 1 (expected spot.here)))
+operands_fault spot = first_some (map (placed_fault spot) (enumerate_from 1 (expected_operands spot.here)))
 
 -- with it there are more users or images than a machine can have
 abbrev pub is_one_too_many : Spot Statement → Bool
@@ -102,15 +102,15 @@ lacks_end statement = is_of is_image statement && is_none statement.body
 -- what may be wrong with a statement's own line: the table of kinds, in their order
 abbrev pub line_faults : Spot Statement → List (Option ScriptKind)
 line_faults spot =
-    refused (has_bad_byte spot.here.line) BadByte
-    ∷ refused (is_unknown spot.here) UnknownWord
-    ∷ refused (has_wrong_count spot.here) WordCount
-    ∷ refused (lacks_machine spot) NoMachine
-    ∷ refused (is_second_machine spot) SecondMachine
-    ∷ refused (lacks_user spot) NoUser
+    fault_where (has_bad_byte spot.here.line) BadByte
+    ∷ fault_where (is_unknown spot.here) UnknownWord
+    ∷ fault_where (has_wrong_count spot.here) WordCount
+    ∷ fault_where (lacks_machine spot) NoMachine
+    ∷ fault_where (is_second_machine spot) SecondMachine
+    ∷ fault_where (lacks_user spot) NoUser
     ∷ operands_fault spot
-    ∷ refused (is_one_too_many spot) TooMany
-    ∷ refused (lacks_end spot.here) NoEnd
+    ∷ fault_where (is_one_too_many spot) TooMany
+    ∷ fault_where (lacks_end spot.here) NoEnd
     ∷ []
 
 -- the first fault of a statement's own line

@@ -4,7 +4,6 @@ pub mod Bounds
 pub mod CommandText
 pub mod Commands
 pub mod Doings
-pub mod Encoding
 pub mod EntryText
 pub mod FaultTexts
 pub mod Faults

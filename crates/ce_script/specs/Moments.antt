@@ -25,6 +25,10 @@ moments_of user history = filter (λ moment. moment.entry.user == user) (moments
 abbrev pub entries_of : List Moment → List Entry
 entries_of moments = map (λ moment. moment.entry) moments
 
+-- the entries that they make among these
+abbrev pub own_entries : ℕ → List Entry → List Entry
+own_entries user entries = filter (λ entry. entry.user == user) entries
+
 -- ---- the cube that a user holds
 
 -- a cube that a user holds, and its trace so far
@@ -33,8 +37,8 @@ pub record Holding : Type 0 where
   pub trace : List Entry
 
 -- the cube, once it has made an entry more
-abbrev pub extended : Entry → Holding → Holding
-extended entry held = record held { trace = held.trace ++ entry_inward held.grant.sub entry ∷ [] }
+abbrev pub with_entry : Entry → Holding → Holding
+with_entry entry held = record held { trace = held.trace ++ entry_inward held.grant.sub entry ∷ [] }
 
 -- what a user holds, once it has made an entry
 abbrev pub holding_by : Option Holding → Entry → Option Holding
@@ -45,7 +49,7 @@ holding_by held entry = elim entry.what [
   | Peek ↦ held
   | Drain ↦ held
   | Freecube ↦ None
-  | other ↦ option_map (extended entry) held
+  | other ↦ option_map (with_entry entry) held
 ]
 
 -- the cube that a user holds by its own entries so far

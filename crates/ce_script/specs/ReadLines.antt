@@ -23,8 +23,8 @@ texts_left None = []
 texts_left (Some text) = slice_split is_line_feed text
 
 -- lines with these texts, the first of which has this number
-abbrev pub numbered : ℕ → List (List ℕ) → List Line
-numbered first texts =
+abbrev pub numbered_lines : ℕ → List (List ℕ) → List Line
+numbered_lines first texts =
     map (λ line. record { number = line.0; text = line.1 }) (enumerate_from first texts)
 
 -- the bytes that are left
@@ -33,7 +33,7 @@ left_of rest = option_map (λ text. text.now) rest.text
 
 -- the lines that are left
 abbrev pub lines_left : Rest → List Line
-lines_left rest = numbered (rest.before + 1) (texts_left (left_of rest))
+lines_left rest = numbered_lines (rest.before + 1) (texts_left (left_of rest))
 
 -- one more than how many bytes are left, and 0 at the end
 abbrev pub size_of : Option (List ℕ) → ℕ
@@ -67,7 +67,7 @@ statements_from inside (line ∷ lines) =
 
 -- the lines of a body, and an empty one behind its last line feed
 abbrev pub lines_shown : Body → List Line
-lines_shown body = numbered (body.at + 1) (slice_split is_line_feed body.text.now)
+lines_shown body = numbered_lines (body.at + 1) (slice_split is_line_feed body.text.now)
 
 -- an empty line behind others
 abbrev pub with_empty : List Line → ℕ → List Line

@@ -12,7 +12,7 @@ use Rattle.ce_script.specs.Lines.{has_bad_byte}
 use Rattle.ce_script.specs.Names.{is_name}
 use Rattle.ce_script.specs.Verbs.{is_machine, is_command, operands_of}
 use Rattle.ce_script.specs.Statements.{Statement, operand}
-use Rattle.ce_script.specs.Faults.{first_some, refused, is_unknown, has_wrong_count, is_among, operand_fault}
+use Rattle.ce_script.specs.Faults.{first_some, fault_where, is_unknown, has_wrong_count, is_among, operand_fault}
 
 -- ---- judgments
 
@@ -37,15 +37,15 @@ HasFound (Err it) fault value = Unless it.kind (fault ≡ Some it)
 -- with its bytes and words alone
 unfoldable pub word_fault : Statement → Option ScriptKind
 word_fault here =
-    option_or (refused (has_bad_byte here.line) BadByte)
-    (option_or (refused (is_unknown here) UnknownWord) (refused (has_wrong_count here) WordCount))
+    option_or (fault_where (has_bad_byte here.line) BadByte)
+    (option_or (fault_where (is_unknown here) UnknownWord) (fault_where (has_wrong_count here) WordCount))
 
 -- with its place, where there was a machine line before it or none, and a user line or none
 unfoldable pub place_fault : Bool → Bool → Verb → Option ScriptKind
 place_fault machine user verb =
-    option_or (refused (not (is_machine verb) && not machine) NoMachine)
-    (option_or (refused (is_machine verb && machine) SecondMachine)
-    (refused (is_command verb && not user) NoUser))
+    option_or (fault_where (not (is_machine verb) && not machine) NoMachine)
+    (option_or (fault_where (is_machine verb && machine) SecondMachine)
+    (fault_where (is_command verb && not user) NoUser))
 
 -- with its operands, where the earlier images have these names
 unfoldable pub operands_judged : List (List ℕ) → Verb → Statement → Option ScriptKind
@@ -63,5 +63,5 @@ with_name names name = if is_among names name then names else names ++ name ∷ 
 -- what is wrong with a user line behind these users
 abbrev pub user_fault : List (List ℕ) → List ℕ → Option ScriptKind
 user_fault names name =
-    option_or (refused (not (is_name name)) BadName)
-    (refused (nat_lt greatest_users (length (with_name names name))) TooMany)
+    option_or (fault_where (not (is_name name)) BadName)
+    (fault_where (nat_lt greatest_users (length (with_name names name))) TooMany)

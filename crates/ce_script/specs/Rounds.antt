@@ -4,7 +4,7 @@ use Rattle.std.specs.List.{list_any, AllByRecursion, AllZip}
 use Rattle.std.specs.Option.{option_map_or}
 use Rattle.ce_model.specs.declared.entry.Entry.{Entry}
 use Rattle.ce_model.specs.declared.entry.What.TheVariants.{Take}
-use Rattle.ce_model.specs.declared.entry.Given.{Given}
+use Rattle.ce_model.specs.declared.entry.TakeResult.{TakeResult}
 use Rattle.ce_model.specs.Node.{Call, takes}
 use Rattle.ce_model.specs.Trace.{is_work}
 use Rattle.ce_model.specs.Cube.{Cube, CubeState, node_numbers, next_call}
@@ -17,7 +17,7 @@ pub data RoundKind : Type 0 where
 -- ---- turns
 
 -- what a node is given, where the entry is a Take
-abbrev pub given_in : Entry → Option Given
+abbrev pub given_in : Entry → Option TakeResult
 given_in entry = elim entry.what [ Take asking dead poller given ↦ Some given | other ↦ None ]
 
 abbrev pub is_take : Entry → Bool
@@ -35,8 +35,8 @@ IsTurn r (first ∷ others) =
     × AllByRecursion (λ entry. entry.actor ≡ r) (first ∷ others)
 
 -- several lists of entries, one behind the other
-abbrev pub joined : List (List Entry) → List Entry
-joined lists = flat_map (λ list. list) lists
+abbrev pub joined_lists : List (List Entry) → List Entry
+joined_lists lists = flat_map (λ list. list) lists
 
 -- ---- rounds
 
@@ -48,7 +48,7 @@ has_work entries = list_any is_dispatch entries
 pub record IsSerialRound (dim : ℕ) (round : List Entry) : Type 0 where
   pub turns : List (List Entry)
   pub each : AllZip IsTurn (node_numbers dim) turns
-  pub all : round ≡ joined turns
+  pub all : round ≡ joined_lists turns
 
 -- a node's share of a threaded round: turns with work, and last a Take without
 pub record IsShare (r : ℕ) (share : List Entry) : Type 0 where
@@ -58,7 +58,7 @@ pub record IsShare (r : ℕ) (share : List Entry) : Type 0 where
   pub with_work : AllByRecursion (λ turn. IsTrue (has_work turn)) turns
   pub last_take : IsTurn r (last ∷ [])
   pub without_work : IsFalse (is_dispatch last)
-  pub all : share ≡ joined turns ++ last ∷ []
+  pub all : share ≡ joined_lists turns ++ last ∷ []
 
 -- a threaded round: each node of a cube of this dimension has its share, and the entries of the nodes interleave freely
 pub record IsThreadedRound (dim : ℕ) (round : List Entry) : Type 0 where

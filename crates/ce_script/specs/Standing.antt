@@ -19,7 +19,7 @@ use Rattle.ce_script.specs.Verbs.{verb_of, is_machine, is_user, NewImage}
 use Rattle.ce_script.specs.Statements.{Statement, operand, is_of, begins_image, body_in}
 use Rattle.ce_script.specs.Bodies.{fault_at}
 use Rattle.ce_script.specs.Sayings.{number_at, number_of, image_said, dimension, images, users, last_user, command_by, command_at, commands}
-use Rattle.ce_script.specs.Faults.{first_some, refused, operand_fault, image_fault, statement_fault}
+use Rattle.ce_script.specs.Faults.{first_some, fault_where, operand_fault, image_fault, statement_fault}
 use Rattle.ce_script.specs.ReadLines.{line_of, lines_left, statements_from}
 use Rattle.ce_script.specs.Reading.{Unless, word_fault, place_fault, operands_judged, with_name, user_fault}
 
@@ -102,14 +102,14 @@ with_statement reader verb here = with_command reader (command_by verb (names_of
 abbrev pub new_image_fault : List (List ℕ) → List ℕ → Option ScriptKind
 new_image_fault names name =
     option_or (operand_fault names NewImage name)
-    (refused (nat_lt greatest_images (length (names ++ name ∷ []))) TooMany)
+    (fault_where (nat_lt greatest_images (length (names ++ name ∷ []))) TooMany)
 
 -- with what stands behind its verb
 abbrev pub rest_fault : Reader → Verb → Statement → Option ScriptKind
 rest_fault reader User here = user_fault reader.script.users (operand 1 here)
 rest_fault reader Image here =
     option_or (new_image_fault (names_of reader) (operand 1 here))
-    (refused (is_none here.body) NoEnd)
+    (fault_where (is_none here.body) NoEnd)
 rest_fault reader verb here = operands_judged (names_of reader) verb here
 
 -- with the place and what stands behind the verb

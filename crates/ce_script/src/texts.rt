@@ -1,6 +1,6 @@
 //! The texts of faults.
 ghost use Rattle.std.specs.Prelude.{◌≡◌, ◌++◌};
-ghost use Rattle.ce_script.specs.FaultTexts.{assembly_text, kind_text};
+ghost use Rattle.ce_script.specs.FaultTexts.{assembly_part, assembly_text, kind_part, kind_text};
 
 use crate::script::ScriptKind;
 use rv_asm::AsmKind;
@@ -16,9 +16,11 @@ pub struct KindText {
 
 impl ScriptKind {
     /// Its text, as it is told to who gave the script.
-    #[tactic(auto, unfolding(crate::specs::FaultTexts::kind_text))]
+    #[tactic(auto, unfolding(crate::specs::FaultTexts::kind_part, crate::specs::FaultTexts::assembly_part, crate::specs::FaultTexts::kind_text))]
     pub fn text(&self) -> KindText
-        ensures { result.kind.now ++ result.assembly.now ≡ kind_text self.now }
+        ensures kind { result.kind.now ≡ kind_part self.now }
+        ensures assembly { result.assembly.now ≡ assembly_part self.now }
+        ensures whole { result.kind.now ++ result.assembly.now ≡ kind_text self.now }
     {
         let kind = match self {
             ScriptKind::BadByte => "bad byte",

@@ -2,7 +2,7 @@
 use Rattle.std.proofs.Common.{◌≡◌, ℕ, suc, ◌+◌, ◌-◌, ◌*◌, ◌/◌, ◌%◌, ◌^◌, ◌<◌, ◌≤◌, refl, ap, arith, pow-suc, add-one, bit_and, inl, inr}
 use Rattle.std.proofs.lemmas.Nat.{and_mask, shl_whole, pow_below}
 use Rattle.std.proofs.lemmas.Bool.{cases_lt}
-use Rattle.ce_model.specs.Subcubes.{deposited, extracted}
+use Rattle.ce_model.specs.Subcubes.{deposited_bits, extracted_bits}
 use Rattle.ce_model.proofs.Subcubes.{deposited-one, deposited-none, extracted-one, extracted-none}
 
 pub low_bit : (n : ℕ) → bit_and n 1 ≡ n % 2
@@ -16,28 +16,35 @@ twice : (place x y : ℕ) → 2 ^ place * (x + 2 * y) ≡ x * 2 ^ place + 2 ^ (p
 twice place x y = rw (add-one, pow-suc) (omega arith)
 
 pub deposit_more_one : (bits place node left rest : ℕ) → place < bits → rest % 2 ≡ 1
-    → node + left % 2 * 2 ^ place + 2 ^ (place + 1) * deposited (bits - (place + 1)) (left / 2) (rest / 2) ≡ node + 2 ^ place * deposited (bits - place) left rest
+    → node + left % 2 * 2 ^ place + 2 ^ (place + 1) * deposited_bits (bits - (place + 1)) (left / 2) (rest / 2) ≡ node + 2 ^ place * deposited_bits (bits - place) left rest
 deposit_more_one bits place node left rest below one =
     let count : bits - place ≡ suc (bits - (place + 1)) = omega arith in
-    rw (count, deposited-one (bits - (place + 1)) left rest one) (omega (arith, twice place (left % 2) (deposited (bits - (place + 1)) (left / 2) (rest / 2))))
+    rw (count, deposited-one (bits - (place + 1)) left rest one) (omega (arith, twice place (left % 2) (deposited_bits (bits - (place + 1)) (left / 2) (rest / 2))))
 
 pub deposit_more_none : (bits place node left rest : ℕ) → place < bits → rest % 2 ≡ 0
-    → node + 2 ^ (place + 1) * deposited (bits - (place + 1)) left (rest / 2) ≡ node + 2 ^ place * deposited (bits - place) left rest
+    → node + 2 ^ (place + 1) * deposited_bits (bits - (place + 1)) left (rest / 2) ≡ node + 2 ^ place * deposited_bits (bits - place) left rest
 deposit_more_none bits place node left rest below none =
     let count : bits - place ≡ suc (bits - (place + 1)) = omega arith in
-    rw (count, deposited-none (bits - (place + 1)) left rest none) (omega (arith, twice place 0 (deposited (bits - (place + 1)) left (rest / 2))))
+    rw (count, deposited-none (bits - (place + 1)) left rest none) (omega (arith, twice place 0 (deposited_bits (bits - (place + 1)) left (rest / 2))))
 
 pub extract_more_one : (bits place found r left rest : ℕ) → place < bits → rest % 2 ≡ 1
-    → r + left % 2 * 2 ^ found + 2 ^ (found + 1) * extracted (bits - (place + 1)) (left / 2) (rest / 2) ≡ r + 2 ^ found * extracted (bits - place) left rest
+    → r + left % 2 * 2 ^ found + 2 ^ (found + 1) * extracted_bits (bits - (place + 1)) (left / 2) (rest / 2) ≡ r + 2 ^ found * extracted_bits (bits - place) left rest
 extract_more_one bits place found r left rest below one =
     let count : bits - place ≡ suc (bits - (place + 1)) = omega arith in
-    rw (count, extracted-one (bits - (place + 1)) left rest one) (omega (arith, twice found (left % 2) (extracted (bits - (place + 1)) (left / 2) (rest / 2))))
+    rw (count, extracted-one (bits - (place + 1)) left rest one) (omega (arith, twice found (left % 2) (extracted_bits (bits - (place + 1)) (left / 2) (rest / 2))))
 
 pub extract_more_none : (bits place found r left rest : ℕ) → place < bits → rest % 2 ≡ 0
-    → r + 2 ^ found * extracted (bits - (place + 1)) (left / 2) (rest / 2) ≡ r + 2 ^ found * extracted (bits - place) left rest
+    → r + 2 ^ found * extracted_bits (bits - (place + 1)) (left / 2) (rest / 2) ≡ r + 2 ^ found * extracted_bits (bits - place) left rest
 extract_more_none bits place found r left rest below none =
     let count : bits - place ≡ suc (bits - (place + 1)) = omega arith in
     rw (count, extracted-none (bits - (place + 1)) left rest none) refl
+
+-- after the last place no bit is left
+pub none_left : (of : ℕ → ℕ) (bits place weight part all : ℕ) → of 0 ≡ 0 → bits ≤ place → part + weight * of (bits - place) ≡ all → part ≡ all
+none_left of bits place weight part all nothing past is =
+    let none : bits - place ≡ 0 = omega arith in
+    let after : part + weight * 0 ≡ all = rw (none, nothing) at is in
+    omega arith
 
 pub pow_le : (i j : ℕ) → i ≤ j → 2 ^ i ≤ 2 ^ j
 pow_le i j below = elim (cases_lt i j) [ inl less ↦ omega (arith, pow_below i j less) | inr same ↦ omega (arith, ap (λ n. 2 ^ n) (antisymm i j below same)) ]

@@ -70,7 +70,8 @@ fn first_with(free: NodeSet, mask: u32) -> Option<Subcube>
 fn bases_within(set: u64, mask: u32) -> u64
     requires { mask < 2 ^ greatest_dim }
     ensures { (n : ℕ) → has_bit result n
-        ≡ (is_base mask n && all_nodes (has_bit set) (ones_of greatest_dim mask) (subcube_at mask n)) }
+        ≡ (is_base mask n && all_nodes (has_bit set) (ones_of greatest_dim mask)
+        (subcube_at mask n)) }
 {
     let mut bases = set;
     for place in (0..GREATEST_DIMENSION).rev() {

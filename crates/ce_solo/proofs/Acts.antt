@@ -11,13 +11,13 @@ use Rattle.ce_model.specs.Cube.{Cube, CubeState, IsCube, stored_by}
 use Rattle.ce_model.specs.Sound.{IsSoundNode, IsSoundHost, IsRising, IsSound}
 use Rattle.ce_solo.proofs.Counting.{count, count-nil, sum_run, sum_run-zero}
 use Rattle.ce_solo.proofs.Items.{parcel_ids}
-use Rattle.ce_solo.proofs.Records.{Keeps}
+use Rattle.ce_solo.proofs.Records.{HasStayedSound}
 use Rattle.ce_solo.proofs.Sending.{not_host}
-use Rattle.ce_solo.proofs.Steps.{record_by, node_by, state_after, sound_node-same, NodeGoes, sound-goes}
+use Rattle.ce_solo.proofs.Steps.{record_by, node_by, state_after, sound_node-same, IsNodeStep, sound-goes}
 
 -- a node that does nothing, and for which blocks come
 pub idle-goes : (cube : Cube) (sent' r : ℕ) (kept kept' : NodeRecord) (node : Node) (come : List BlockId) (gone : BlockId → ℕ) → IsSoundNode cube kept r node
-    → ((id : BlockId) → gone id ≡ 0) → Keeps cube sent' r kept kept' come [] → NodeGoes cube sent' r kept kept' node node (λ id. count id come) gone
+    → ((id : BlockId) → gone id ≡ 0) → HasStayedSound cube sent' r kept kept' come [] → IsNodeStep cube sent' r kept kept' node node (λ id. count id come) gone
 idle-goes cube sent' r kept kept' node come gone sound none keeps = record {
   record_sound = keeps.sound;
   node_sound = sound_node-same cube kept kept' r node sound keeps.births;
@@ -29,11 +29,11 @@ abbrev pub sent_by : CubeState → ℕ → What → ℕ
 sent_by s actor what = s.standing.parcel_count + length (parcels_of actor what)
 
 -- what an entry of node r makes of its cube
-pub record NodeActs (cube : Cube) (s : CubeState) (r : ℕ) (what : What) (come gone : BlockId → ℕ → ℕ) : Type 0 where
+pub record IsNodeAct (cube : Cube) (s : CubeState) (r : ℕ) (what : What) (come gone : BlockId → ℕ → ℕ) : Type 0 where
   pub others : (q : ℕ) → q < 2 ^ cube.dim → (r ≡ q → ⊥)
-      → NodeGoes cube (sent_by s r what) q (s.standing.node_record q) (record_by false q (record { user = cube.user; actor = r; what = what }) (s.standing.node_record q))
+      → IsNodeStep cube (sent_by s r what) q (s.standing.node_record q) (record_by false q (record { user = cube.user; actor = r; what = what }) (s.standing.node_record q))
       (s.node q) (s.node q) (λ id. come id q) (λ id. gone id q)
-  pub own : NodeGoes cube (sent_by s r what) r (s.standing.node_record r) (record_by true r (record { user = cube.user; actor = r; what = what }) (s.standing.node_record r))
+  pub own : IsNodeStep cube (sent_by s r what) r (s.standing.node_record r) (record_by true r (record { user = cube.user; actor = r; what = what }) (s.standing.node_record r))
       (s.node r) (node_by true cube s r (record { user = cube.user; actor = r; what = what })) (λ id. come id r) (λ id. gone id r)
   pub host : IsSoundHost (sent_by s r what) (record_by false HOST (record { user = cube.user; actor = r; what = what }) (s.standing.node_record HOST)).waiting
   pub balance : (id : BlockId)
@@ -43,17 +43,17 @@ pub record NodeActs (cube : Cube) (s : CubeState) (r : ℕ) (what : What) (come 
   pub dispatches : dispatched_by s.standing.dispatched what ≤ armed_by s.standing.armed what
 
 pub node-acts : (cube : Cube) (s : CubeState) (r : ℕ) (what : What) (come gone : BlockId → ℕ → ℕ) → IsCube cube → r < 2 ^ cube.dim → IsSound cube s
-    → NodeActs cube s r what come gone → IsSound cube (state_after cube s (record { user = cube.user; actor = r; what = what }))
+    → IsNodeAct cube s r what come gone → IsSound cube (state_after cube s (record { user = cube.user; actor = r; what = what }))
 node-acts cube s r what come gone of below sound acts =
     let entry : Entry = record { user = cube.user; actor = r; what = what } in
     let no_host : (r == HOST) ≡ false = ne_eqb r HOST (λ e. omega (arith, not_host cube r of below)) in
     sound-goes cube s (state_after cube s entry) come gone sound (record {
       nodes = λ q within. elim (cases_Bool (r == q)) [
         | inl t ↦
-            subst (λ b. NodeGoes cube (sent_by s r what) q (s.standing.node_record q) (record_by b q entry (s.standing.node_record q)) (s.node q) (node_by b cube s q entry) (λ id. come id q) (λ id. gone id q)) (sym t)
-            (subst (λ q. NodeGoes cube (sent_by s r what) q (s.standing.node_record q) (record_by true q entry (s.standing.node_record q)) (s.node q) (node_by true cube s q entry) (λ id. come id q) (λ id. gone id q)) (eqb-true r q t) acts.own)
+            subst (λ b. IsNodeStep cube (sent_by s r what) q (s.standing.node_record q) (record_by b q entry (s.standing.node_record q)) (s.node q) (node_by b cube s q entry) (λ id. come id q) (λ id. gone id q)) (sym t)
+            (subst (λ q. IsNodeStep cube (sent_by s r what) q (s.standing.node_record q) (record_by true q entry (s.standing.node_record q)) (s.node q) (node_by true cube s q entry) (λ id. come id q) (λ id. gone id q)) (eqb-true r q t) acts.own)
         | inr f ↦
-            subst (λ b. NodeGoes cube (sent_by s r what) q (s.standing.node_record q) (record_by b q entry (s.standing.node_record q)) (s.node q) (node_by b cube s q entry) (λ id. come id q) (λ id. gone id q)) (sym f)
+            subst (λ b. IsNodeStep cube (sent_by s r what) q (s.standing.node_record q) (record_by b q entry (s.standing.node_record q)) (s.node q) (node_by b cube s q entry) (λ id. come id q) (λ id. gone id q)) (sym f)
             (acts.others q within (eqb-false r q f))
       ];
       host = subst (λ b. IsSoundHost (sent_by s r what) (record_by b HOST entry (s.standing.node_record HOST)).waiting) (sym no_host) acts.host;
@@ -67,9 +67,9 @@ node-acts cube s r what come gone of below sound acts =
     })
 
 -- what an entry of the host makes of its cube
-pub record HostActs (cube : Cube) (s : CubeState) (what : What) (come : BlockId → ℕ → ℕ) : Type 0 where
+pub record IsHostAct (cube : Cube) (s : CubeState) (what : What) (come : BlockId → ℕ → ℕ) : Type 0 where
   pub nodes : (q : ℕ) → q < 2 ^ cube.dim
-      → NodeGoes cube (sent_by s HOST what) q (s.standing.node_record q) (record_by false q (record { user = cube.user; actor = HOST; what = what }) (s.standing.node_record q))
+      → IsNodeStep cube (sent_by s HOST what) q (s.standing.node_record q) (record_by false q (record { user = cube.user; actor = HOST; what = what }) (s.standing.node_record q))
       (s.node q) (s.node q) (λ id. come id q) (λ id. 0)
   pub host : IsSoundHost (sent_by s HOST what) (record_by true HOST (record { user = cube.user; actor = HOST; what = what }) (s.standing.node_record HOST)).waiting
   pub store : IsRising (stored_by (s.standing.node_record HOST).waiting s.hoststore what)
@@ -81,13 +81,13 @@ pub record HostActs (cube : Cube) (s : CubeState) (what : What) (come : BlockId 
   pub dispatches : dispatched_by s.standing.dispatched what ≤ armed_by s.standing.armed what
 
 pub host-acts : (cube : Cube) (s : CubeState) (what : What) (come : BlockId → ℕ → ℕ) → IsCube cube → IsSound cube s
-    → HostActs cube s what come → IsSound cube (state_after cube s (record { user = cube.user; actor = HOST; what = what }))
+    → IsHostAct cube s what come → IsSound cube (state_after cube s (record { user = cube.user; actor = HOST; what = what }))
 host-acts cube s what come of sound acts =
     let entry : Entry = record { user = cube.user; actor = HOST; what = what } in
     sound-goes cube s (state_after cube s entry) come (λ id q. 0) sound (record {
       nodes = λ q within.
           let other : (HOST == q) ≡ false = ne_eqb HOST q (λ e. omega (arith, not_host cube q of within)) in
-          subst (λ b. NodeGoes cube (sent_by s HOST what) q (s.standing.node_record q) (record_by b q entry (s.standing.node_record q)) (s.node q) (node_by b cube s q entry) (λ id. come id q) (λ id. 0)) (sym other)
+          subst (λ b. IsNodeStep cube (sent_by s HOST what) q (s.standing.node_record q) (record_by b q entry (s.standing.node_record q)) (s.node q) (node_by b cube s q entry) (λ id. come id q) (λ id. 0)) (sym other)
           (acts.nodes q within);
       host = acts.host;
       hoststore = acts.store;

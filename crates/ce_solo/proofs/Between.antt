@@ -8,8 +8,8 @@ use Rattle.ce_model.specs.declared.topology.Place.{Place}
 use Rattle.ce_model.specs.declared.entry.Entry.{Entry}
 use Rattle.ce_model.specs.declared.entry.What.{What}
 use Rattle.ce_model.specs.declared.entry.What.TheVariants.{HostTake, Take}
-use Rattle.ce_model.specs.declared.entry.Given.{Given}
-use Rattle.ce_model.specs.declared.entry.Given.TheVariants.{Start, Mail, Kill, Poll, Idle, Spent}
+use Rattle.ce_model.specs.declared.entry.TakeResult.{TakeResult}
+use Rattle.ce_model.specs.declared.entry.TakeResult.TheVariants.{Start, Mail, Kill, Poll, Idle, Spent}
 use Rattle.ce_model.specs.Parcels.{Parcel, Item, start, mail, kill, is_member, is_eligible, parcels_among, is_same_place, is_item}
 use Rattle.ce_model.specs.Cube.{parcel_numbered}
 use Rattle.ce_model.specs.Trace.{taken_in}
@@ -96,7 +96,7 @@ module _ (from to : Place) where
   none_number true = refl
   none_number false = refl
 
-  number-given : (asking dead : ℕ) (poller : Option ℕ) (given : Given) → (if is_item given then Some given else None) ≡ None
+  number-given : (asking dead : ℕ) (poller : Option ℕ) (given : TakeResult) → (if is_item given then Some given else None) ≡ None
       → number_handed to.pid (Take asking dead poller given) ≡ None
   number-given asking dead poller (Start pid image) e = refl
   number-given asking dead poller (Mail pid number) e = absurd (cc)

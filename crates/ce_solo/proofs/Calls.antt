@@ -1,9 +1,8 @@
 -- The kernel's calls to several places, those that wait and those of processes, and all calls by their numbers.
-use Rattle.std.proofs.Common.{◌≡◌, ℕ, zero, suc, ◌+◌, ◌-◌, ◌^◌, ◌<◌, Bool, true, false, not, ◌==◌, nat_lt, if◌then◌else◌, List, [], ◌∷◌, ◌++◌, length, map, take, drop, zip, slice_get, Option, Some, None, Result, Ok, Err, IfOk, refl, ap, sym, ◌∙◌, subst, arith}
+use Rattle.std.proofs.Common.{◌≡◌, ℕ, suc, ◌+◌, ◌-◌, ◌^◌, ◌<◌, Bool, true, false, not, ◌==◌, nat_lt, if◌then◌else◌, List, [], ◌∷◌, ◌++◌, length, map, take, drop, zip, slice_get, Option, Some, None, IfSome, refl, ap, sym, ◌∙◌, arith}
 use Rattle.std.specs.List.{AllByRecursion, list_all}
 use Rattle.std.proofs.lemmas.Bool.{cond_both, eq-eqb, ne_eqb, ltb-true, ltb-false, and_parts, not-false, both_ways}
 use Rattle.std.proofs.lemmas.List.{length-take}
-use Rattle.rv_model.specs.declared.stop.Stop.{Stop}
 use Rattle.rv_model.specs.declared.stop.Stop.TheVariants.{Exited, NoCall, TurnSpent}
 use Rattle.ce_model.specs.declared.topology.Place.{Place}
 use Rattle.ce_model.specs.declared.topology.BlockId.{BlockId}
@@ -14,12 +13,14 @@ use Rattle.ce_model.specs.Blocks.{Block}
 use Rattle.ce_model.specs.Space.{block_named, places_at}
 use Rattle.ce_model.specs.Process.{Process, argument, call_number, is_stopped}
 use Rattle.ce_model.specs.Node.{Turn, Node, is_place, Call, sends, spawns, kills, notes}
-use Rattle.ce_model.specs.Kernel.{returns, says_call, stops, reading, waits, gives_up, with_store, is_target, place_named, sends_copies, xmsend_block, xmsend, xrecv, xrecvb, spawn, ckill, KernelCall, kernel_calls, kernel_call, counted_does, kernel_does, kernel}
+use Rattle.ce_model.specs.Kernel.{returns, says_call, stops, read_or_stop, waits, gives_up, with_store, is_target, place_named, sends_copies, xmsend_block, xmsend, xrecv, xrecvb, spawn, ckill, KernelCall, kernel_calls, kernel_call, counted_does, kernel_does, kernel}
 use Rattle.ce_model.specs.Sound.{is_unborn, is_running, is_polling}
 use Rattle.ce_solo.proofs.Counting.{count, count-nil, count-cons, count-take-drop, rising-drop}
+use Rattle.ce_solo.proofs.Lists.{all-get}
+use Rattle.ce_solo.proofs.Instructions.{any_ok}
 use Rattle.ce_solo.proofs.Windows.{count-unmapped, named-of}
-use Rattle.ce_solo.proofs.Nodes.{polls, polls-more, changed_to, change-became}
-use Rattle.ce_solo.proofs.Words.{InTurn, call_ids, IsCallOf, IsDone, in_turn-windows, born_before, going_before, polls_before, returns-done, leaves-done, stops-done, reading-done, gives_up-windows, frees-done, xmalloc-done, xfree-done, xlength-done, xsend-done}
+use Rattle.ce_solo.proofs.Nodes.{polls, well-turn, polls-more, changed_to, change-became}
+use Rattle.ce_solo.proofs.Words.{IsInItsTurn, call_ids, IsCallOf, IsDone, in_turn-windows, born_before, going_before, polls_before, returns-done, leaves-done, stops-done, reading-done, gives_up-windows, frees-done, xmalloc-done, xfree-done, xlength-done, xsend-done}
 
 -- ---- several places
 
@@ -36,11 +37,7 @@ zip-firsts test (x ∷ xs) [] all = tt
 zip-firsts test (x ∷ xs) (id ∷ ids) all =
     let parts = and_parts (test x) (list_all test xs) all in (parts.0, zip-firsts test xs ids parts.1)
 
-any_ok : {X : Type 0} (r : Result X Stop) → IfOk r (λ x. Unit {0})
-any_ok (Ok x) = tt
-any_ok (Err cause) = tt
-
-module _ (node : Node) (turn : Turn) (p : Process) (c : InTurn node turn p) where
+module _ (node : Node) (turn : Turn) (p : Process) (c : IsInItsTurn node turn p) where
   sends_copies-done : (found : ℕ × Block) → slice_get p.space.windows found.0 ≡ Some (Some found.1) → (places : List Place)
       → IsDone node (sends_copies node turn p found places)
   sends_copies-done found at [] = frees-done node turn p c found at
@@ -62,7 +59,7 @@ module _ (node : Node) (turn : Turn) (p : Process) (c : InTurn node turn p) wher
   xmsend_block-done : (found : ℕ × Block) → slice_get p.space.windows found.0 ≡ Some (Some found.1) → IsDone node (xmsend_block node turn p found)
   xmsend_block-done found at =
       cond_both (nat_lt greatest_targets (argument p 1)) (returns node turn p 3)
-      (reading node turn p (places_at p.space (argument p 2) (argument p 1)) (sends_copies node turn p found)) (IsDone node)
+      (read_or_stop node turn p (places_at p.space (argument p 2) (argument p 1)) (sends_copies node turn p found)) (IsDone node)
       (λ t. returns-done node turn p c 3)
       (λ f. reading-done node turn p c (places_at p.space (argument p 2) (argument p 1)) (λ x. Unit {0}) (sends_copies node turn p found)
       (any_ok (places_at p.space (argument p 2) (argument p 1))) (λ places u. sends_copies-done found at places))
@@ -131,7 +128,7 @@ module _ (node : Node) (turn : Turn) (p : Process) (c : InTurn node turn p) wher
 
 -- a call does what is said here of its node
 abbrev pub IsGood : KernelCall → Type 0
-IsGood call = (node : Node) (turn : Turn) (p : Process) → InTurn node turn p → IsDone node (call.does node turn p)
+IsGood call = (node : Node) (turn : Turn) (p : Process) → IsInItsTurn node turn p → IsDone node (call.does node turn p)
 
 all_good : AllByRecursion IsGood kernel_calls
 unfolding kernel_calls
@@ -179,50 +176,35 @@ all_good = (
   ),
 )
 
-all-get : {X : Type 0} (P : X → Type 0) (xs : List X) (k : ℕ) (x : X) → AllByRecursion P xs → slice_get xs k ≡ Some x → P x
-all-get P [] k x all e = cc
-all-get P (y ∷ ys) zero x all e = let same : y ≡ x = cc in subst P same all.0
-all-get P (y ∷ ys) (suc k) x all e = all-get P ys k x all.1 e
-
-call_good : (number : ℕ) (call : KernelCall) → kernel_call number ≡ Some call → IsGood call
-call_good number call e =
-    all-get IsGood kernel_calls (number - 1) call all_good (seen (number == 0) e)
-  where
-    seen : (b : Bool) → (if b then None else slice_get kernel_calls (number - 1)) ≡ Some call → slice_get kernel_calls (number - 1) ≡ Some call
-    seen true e = cc
-    seen false e = e
+-- what holds of each call holds of the one that has the number
+pub call_numbered : (P : KernelCall → Type 0) (number : ℕ) → AllByRecursion P kernel_calls → IfSome (kernel_call number) P
+call_numbered P number all =
+    cond_both (number == 0) None (slice_get kernel_calls (number - 1)) (λ call. IfSome call P) (λ t. tt) (λ f. all-get P kernel_calls (number - 1) all)
 
 -- the turn with one counted call more
-abbrev one_call_more : Turn → Turn
+abbrev pub one_call_more : Turn → Turn
 one_call_more turn = record turn { calls = turn.calls + 1 }
 
-in_turn-more : (node : Node) (turn : Turn) (p : Process) → InTurn node turn p → turn.calls < turn_calls → InTurn node (one_call_more turn) p
+in_turn-more : (node : Node) (turn : Turn) (p : Process) → IsInItsTurn node turn p → turn.calls < turn_calls → IsInItsTurn node (one_call_more turn) p
 in_turn-more node turn p c room = record {
-  well = record {
-    process_ids = c.well.process_ids;
-    processes = λ q h. let was = c.well.processes q h in
-        record { registers = was.registers; windows = was.windows; unborn_used = was.unborn_used; stopped_holds = was.stopped_holds; running = was.running };
-    polling = c.well.polling;
-    store = c.well.store;
-    once = c.well.once;
-  };
+  well = well-turn node turn turn.left (turn.calls + 1) c.well;
   sound = record { pid = c.sound.pid; left = c.sound.left; calls = omega (arith, room) };
   registers = c.registers;
   held = c.held;
   status = c.status;
 }
 
-done-by : (node : Node) (turn : Turn) (p : Process) → InTurn node turn p → (found : Option KernelCall) → ((call : KernelCall) → found ≡ Some call → IsGood call)
+done-by : (node : Node) (turn : Turn) (p : Process) → IsInItsTurn node turn p → (found : Option KernelCall) → IfSome found IsGood
     → IsDone node (kernel_does found node turn p)
 done-by node turn p c None good = stops-done node turn p c (NoCall (call_number p))
 done-by node turn p c (Some call) good =
     cond_both call.is_counted (counted_does call node turn p) (call.does node turn p) (IsDone node)
     (λ t. cond_both (nat_lt turn.calls turn_calls) (call.does node (one_call_more turn) p) (stops node turn p TurnSpent) (IsDone node)
-    (λ room. good call refl node (one_call_more turn) p (in_turn-more node turn p c (ltb-true _ _ room)))
+    (λ room. good node (one_call_more turn) p (in_turn-more node turn p c (ltb-true _ _ room)))
     (λ spent. stops-done node turn p c TurnSpent))
-    (λ f. good call refl node turn p c)
+    (λ f. good node turn p c)
 
 -- what each kernel call makes of a node whose process has come to it
-pub kernel-done : (node : Node) (turn : Turn) (p : Process) → InTurn node turn p → IsDone node (kernel node turn p)
+pub kernel-done : (node : Node) (turn : Turn) (p : Process) → IsInItsTurn node turn p → IsDone node (kernel node turn p)
 unfolding kernel
-kernel-done node turn p c = done-by node turn p c (kernel_call (call_number p)) (call_good (call_number p))
+kernel-done node turn p c = done-by node turn p c (kernel_call (call_number p)) (call_numbered IsGood (call_number p) all_good)

@@ -7,7 +7,7 @@ use Rattle.ce_model.specs.declared.topology.BlockId.{BlockId}
 use Rattle.ce_model.specs.Limits.{process_count, home_blocks, host_home, host_home_lem, greatest_dim_lem}
 use Rattle.ce_model.specs.Blocks.{precedes, is_same_id, blocks_of_home}
 use Rattle.ce_model.specs.Space.{mapped_ids}
-use Rattle.ce_model.specs.Process.{Process, unborn, register_count}
+use Rattle.ce_model.specs.Process.{Process, unborn_process, register_count}
 use Rattle.ce_model.specs.Node.{fresh, process_at, blocks_of}
 use Rattle.ce_model.specs.Trace.{blank_record}
 use Rattle.ce_model.specs.Cube.{Cube, IsCube, opening}
@@ -75,14 +75,14 @@ count-inside id home from (suc n) same low high =
 
 -- ---- a fresh node
 
-fresh_process : (r dim images pid : ℕ) → process_at (fresh r dim images) pid ≡ unborn
+fresh_process : (r dim images pid : ℕ) → process_at (fresh r dim images) pid ≡ unborn_process
 fresh_process r dim images pid =
     elim (cases_lt pid process_count) [
-      | inl within ↦ get_or-replicate process_count pid unborn unborn within
-      | inr past ↦ get_or_past (replicate process_count unborn) pid unborn (omega (arith, past, length-replicate process_count unborn))
+      | inl within ↦ get_or-replicate process_count pid unborn_process unborn_process within
+      | inr past ↦ get_or_past (replicate process_count unborn_process) pid unborn_process (omega (arith, past, length-replicate process_count unborn_process))
     ]
 
-sound_unborn : (pid : ℕ) → IsSoundProcess blank_record (fresh 0 0 0).turn pid unborn
+sound_unborn : (pid : ℕ) → IsSoundProcess blank_record (fresh 0 0 0).turn pid unborn_process
 sound_unborn pid = record {
   registers = length-replicate {A = ℕ} register_count 0;
   windows = omega arith;
@@ -98,14 +98,14 @@ fresh_node cube r = record {
   dim = refl;
   home = refl;
   images = refl;
-  process_ids = length-replicate process_count unborn;
+  process_ids = length-replicate process_count unborn_process;
   processes = λ pid within. subst (IsSoundProcess blank_record (fresh 0 0 0).turn pid) (sym (fresh_process r cube.dim (length cube.images) pid)) (sound_unborn pid);
   polling = λ pid. sym (ap {B = ℕ} (λ (p : Process). if is_polling p.status then 1 else 0) (fresh_process r cube.dim (length cube.images) pid));
   turn = tt;
   store = rising-home r;
 }
 
-no_windows : (n : ℕ) → flat_map (λ (p : Process). mapped_ids p.space) (replicate n unborn) ≡ []
+no_windows : (n : ℕ) → flat_map (λ (p : Process). mapped_ids p.space) (replicate n unborn_process) ≡ []
 no_windows zero = refl
 no_windows (suc n) = no_windows n
 

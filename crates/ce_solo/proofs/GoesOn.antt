@@ -8,7 +8,7 @@ use Rattle.ce_model.proofs.Walked.{kept_by_each, each_joined}
 use Rattle.ce_model.proofs.AloneByEntries.{alone_by_entries, entries_of_alone}
 use Rattle.ce_solo.proofs.Steps.{state_after, entry_in}
 use Rattle.ce_solo.proofs.Made.{call_in}
-use Rattle.ce_solo.proofs.Stands.{Stands, entry_of-next, left-made, stands-made, stands-nil, stands-each, left_by-nil}
+use Rattle.ce_solo.proofs.Stands.{IsSoundTrace, entry_of-next, left-made, stands-made, stands-nil, stands-each, left_by-nil}
 
 -- the entry that an actor makes next in a state
 abbrev next_in : Cube → CubeState → ℕ → Option HostCall → Option Entry
@@ -26,8 +26,8 @@ next-same cube o o' t t' entry same next =
 
 -- the second part so far: from what the first left, and behind the first
 record IsCut (cube : Cube) (o : CubeState) (t s : List Entry) : Type 0 where
-  whole : Stands cube o (t ++ s)
-  part : Stands cube (left_by cube o t) s
+  whole : IsSoundTrace cube o (t ++ s)
+  part : IsSoundTrace cube (left_by cube o t) s
   same : left_by cube (left_by cube o t) s ≡ left_by cube o (t ++ s)
   each : EachAfter (IsNext cube o) t s
 
@@ -38,7 +38,7 @@ cut-more cube o t s entry of cut next =
     let e' = entry_of-next cube o (t ++ s) entry next' in
     let joined = append_assoc t s (entry ∷ []) in
     record {
-      whole = subst (Stands cube o) joined (stands-made cube o (t ++ s) entry of cut.whole e');
+      whole = subst (IsSoundTrace cube o) joined (stands-made cube o (t ++ s) entry of cut.whole e');
       part = stands-made cube (left_by cube o t) s entry of cut.part e;
       same = left-made cube (left_by cube o t) s entry cut.part e ∙ ap (λ left. state_after cube left entry) cut.same
           ∙ sym (left-made cube o (t ++ s) entry cut.whole e') ∙ ap (left_by cube o) joined;
@@ -51,7 +51,7 @@ goes_on cube o t of sound alone s after =
     let each = entries_of_alone cube o t alone in
     let stands = stands-each cube o t of sound each in
     let at_first : IsCut cube o t [] = record {
-      whole = subst (Stands cube o) (sym (append-nil t)) stands;
+      whole = subst (IsSoundTrace cube o) (sym (append-nil t)) stands;
       part = stands-nil cube (left_by cube o t) stands.sound;
       same = left_by-nil cube (left_by cube o t) ∙ ap (left_by cube o) (sym (append-nil t));
       each = tt;

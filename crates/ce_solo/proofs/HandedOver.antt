@@ -5,17 +5,17 @@ use Rattle.std.proofs.lemmas.Nat.Bits.{bit_at_lowest, bit_at-suc, bit_at-zero}
 use Rattle.ce_model.specs.declared.process.Status.{Status}
 use Rattle.ce_model.specs.declared.entry.Entry.{Entry}
 use Rattle.ce_model.specs.declared.entry.What.TheVariants.{Take}
-use Rattle.ce_model.specs.declared.entry.Given.TheVariants.{Mail}
+use Rattle.ce_model.specs.declared.entry.TakeResult.TheVariants.{Mail}
 use Rattle.ce_model.specs.Parcels.{Parcel, Item, start, mail, kill, is_member, is_eligible}
-use Rattle.ce_model.specs.Process.{Process, unborn, is_stopped}
+use Rattle.ce_model.specs.Process.{Process, unborn_process, is_stopped}
 use Rattle.ce_model.specs.Node.{Node, process_at, Call, takes, sends, spawns, kills, notes, arms, looks, takes_mail, ids_of, take_of}
-use Rattle.ce_model.specs.Answers.{offered, is_used_up, answer}
+use Rattle.ce_model.specs.Answers.{offer_of, is_used_up, answer}
 use Rattle.ce_model.specs.Saying.{says}
 use Rattle.ce_model.specs.Cube.{Cube, CubeState, IsCube, node_numbers, HostCall}
 use Rattle.ce_model.specs.Sound.{IsSound}
-use Rattle.ce_solo.proofs.Words.{Leaves}
+use Rattle.ce_solo.proofs.Words.{HasMadeCall}
 use Rattle.ce_solo.proofs.Sending.{not_host}
-use Rattle.ce_solo.proofs.Made.{Made, by_host, by_node, made-leaves}
+use Rattle.ce_solo.proofs.Made.{IsMadeCall, by_host, by_node, made-leaves}
 use Rattle.ce_solo.proofs.Stands.{IsEntryOf}
 
 -- ---- sets of ids
@@ -29,7 +29,7 @@ bits_behind : (b : Bool) (rest : ℕ) → ((if b then 1 else 0) + 2 * rest) / 2 
 bits_behind true rest = omega arith
 bits_behind false rest = omega arith
 
-pub member-of : (test : Status → Bool) (ps : List Process) (pid : ℕ) → is_member pid (ids_of test ps) ≡ true → test (slice_index_or ps pid unborn).status ≡ true
+pub member-of : (test : Status → Bool) (ps : List Process) (pid : ℕ) → is_member pid (ids_of test ps) ≡ true → test (slice_index_or ps pid unborn_process).status ≡ true
 member-of test [] pid h = absurd (omega (arith, eqb-true _ 1 h, bit_at-zero pid))
 member-of test (p ∷ ps) zero h =
     sym (bit_first (test p.status) (ids_of test ps)) ∙ ap (λ n. n == 1) (sym (bit_at_lowest (ids_of test (p ∷ ps)))) ∙ h
@@ -55,7 +55,7 @@ pub record IsMailFound (asking dead : ℕ) (items : List Item) (pid number : ℕ
   pub number_is : parcel.number ≡ number
 
 mail_found : (asking dead : ℕ) (items : List Item) (pid number : ℕ) (found : Option Item) (poller : Option ℕ) (used : Bool) → find (is_eligible asking dead) items ≡ found
-    → offered found poller used ≡ Mail pid number → IsMailFound asking dead items pid number
+    → offer_of found poller used ≡ Mail pid number → IsMailFound asking dead items pid number
 mail_found asking dead items pid number (Some item) poller true f e = absurd (cc)
 mail_found asking dead items pid number (Some (start p image)) poller false f e = absurd (cc)
 mail_found asking dead items pid number (Some (mail parcel)) poller false f e =
@@ -68,7 +68,7 @@ mail_found asking dead items pid number None None used f e = absurd (cc)
 -- a node's entry that is a Take answered with a parcel
 pub record IsMailTaken (cube : Cube) (s : CubeState) (r asking dead pid number : ℕ) : Type 0 where
   pub poller : Option ℕ
-  pub said : Leaves (s.node r) (says (s.node r)).node (takes asking dead poller)
+  pub said : HasMadeCall (s.node r) (says (s.node r)).node (takes asking dead poller)
   pub mail_is : IsMailFound asking dead (s.standing.node_record r).waiting pid number
 
 module _ (cube : Cube) (s : CubeState) (of : IsCube cube) (sound : IsSound cube s) (r asking dead pid number : ℕ) (poller : Option ℕ) (below : r < 2 ^ cube.dim) where
@@ -78,7 +78,7 @@ module _ (cube : Cube) (s : CubeState) (of : IsCube cube) (sound : IsSound cube 
   taken-by (takes a d p) says e =
       let same_asking : a ≡ asking = cc in
       let same_dead : d ≡ dead = cc in
-      let given : offered (find (is_eligible a d) (s.standing.node_record r).waiting) p (is_used_up s.standing) ≡ Mail pid number = cc in
+      let given : offer_of (find (is_eligible a d) (s.standing.node_record r).waiting) p (is_used_up s.standing) ≡ Mail pid number = cc in
       subst (λ a. IsMailTaken cube s r a dead pid number) same_asking
       (subst (λ d. IsMailTaken cube s r a d pid number) same_dead
       (record {
@@ -94,7 +94,7 @@ module _ (cube : Cube) (s : CubeState) (of : IsCube cube) (sound : IsSound cube 
   taken-by looks says e = absurd (cc)
   taken-by takes_mail says e = absurd (cc)
 
-  made-taken : (actor : ℕ) (asked : Option HostCall) (call : Call) → actor ≡ r → Made cube s actor asked call
+  made-taken : (actor : ℕ) (asked : Option HostCall) (call : Call) → actor ≡ r → IsMadeCall cube s actor asked call
       → answer (node_numbers cube.dim) s.standing r call ≡ Take asking dead poller (Mail pid number) → IsMailTaken cube s r asking dead pid number
   made-taken actor asked call same (by_host is e) what = absurd (omega (arith, not_host cube r of below))
   made-taken actor asked call same (by_node low e) what = taken-by call (ap (λ q. (says (s.node q)).call) (sym same) ∙ e) what

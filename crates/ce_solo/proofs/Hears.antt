@@ -11,24 +11,24 @@ use Rattle.ce_model.specs.declared.process.Status.{Status}
 use Rattle.ce_model.specs.Limits.{process_count, window_count, turn_instructions}
 use Rattle.ce_model.specs.Blocks.{put}
 use Rattle.ce_model.specs.Parcels.{Parcel}
-use Rattle.ce_model.specs.Space.{window_start, has_unused_window, mapped, mapped_ids}
-use Rattle.ce_model.specs.Process.{Process, started, with_answer, register_count, unborn as unborn_process, is_receiving, is_stopped}
+use Rattle.ce_model.specs.Space.{window_start, has_unused_window, mapped_space, mapped_ids}
+use Rattle.ce_model.specs.Process.{Process, started_process, with_answer, register_count, unborn_process as unborn_process, is_receiving, is_stopped}
 use Rattle.ce_model.specs.Node.{Turn, Node, process_at, with_process, without_poller, with_stopped, blocks_of}
 use Rattle.ce_model.specs.Hearing.{start_of, mail_of, kill_of, poll_of, told, nothing, image_at, begins, begins_with, with_stored, gets, tells, hears}
 use Rattle.ce_model.specs.Sound.{is_unborn, IsSoundTurn}
 use Rattle.ce_solo.proofs.Counting.{hit-self, count, count-nil, count-one, count-append, count-put, rising-put}
 use Rattle.ce_solo.proofs.Windows.{same_held, ids-mapped}
-use Rattle.ce_solo.proofs.Nodes.{polls-other, polls-without, IsWell, Became, became-same, became-end, IsChange, change-blocks, change-well, change-became, stop-became, polls-once}
+use Rattle.ce_solo.proofs.Nodes.{polls-other, polls-without, IsWell, HasBecome, became-same, became-then, IsChange, change-blocks, change-well, change-became, stop-became, polls-once}
 use Rattle.ce_solo.proofs.Words.{runs-became, in_turn-windows}
 use Rattle.ce_solo.proofs.Says.{now_in_turn}
 
 -- a node has become another by an answer
-pub record Hears (node node' : Node) (come : List BlockId) : Type 0 where
-  pub became : Became node'.turn node node' come []
+pub record HasHeardAnswer (node node' : Node) (come : List BlockId) : Type 0 where
+  pub became : HasBecome node'.turn node node' come []
   pub turn : IfSome node'.turn IsSoundTurn
 
 -- a process of the node was started
-pub record Begins (node node' : Node) (pid : ℕ) : Type 0 where
+pub record HasStarted (node node' : Node) (pid : ℕ) : Type 0 where
   pub number : node'.number ≡ node.number
   pub dim : node'.dim ≡ node.dim
   pub home : node'.home ≡ node.home
@@ -74,7 +74,7 @@ begins-hears : (node : Node) (pid : ℕ) (p : Process) (come : List BlockId) →
     → length p.space.windows ≤ window_count → is_unborn (process_at node pid).status ≡ false → is_stopped (process_at node pid).status ≡ false
     → ((id : BlockId) → count id (mapped_ids p.space) ≡ count id (mapped_ids (process_at node pid).space) + count id come)
     → ((id : BlockId) → count id (blocks_of node) + count id come ≤ 1)
-    → Hears node (begins node pid p) come
+    → HasHeardAnswer node (begins node pid p) come
 begins-hears node pid p come well within registers windows born going blocks once = record {
   became = change-became None (Some (new_turn pid)) (Some (new_turn pid)) node pid (record p { status = Running }) node.store (without_poller pid node.polling) come []
       (begins-change node pid p come well within registers windows blocks once) (sym born) (λ h. absurd (both_ways _ going h));
@@ -93,7 +93,7 @@ receiving_is (Stopped cause) h = absurd (both_ways _ refl h)
 
 stored-hears : (node : Node) (parcel : Parcel) → IsWell None node → node.turn ≡ None
     → ((id : BlockId) → count id (blocks_of node) + count id (parcel.block.id ∷ []) ≤ 1)
-    → Became None node (with_stored node parcel) (parcel.block.id ∷ []) []
+    → HasBecome None node (with_stored node parcel) (parcel.block.id ∷ []) []
 stored-hears node parcel well none once =
     let others = flat_map (λ (q : Process). mapped_ids q.space) node.processes in
     let blocks : (id : BlockId) → count id (blocks_of (with_stored node parcel)) ≡ count id (blocks_of node) + count id (parcel.block.id ∷ []) =
@@ -118,57 +118,57 @@ stored-hears node parcel well none once =
 
 gets-hears : (node : Node) (parcel : Parcel) → IsWell None node → node.turn ≡ None → parcel.to.pid < process_count
     → ((id : BlockId) → count id (blocks_of node) + count id (parcel.block.id ∷ []) ≤ 1)
-    → is_receiving (process_at node parcel.to.pid).status ≡ true → Hears node (gets node parcel (process_at node parcel.to.pid)) (parcel.block.id ∷ [])
+    → is_receiving (process_at node parcel.to.pid).status ≡ true → HasHeardAnswer node (gets node parcel (process_at node parcel.to.pid)) (parcel.block.id ∷ [])
 gets-hears node parcel well none within once receives =
     let pid = parcel.to.pid in
     let p = process_at node pid in
     let is = receiving_is p.status receives in
     let of = well.processes pid within in
     cond_both (has_unused_window p.space)
-    (begins_with node pid (record p { space = mapped parcel.block p.space }) (window_start (length p.space.windows)))
-    (with_stopped (with_stored node parcel) pid p WindowsSpent) (λ node'. Hears node node' (parcel.block.id ∷ []))
+    (begins_with node pid (record p { space = mapped_space parcel.block p.space }) (window_start (length p.space.windows)))
+    (with_stopped (with_stored node parcel) pid p WindowsSpent) (λ node'. HasHeardAnswer node node' (parcel.block.id ∷ []))
     (λ room.
-    begins-hears node pid (with_answer (window_start (length p.space.windows)) (record p { space = mapped parcel.block p.space })) (parcel.block.id ∷ []) well within
+    begins-hears node pid (with_answer (window_start (length p.space.windows)) (record p { space = mapped_space parcel.block p.space })) (parcel.block.id ∷ []) well within
     (length-set p.regs 10 (window_start (length p.space.windows)) ∙ of.registers)
     (omega (arith, ltb-true _ _ room, length-append p.space.windows (Some parcel.block ∷ []))) is.0 is.1
     (λ id. omega (arith, ap (count id) (ids-mapped parcel.block p.space), count-append id (mapped_ids p.space) (parcel.block.id ∷ []))) once)
     (λ full.
     let stored = stored-hears node parcel well none once in
     record {
-      became = became-end None None node (with_stored node parcel) (with_stopped (with_stored node parcel) pid p WindowsSpent) (parcel.block.id ∷ []) [] stored
+      became = became-then stored
           (stop-became None (with_stored node parcel) pid p WindowsSpent stored.well within of.registers of.windows (same_held p.space) (λ q differ. refl) is.0);
       turn = tt;
     })
 
 pub mail-hears : (images : List ImageParts) (node : Node) (parcel : Parcel) → IsWell None node → node.turn ≡ None → parcel.to.pid < process_count
-    → ((id : BlockId) → count id (blocks_of node) + count id (parcel.block.id ∷ []) ≤ 1) → Hears node (hears images node (mail_of parcel)) (parcel.block.id ∷ [])
+    → ((id : BlockId) → count id (blocks_of node) + count id (parcel.block.id ∷ []) ≤ 1) → HasHeardAnswer node (hears images node (mail_of parcel)) (parcel.block.id ∷ [])
 unfolding hears
 mail-hears images node parcel well none within once =
     cond_both (is_receiving (process_at node parcel.to.pid).status) (gets node parcel (process_at node parcel.to.pid)) (with_stored node parcel)
-    (λ node'. Hears node node' (parcel.block.id ∷ [])) (gets-hears node parcel well none within once)
+    (λ node'. HasHeardAnswer node node' (parcel.block.id ∷ [])) (gets-hears node parcel well none within once)
     (λ f. record {
-      became = subst (λ turn. Became turn node (with_stored node parcel) (parcel.block.id ∷ []) []) (sym none) (stored-hears node parcel well none once);
+      became = subst (λ turn. HasBecome turn node (with_stored node parcel) (parcel.block.id ∷ []) []) (sym none) (stored-hears node parcel well none once);
       turn = subst (λ turn. IfSome turn IsSoundTurn) (sym none) tt;
     })
 
 -- ---- the other answers
 
-same-hears : (node : Node) → IsWell node.turn node → IfSome node.turn IsSoundTurn → Hears node node []
+same-hears : (node : Node) → IsWell node.turn node → IfSome node.turn IsSoundTurn → HasHeardAnswer node node []
 same-hears node well sound = record { became = became-same node.turn node well; turn = sound }
 
-none-hears : (node : Node) → IsWell None node → node.turn ≡ None → Hears node node []
+none-hears : (node : Node) → IsWell None node → node.turn ≡ None → HasHeardAnswer node node []
 none-hears node well none = same-hears node (subst (λ turn. IsWell turn node) (sym none) well) (subst (λ turn. IfSome turn IsSoundTurn) (sym none) tt)
 
-pub nothing-hears : (images : List ImageParts) (node : Node) → IsWell node.turn node → IfSome node.turn IsSoundTurn → Hears node (hears images node nothing) []
+pub nothing-hears : (images : List ImageParts) (node : Node) → IsWell node.turn node → IfSome node.turn IsSoundTurn → HasHeardAnswer node (hears images node nothing) []
 unfolding hears
 nothing-hears images node well sound = same-hears node well sound
 
 pub kill-hears : (images : List ImageParts) (node : Node) (pid : ℕ) → IsWell None node → node.turn ≡ None → pid < process_count
-    → is_unborn (process_at node pid).status ≡ false → Hears node (hears images node (kill_of pid)) []
+    → is_unborn (process_at node pid).status ≡ false → HasHeardAnswer node (hears images node (kill_of pid)) []
 unfolding hears
 kill-hears images node pid well none within born =
     let of = well.processes pid within in
-    cond_both (is_stopped (process_at node pid).status) node (with_stopped node pid (process_at node pid) Killed) (λ node'. Hears node node' [])
+    cond_both (is_stopped (process_at node pid).status) node (with_stopped node pid (process_at node pid) Killed) (λ node'. HasHeardAnswer node node' [])
     (λ t. none-hears node well none)
     (λ f. record {
       became = stop-became None node pid (process_at node pid) Killed well within of.registers of.windows (same_held (process_at node pid).space) (λ q differ. refl) born;
@@ -176,36 +176,36 @@ kill-hears images node pid well none within born =
     })
 
 pub poll-hears : (images : List ImageParts) (node : Node) (pid : ℕ) → IsWell None node → pid < process_count
-    → is_unborn (process_at node pid).status ≡ false → is_stopped (process_at node pid).status ≡ false → Hears node (hears images node (poll_of pid)) []
+    → is_unborn (process_at node pid).status ≡ false → is_stopped (process_at node pid).status ≡ false → HasHeardAnswer node (hears images node (poll_of pid)) []
 unfolding hears
 poll-hears images node pid well within born going =
     let of = well.processes pid within in
     begins-hears node pid (with_answer 0 (process_at node pid)) [] well within (length-set (process_at node pid).regs 10 0 ∙ of.registers) of.windows born going
     (λ id. omega (arith, count-nil id)) (λ id. omega (arith, well.once id, count-nil id))
 
-told-in : (node : Node) (value : ℕ) (turn : Option Turn) → node.turn ≡ turn → IsWell turn node → IfSome turn IsSoundTurn → Hears node (tells value node turn) []
+told-in : (node : Node) (value : ℕ) (turn : Option Turn) → node.turn ≡ turn → IsWell turn node → IfSome turn IsSoundTurn → HasHeardAnswer node (tells value node turn) []
 told-in node value None is well sound = none-hears node well is
 told-in node value (Some turn) is well sound =
     let p = process_at node turn.pid in
     let c = now_in_turn node turn well sound in
     record {
-      became = subst (λ now. Became now node (with_process node turn.pid (with_answer value p)) [] []) (sym is)
+      became = subst (λ now. HasBecome now node (with_process node turn.pid (with_answer value p)) [] []) (sym is)
           (runs-became node turn p c turn node.turn (with_answer value p) node.store [] refl refl (length-set p.regs 10 value ∙ c.registers)
           (in_turn-windows node turn p c) well.store (λ id. omega (arith, count-nil id)));
       turn = subst (λ now. IfSome now IsSoundTurn) (sym is) sound;
     }
 
-pub told-hears : (images : List ImageParts) (node : Node) (value : ℕ) → IsWell node.turn node → IfSome node.turn IsSoundTurn → Hears node (hears images node (told value)) []
+pub told-hears : (images : List ImageParts) (node : Node) (value : ℕ) → IsWell node.turn node → IfSome node.turn IsSoundTurn → HasHeardAnswer node (hears images node (told value)) []
 unfolding hears
 told-hears images node value well sound = told-in node value node.turn refl well sound
 
 -- ---- a start
 
 pub start-begins : (images : List ImageParts) (node : Node) (pid image : ℕ) → IsWell None node → pid < process_count → is_unborn (process_at node pid).status ≡ true
-    → Begins node (hears images node (start_of pid image)) pid
+    → HasStarted node (hears images node (start_of pid image)) pid
 unfolding hears
 start-begins images node pid image well within unborn =
-    let p = started (image_at images image) in
+    let p = started_process (image_at images image) in
     let none = (well.processes pid within).unborn_used unborn in
     let change = begins-change node pid p [] well within (length-set (replicate register_count 0) 2 PRIVATE_END) (omega arith)
     (λ id. omega (arith, ap (λ windows. count id (mapped_ids (record { private = (process_at node pid).space.private; windows = windows }))) none, count-nil id))

@@ -8,8 +8,8 @@ use Rattle.ce_model.specs.declared.topology.BlockId.{BlockId}
 use Rattle.ce_model.specs.declared.entry.Entry.{Entry}
 use Rattle.ce_model.specs.declared.entry.What.{What}
 use Rattle.ce_model.specs.declared.entry.What.TheVariants.{Arm, Look, HostTake, Send, Spawn, Kill}
-use Rattle.ce_model.specs.declared.entry.Found.{Found}
-use Rattle.ce_model.specs.declared.entry.Given.TheVariants.{Mail}
+use Rattle.ce_model.specs.declared.entry.LookResult.{LookResult}
+use Rattle.ce_model.specs.declared.entry.TakeResult.TheVariants.{Mail}
 use Rattle.ce_model.specs.declared.entry.KillFound.{KillFound}
 use Rattle.ce_model.specs.declared.entry.KillFound.TheVariants.{Killed, Unused, Already}
 use Rattle.ce_model.specs.Blocks.{without_id, put}
@@ -22,7 +22,7 @@ use Rattle.ce_model.specs.Sound.{IsHostItem, IsSoundHost, IsSound, IsRising}
 use Rattle.ce_solo.proofs.Counting.{hit, hit-self, count, count-nil, count-one, count-cons, count-append, count-put, rising-put, same_id-self, sum_run-zero}
 use Rattle.ce_solo.proofs.Lists.{all-filter, joined, joined-is, find-out}
 use Rattle.ce_solo.proofs.Items.{parcel_ids, ids-append, all_numbers-filter, rising-filter, named-mail}
-use Rattle.ce_solo.proofs.Records.{Keeps, kept_with, keeps-same, keeps-mails, mails-ids}
+use Rattle.ce_solo.proofs.Records.{HasStayedSound, kept_with, keeps-same, keeps-mails, mails-ids}
 use Rattle.ce_solo.proofs.Totals.{total-is, total-le}
 use Rattle.ce_solo.proofs.Sending.{not_host, place_parts, sent_ids, to_node, are_sent, sent-new, sent-host, sent-sum, start-keeps, kill-keeps}
 use Rattle.ce_solo.proofs.Steps.{record_by, state_after, entry_in}
@@ -40,7 +40,7 @@ module _ (cube : Cube) (s : CubeState) (of : IsCube cube) (sound : IsSound cube 
   entry_of what = record { user = cube.user; actor = HOST; what = what }
 
   -- an entry that moves no block
-  quiet-host : (what : What) → ((q : ℕ) → q < 2 ^ cube.dim → Keeps cube (sent_by s HOST what) q (kept_at q) (record_by false q (entry_of what) (kept_at q)) [] [])
+  quiet-host : (what : What) → ((q : ℕ) → q < 2 ^ cube.dim → HasStayedSound cube (sent_by s HOST what) q (kept_at q) (record_by false q (entry_of what) (kept_at q)) [] [])
       → (record_by true HOST (entry_of what) (kept_at HOST)).waiting ≡ (kept_at HOST).waiting → stored_by (kept_at HOST).waiting s.hoststore what ≡ s.hoststore
       → dispatched_by s.standing.dispatched what ≤ armed_by s.standing.armed what → IsSound cube (state_after cube s (entry_of what))
   quiet-host what keeps no_mail store dispatches =
@@ -53,13 +53,13 @@ module _ (cube : Cube) (s : CubeState) (of : IsCube cube) (sound : IsSound cube 
       })
 
   plain_keeps : (q : ℕ) → q < 2 ^ cube.dim
-      → Keeps cube (s.standing.parcel_count + 0) q (kept_at q) (kept_with (kept_at q).waiting (kept_at q).spawned (kept_at q).killed (kept_at q).mark) [] []
+      → HasStayedSound cube (s.standing.parcel_count + 0) q (kept_at q) (kept_with (kept_at q).waiting (kept_at q).spawned (kept_at q).killed (kept_at q).mark) [] []
   plain_keeps q within = keeps-same cube s.standing.parcel_count (s.standing.parcel_count + 0) q (kept_at q) (kept_at q).mark (omega arith) (sound.records q within)
 
   arm-host : (allowed : ℕ) → IsSound cube (state_after cube s (entry_of (Arm allowed)))
   arm-host allowed = quiet-host (Arm allowed) plain_keeps refl refl (omega arith)
 
-  look-host : (found : Found) → IsSound cube (state_after cube s (entry_of (Look found)))
+  look-host : (found : LookResult) → IsSound cube (state_after cube s (entry_of (Look found)))
   look-host found = quiet-host (Look found) plain_keeps refl refl sound.dispatches
 
   spawn-host : (image : ℕ) (to : Place) (fresh : Bool) → not (is_among to.pid (kept_at to.node).spawned) ≡ fresh → is_place cube.dim to ≡ true

@@ -3,119 +3,119 @@ use Rattle.std.proofs.Common.{◌≡◌, ℕ, Bool, true, false, not, List, [], 
 use Rattle.std.proofs.lemmas.Bool.{both_ways, false_from_ne_true}
 use Rattle.ce_model.specs.declared.topology.Place.{Place}
 use Rattle.ce_model.specs.declared.entry.Entry.{Entry}
-use Rattle.ce_model.specs.declared.entry.Given.{Given}
+use Rattle.ce_model.specs.declared.entry.TakeResult.{TakeResult}
 use Rattle.ce_model.specs.Lists.{IsFront}
 use Rattle.ce_model.specs.Parcels.{Item, is_named_by}
-use Rattle.ce_model.specs.Trace.{Standing, items_to, sent_to, waiting}
+use Rattle.ce_model.specs.Trace.{Standing, items_to, sent_to, waiting_items}
 use Rattle.ce_model.specs.Cube.{Cube, CubeState, IsCube, left_by}
-use Rattle.ce_model.specs.Order.{bytes_between, bytes_handed, sent, got}
+use Rattle.ce_model.specs.Order.{bytes_between, bytes_handed, messages_sent, messages_got}
 use Rattle.ce_model.proofs.OneMore.{taken_for, sent-more, got-more}
 use Rattle.ce_solo.proofs.Lists.{joined-is}
 use Rattle.ce_solo.proofs.Steps.{waiting_after, state_after, entry_in}
 use Rattle.ce_solo.proofs.Made.{taking-sends_none}
-use Rattle.ce_solo.proofs.Stands.{Stands, IsEntryOf, left-made, waits-made, waiting-nil}
+use Rattle.ce_solo.proofs.Stands.{IsSoundTrace, IsEntryOf, left-made, waits-made, waiting-nil}
 use Rattle.ce_solo.proofs.Stopped.{gone}
 use Rattle.ce_solo.proofs.Between.{between-append, handed-none}
 use Rattle.ce_model.specs.Node.{Call}
 
 -- from one place to another: what was sent is what was got and what waits, while the receiver has not stopped
-pub record InOrder (cube : Cube) (o : CubeState) (from to : Place) (t : List Entry) : Type 0 where
-  pub equal : gone cube (left_by cube o t) to ≡ false → sent o.standing from to t ≡ got o.standing from to t ++ bytes_between from to (waiting o.standing to.node t)
-  pub front : IsFront (got o.standing from to t) (sent o.standing from to t)
+pub record AreInOrder (cube : Cube) (o : CubeState) (from to : Place) (t : List Entry) : Type 0 where
+  pub equal : gone cube (left_by cube o t) to ≡ false → messages_sent o.standing from to t ≡ messages_got o.standing from to t ++ bytes_between from to (waiting_items o.standing to.node t)
+  pub front : IsFront (messages_got o.standing from to t) (messages_sent o.standing from to t)
 
 -- what an entry by which the receiver's node takes an item does to the bytes between the two: none go; the first is handed over;
 -- or the receiver has stopped
-pub data Passed (handed before after : List (List ℕ)) (gone gone' : Bool) : Type 0 where
-  passes : handed ≡ [] → after ≡ before → Passed handed before after gone gone'
-  hands : (bytes : List ℕ) → handed ≡ bytes ∷ [] → before ≡ bytes ∷ after → gone ≡ false → Passed handed before after gone gone'
-  drops : handed ≡ [] → gone' ≡ true → Passed handed before after gone gone'
+pub data HasPassed (handed before after : List (List ℕ)) (gone gone' : Bool) : Type 0 where
+  passes : handed ≡ [] → after ≡ before → HasPassed handed before after gone gone'
+  hands : (bytes : List ℕ) → handed ≡ bytes ∷ [] → before ≡ bytes ∷ after → gone ≡ false → HasPassed handed before after gone gone'
+  drops : handed ≡ [] → gone' ≡ true → HasPassed handed before after gone gone'
 
 -- the order between two places
-record IsOrdered (gone : Bool) (sent got waits : List (List ℕ)) : Type 0 where
-  equal : gone ≡ false → sent ≡ got ++ waits
-  front : IsFront got sent
+record IsOrdered (gone : Bool) (messages_sent messages_got waits : List (List ℕ)) : Type 0 where
+  equal : gone ≡ false → messages_sent ≡ messages_got ++ waits
+  front : IsFront messages_got messages_sent
 
-more-sent : (gone gone' : Bool) (sent got waits new : List (List ℕ)) → (gone ≡ true → gone' ≡ true) → IsOrdered gone sent got waits → IsOrdered gone' (sent ++ new) (got ++ []) (waits ++ new)
-more-sent gone gone' sent got waits new stays is = record {
+more-sent : (gone gone' : Bool) (messages_sent messages_got waits new : List (List ℕ)) → (gone ≡ true → gone' ≡ true) → IsOrdered gone messages_sent messages_got waits → IsOrdered gone' (messages_sent ++ new) (messages_got ++ []) (waits ++ new)
+more-sent gone gone' messages_sent messages_got waits new stays is = record {
   equal = λ h.
       let here : gone ≡ false = false_from_ne_true gone (λ t. both_ways _ h (stays t)) in
-      ap (λ xs. xs ++ new) (is.equal here) ∙ append_assoc got waits new ∙ ap (λ xs. xs ++ (waits ++ new)) (sym (append-nil got));
-  front = (is.front.0 ++ new, ap (λ xs. xs ++ (is.front.0 ++ new)) (append-nil got) ∙ sym (append_assoc got is.front.0 new) ∙ ap (λ xs. xs ++ new) is.front.1);
+      ap (λ xs. xs ++ new) (is.equal here) ∙ append_assoc messages_got waits new ∙ ap (λ xs. xs ++ (waits ++ new)) (sym (append-nil messages_got));
+  front = (is.front.0 ++ new, ap (λ xs. xs ++ (is.front.0 ++ new)) (append-nil messages_got) ∙ sym (append_assoc messages_got is.front.0 new) ∙ ap (λ xs. xs ++ new) is.front.1);
 }
 
-same-sent : (gone gone' : Bool) (sent got waits : List (List ℕ)) (handed waits' : List (List ℕ)) → (gone ≡ true → gone' ≡ true) → IsOrdered gone sent got waits
-    → Passed handed waits waits' gone gone' → IsOrdered gone' sent (got ++ handed) waits'
-same-sent gone gone' sent got waits handed waits' stays is (passes none same) = record {
+same-sent : (gone gone' : Bool) (messages_sent messages_got waits : List (List ℕ)) (handed waits' : List (List ℕ)) → (gone ≡ true → gone' ≡ true) → IsOrdered gone messages_sent messages_got waits
+    → HasPassed handed waits waits' gone gone' → IsOrdered gone' messages_sent (messages_got ++ handed) waits'
+same-sent gone gone' messages_sent messages_got waits handed waits' stays is (passes none same) = record {
   equal = λ h.
       let here : gone ≡ false = false_from_ne_true gone (λ t. both_ways _ h (stays t)) in
-      is.equal here ∙ ap (λ xs. got ++ xs) (sym same) ∙ ap (λ xs. xs ++ waits') (sym (ap (λ xs. got ++ xs) none ∙ append-nil got));
-  front = (is.front.0, ap (λ xs. xs ++ is.front.0) (ap (λ xs. got ++ xs) none ∙ append-nil got) ∙ is.front.1);
+      is.equal here ∙ ap (λ xs. messages_got ++ xs) (sym same) ∙ ap (λ xs. xs ++ waits') (sym (ap (λ xs. messages_got ++ xs) none ∙ append-nil messages_got));
+  front = (is.front.0, ap (λ xs. xs ++ is.front.0) (ap (λ xs. messages_got ++ xs) none ∙ append-nil messages_got) ∙ is.front.1);
 }
-same-sent gone gone' sent got waits handed waits' stays is (hands bytes one first here) =
-    let whole : sent ≡ (got ++ handed) ++ waits' =
-    is.equal here ∙ ap (λ xs. got ++ xs) first ∙ sym (append_assoc got (bytes ∷ []) waits') ∙ ap (λ xs. (got ++ xs) ++ waits') (sym one) in
+same-sent gone gone' messages_sent messages_got waits handed waits' stays is (hands bytes one first here) =
+    let whole : messages_sent ≡ (messages_got ++ handed) ++ waits' =
+    is.equal here ∙ ap (λ xs. messages_got ++ xs) first ∙ sym (append_assoc messages_got (bytes ∷ []) waits') ∙ ap (λ xs. (messages_got ++ xs) ++ waits') (sym one) in
     record { equal = λ h. whole; front = (waits', sym whole) }
-same-sent gone gone' sent got waits handed waits' stays is (drops none stopped) = record {
+same-sent gone gone' messages_sent messages_got waits handed waits' stays is (drops none stopped) = record {
   equal = λ h. absurd (both_ways _ h stopped);
-  front = (is.front.0, ap (λ xs. xs ++ is.front.0) (ap (λ xs. got ++ xs) none ∙ append-nil got) ∙ is.front.1);
+  front = (is.front.0, ap (λ xs. xs ++ is.front.0) (ap (λ xs. messages_got ++ xs) none ∙ append-nil messages_got) ∙ is.front.1);
 }
 
-sent-is : (o : Standing) (from to : Place) (t : List Entry) → bytes_between from to (sent_to o to.node t) ≡ sent o from to t
-unfolding sent
+sent-is : (o : Standing) (from to : Place) (t : List Entry) → bytes_between from to (sent_to o to.node t) ≡ messages_sent o from to t
+unfolding messages_sent
 sent-is o from to t = refl
 
-pub order-nil : (cube : Cube) (o : CubeState) (from to : Place) → InOrder cube o from to []
-unfolding sent got sent_to
+pub order-nil : (cube : Cube) (o : CubeState) (from to : Place) → AreInOrder cube o from to []
+unfolding messages_sent messages_got sent_to
 order-nil cube o from to =
-    let same : bytes_between from to (waiting o.standing to.node []) ≡ bytes_between from to ((o.standing.node_record to.node).waiting ++ []) =
+    let same : bytes_between from to (waiting_items o.standing to.node []) ≡ bytes_between from to ((o.standing.node_record to.node).waiting ++ []) =
     ap (bytes_between from to) (waiting-nil o.standing to.node ∙ sym (append-nil (o.standing.node_record to.node).waiting)) in
     record { equal = λ h. sym same; front = (bytes_between from to ((o.standing.node_record to.node).waiting ++ []), refl) }
 
-module _ (cube : Cube) (o : CubeState) (from to : Place) (t : List Entry) (of : IsCube cube) (stands : Stands cube o t) where
+module _ (cube : Cube) (o : CubeState) (from to : Place) (t : List Entry) (of : IsCube cube) (stands : IsSoundTrace cube o t) where
   abbrev s : CubeState
   s = left_by cube o t
 
   abbrev items : List Item
-  items = waiting o.standing to.node t
+  items = waiting_items o.standing to.node t
 
   -- what the order comes to by the words on traces
-  ordered : InOrder cube o from to t → IsOrdered (gone cube s to) (sent o.standing from to t) (got o.standing from to t) (bytes_between from to items)
+  ordered : AreInOrder cube o from to t → IsOrdered (gone cube s to) (messages_sent o.standing from to t) (messages_got o.standing from to t) (bytes_between from to items)
   ordered is = record { equal = is.equal; front = is.front }
 
-  order-by : (entry : Entry) (gone' : Bool) (sent' got' waits' : List (List ℕ)) → gone cube (left_by cube o (t ++ entry ∷ [])) to ≡ gone' → sent o.standing from to (t ++ entry ∷ []) ≡ sent'
-      → got o.standing from to (t ++ entry ∷ []) ≡ got' → bytes_between from to (waiting o.standing to.node (t ++ entry ∷ [])) ≡ waits' → IsOrdered gone' sent' got' waits'
-      → InOrder cube o from to (t ++ entry ∷ [])
+  order-by : (entry : Entry) (gone' : Bool) (sent' got' waits' : List (List ℕ)) → gone cube (left_by cube o (t ++ entry ∷ [])) to ≡ gone' → messages_sent o.standing from to (t ++ entry ∷ []) ≡ sent'
+      → messages_got o.standing from to (t ++ entry ∷ []) ≡ got' → bytes_between from to (waiting_items o.standing to.node (t ++ entry ∷ [])) ≡ waits' → IsOrdered gone' sent' got' waits'
+      → AreInOrder cube o from to (t ++ entry ∷ [])
   order-by entry gone' sent' got' waits' g s h w is = record {
-    equal = λ not_gone. s ∙ is.equal (sym g ∙ not_gone) ∙ ap (λ xs. xs ++ waits') (sym h) ∙ ap (λ xs. got o.standing from to (t ++ entry ∷ []) ++ xs) (sym w);
-    front = subst (λ xs. IsFront xs (sent o.standing from to (t ++ entry ∷ []))) (sym h) (subst (λ xs. IsFront got' xs) (sym s) is.front);
+    equal = λ not_gone. s ∙ is.equal (sym g ∙ not_gone) ∙ ap (λ xs. xs ++ waits') (sym h) ∙ ap (λ xs. messages_got o.standing from to (t ++ entry ∷ []) ++ xs) (sym w);
+    front = subst (λ xs. IsFront xs (messages_sent o.standing from to (t ++ entry ∷ []))) (sym h) (subst (λ xs. IsFront got' xs) (sym s) is.front);
   }
 
   -- an entry with which the receiver's node takes nothing, and one with which it takes an item
-  pub order-step : (actor : ℕ) (call : Call) (e : IsEntryOf cube s (entry_in cube s actor call)) (taken : Option Given)
+  pub order-step : (actor : ℕ) (call : Call) (e : IsEntryOf cube s (entry_in cube s actor call)) (taken : Option TakeResult)
       → taken_for to.node (entry_in cube s actor call) ≡ taken
-      → ((given : Given) → taken ≡ Some given
-      → Passed (bytes_handed from to items (entry_in cube s actor call)) (bytes_between from to items) (bytes_between from to (filter (λ item. not (is_named_by given item)) items))
+      → ((given : TakeResult) → taken ≡ Some given
+      → HasPassed (bytes_handed from to items (entry_in cube s actor call)) (bytes_between from to items) (bytes_between from to (filter (λ item. not (is_named_by given item)) items))
       (gone cube s to) (gone cube (state_after cube s (entry_in cube s actor call)) to))
       → (gone cube s to ≡ true → gone cube (state_after cube s (entry_in cube s actor call)) to ≡ true)
-      → InOrder cube o from to t → InOrder cube o from to (t ++ entry_in cube s actor call ∷ [])
+      → AreInOrder cube o from to t → AreInOrder cube o from to (t ++ entry_in cube s actor call ∷ [])
   order-step actor call e None none passed stays is =
       let entry = entry_in cube s actor call in
       let new = items_to to.node entry in
-      order-by entry (gone cube (state_after cube s entry) to) (sent o.standing from to t ++ bytes_between from to new) (got o.standing from to t ++ []) (bytes_between from to items ++ bytes_between from to new)
+      order-by entry (gone cube (state_after cube s entry) to) (messages_sent o.standing from to t ++ bytes_between from to new) (messages_got o.standing from to t ++ []) (bytes_between from to items ++ bytes_between from to new)
       (ap (λ s. gone cube s to) (left-made cube o t entry stands e))
       (sent-more o.standing from to t entry ∙ between-append from to (sent_to o.standing to.node t) new ∙ ap (λ xs. xs ++ bytes_between from to new) (sent-is o.standing from to t))
-      (got-more o.standing from to t entry ∙ ap (λ xs. got o.standing from to t ++ xs) (handed-none from to items entry none))
+      (got-more o.standing from to t entry ∙ ap (λ xs. messages_got o.standing from to t ++ xs) (handed-none from to items entry none))
       (ap (bytes_between from to) (waits-made cube o t actor call stands to.node ∙ ap (λ taken. waiting_after taken new items) none ∙ sym (joined-is items new)) ∙ between-append from to items new)
-      (more-sent (gone cube s to) (gone cube (state_after cube s entry) to) (sent o.standing from to t) (got o.standing from to t) (bytes_between from to items) (bytes_between from to new) stays (ordered is))
+      (more-sent (gone cube s to) (gone cube (state_after cube s entry) to) (messages_sent o.standing from to t) (messages_got o.standing from to t) (bytes_between from to items) (bytes_between from to new) stays (ordered is))
   order-step actor call e (Some given) one passed stays is =
       let entry = entry_in cube s actor call in
       let new = items_to to.node entry in
       let left = filter (λ (item : Item). not (is_named_by given item)) items in
-      order-by entry (gone cube (state_after cube s entry) to) (sent o.standing from to t) (got o.standing from to t ++ bytes_handed from to items entry) (bytes_between from to left)
+      order-by entry (gone cube (state_after cube s entry) to) (messages_sent o.standing from to t) (messages_got o.standing from to t ++ bytes_handed from to items entry) (bytes_between from to left)
       (ap (λ s. gone cube s to) (left-made cube o t entry stands e))
       (sent-more o.standing from to t entry
       ∙ ap (bytes_between from to) (ap (λ xs. sent_to o.standing to.node t ++ xs) (taking-sends_none cube s actor to.node call given one) ∙ append-nil (sent_to o.standing to.node t)) ∙ sent-is o.standing from to t)
       (got-more o.standing from to t entry)
       (ap (bytes_between from to) (waits-made cube o t actor call stands to.node ∙ ap (λ taken. waiting_after taken new items) one))
-      (same-sent (gone cube s to) (gone cube (state_after cube s entry) to) (sent o.standing from to t) (got o.standing from to t) (bytes_between from to items) (bytes_handed from to items entry) (bytes_between from to left) stays (ordered is)
+      (same-sent (gone cube s to) (gone cube (state_after cube s entry) to) (messages_sent o.standing from to t) (messages_got o.standing from to t) (bytes_between from to items) (bytes_handed from to items entry) (bytes_between from to left) stays (ordered is)
       (passed given refl))

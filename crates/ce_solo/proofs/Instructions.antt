@@ -9,7 +9,7 @@ use Rattle.rv_model.specs.declared.inst.Inst.TheVariants.{Lui, Auipc, Jal, Jalr,
 use Rattle.rv_model.specs.Words.{dec}
 use Rattle.rv_model.specs.Word.{wrapping_sum}
 use Rattle.rv_model.specs.Private.{word_fetched}
-use Rattle.rv_model.specs.Exec.{Outcome, went, called, stopped, ◌>>=◌, reg, with_reg, is_taken, imm_result, reg_result, load_size, store_size, extended, next_pc, offset_by, jumped, performed, exec}
+use Rattle.rv_model.specs.Exec.{Outcome, went, called, stopped, ◌>>=◌, reg, with_reg, is_taken, imm_result, reg_result, load_size, store_size, loaded_number, next_pc, offset_by, jump_outcome, effect_of, exec}
 use Rattle.ce_model.specs.Space.{Space, loaded_at, stored_at, process_access}
 use Rattle.ce_solo.proofs.Windows.{IsSameHeld, same_held, stored-held}
 
@@ -24,30 +24,30 @@ bind_led : {X : Type 0} (x : List ℕ) (space : Space) (r : Result X Stop) (f : 
 bind_led x space (Ok y) f P p led = led y p
 bind_led x space (Err cause) f P p led = tt
 
-any_ok : {X : Type 0} (r : Result X Stop) → IfOk r (λ x. Unit {0})
+pub any_ok : {X : Type 0} (r : Result X Stop) → IfOk r (λ x. Unit {0})
 any_ok (Ok x) = tt
 any_ok (Err cause) = tt
 
 length-with_reg : (x : List ℕ) (rd value : ℕ) → length (with_reg x rd value) ≡ length x
 length-with_reg x rd value = cond_both (rd == 0) x (slice_set x rd value) (λ y. length y ≡ length x) (λ t. refl) (λ f. length-set x rd value)
 
-jumped-led : (x y : List ℕ) (space : Space) (pc target : ℕ) → length y ≡ length x → IsLed x space (jumped pc target y space)
+jumped-led : (x y : List ℕ) (space : Space) (pc target : ℕ) → length y ≡ length x → IsLed x space (jump_outcome pc target y space)
 jumped-led x y space pc target long =
     cond_both (target % 4 == 0) (went y target space) (stopped (Target pc)) (IsLed x space) (λ t. (long, same_held space)) (λ f. tt)
 
-performed-led : (inst : Inst) (x : List ℕ) (pc : ℕ) (space : Space) → IsLed x space (performed process_access inst x pc space)
-unfolding performed
+performed-led : (inst : Inst) (x : List ℕ) (pc : ℕ) (space : Space) → IsLed x space (effect_of process_access inst x pc space)
+unfolding effect_of
 performed-led (Lui rd imm) x pc space = (length-with_reg x rd imm, same_held space)
 performed-led (Auipc rd imm) x pc space = (length-with_reg x rd (wrapping_sum pc imm), same_held space)
 performed-led (Jal rd offset) x pc space = jumped-led x (with_reg x rd (next_pc pc)) space pc (offset_by pc offset) (length-with_reg x rd (next_pc pc))
 performed-led (Jalr rd rs1 imm) x pc space =
     jumped-led x (with_reg x rd (next_pc pc)) space pc (offset_by (reg x rs1) imm / 2 * 2) (length-with_reg x rd (next_pc pc))
 performed-led (Branch op rs1 rs2 offset) x pc space =
-    cond_both (is_taken op (reg x rs1) (reg x rs2)) (jumped pc (offset_by pc offset) x space) (went x (next_pc pc) space) (IsLed x space)
+    cond_both (is_taken op (reg x rs1) (reg x rs2)) (jump_outcome pc (offset_by pc offset) x space) (went x (next_pc pc) space) (IsLed x space)
     (λ t. jumped-led x x space pc (offset_by pc offset) refl) (λ f. (refl, same_held space))
 performed-led (Load op rd rs1 imm) x pc space =
-    bind_led x space (loaded_at space (offset_by (reg x rs1) imm) (load_size op)) (λ n. went (with_reg x rd (extended op n)) (next_pc pc) space)
-    (λ n. Unit {0}) (any_ok (loaded_at space (offset_by (reg x rs1) imm) (load_size op))) (λ n p. (length-with_reg x rd (extended op n), same_held space))
+    bind_led x space (loaded_at space (offset_by (reg x rs1) imm) (load_size op)) (λ n. went (with_reg x rd (loaded_number op n)) (next_pc pc) space)
+    (λ n. Unit {0}) (any_ok (loaded_at space (offset_by (reg x rs1) imm) (load_size op))) (λ n p. (length-with_reg x rd (loaded_number op n), same_held space))
 performed-led (Store op rs1 rs2 imm) x pc space =
     bind_led x space (stored_at space (offset_by (reg x rs1) imm) (store_size op) (reg x rs2 % 256 ^ store_size op)) (λ left. went x (next_pc pc) left)
     (IsSameHeld space) (stored-held space (offset_by (reg x rs1) imm) (store_size op) (reg x rs2 % 256 ^ store_size op)) (λ left held. (refl, held))
@@ -61,7 +61,7 @@ performed-led Ebreak x pc space = tt
 pub exec-led : (x : List ℕ) (pc : ℕ) (space : Space) → IsLed x space (exec process_access x pc space)
 unfolding exec
 exec-led x pc space =
-    bind_led x space (word_fetched space.private pc) (λ word. ok_or (dec word) (Illegal pc word) >>= (λ inst. performed process_access inst x pc space))
+    bind_led x space (word_fetched space.private pc) (λ word. ok_or (dec word) (Illegal pc word) >>= (λ inst. effect_of process_access inst x pc space))
     (λ word. Unit {0}) (any_ok (word_fetched space.private pc))
-    (λ word p. bind_led x space (ok_or (dec word) (Illegal pc word)) (λ inst. performed process_access inst x pc space)
+    (λ word p. bind_led x space (ok_or (dec word) (Illegal pc word)) (λ inst. effect_of process_access inst x pc space)
     (λ inst. Unit {0}) (any_ok (ok_or (dec word) (Illegal pc word))) (λ inst q. performed-led inst x pc space))

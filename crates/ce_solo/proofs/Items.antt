@@ -5,7 +5,7 @@ use Rattle.std.proofs.lemmas.Bool.{cond_both, cases_Bool, cases_eq, both_ways, e
 use Rattle.std.proofs.lemmas.List.{map-append}
 use Rattle.std.proofs.lemmas.List.Elements.{filter_map-append}
 use Rattle.ce_model.specs.declared.topology.BlockId.{BlockId}
-use Rattle.ce_model.specs.declared.entry.Given.TheVariants.{Start, Mail, Kill}
+use Rattle.ce_model.specs.declared.entry.TakeResult.TheVariants.{Start, Mail, Kill}
 use Rattle.ce_model.specs.Lists.{ArePairwise}
 use Rattle.ce_model.specs.Parcels.{Parcel, Item, start, mail, kill, is_eligible, given_as, is_named_by, parcel_in, parcels_among}
 use Rattle.ce_model.specs.Trace.{NodeRecord}

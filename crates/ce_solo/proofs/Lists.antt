@@ -1,5 +1,5 @@
 -- Lists that are joined, filtered, or lose one of their members: what holds of each member, of each two, and how many there are.
-use Rattle.std.proofs.Common.{◌≡◌, ℕ, ◌+◌, ◌≤◌, Bool, true, false, not, if◌then◌else◌, List, [], ◌∷◌, ◌++◌, map, filter, find, count_by, Some, refl, ap, ◌∙◌, subst, arith, inl, inr, append-nil}
+use Rattle.std.proofs.Common.{◌≡◌, ℕ, zero, suc, ◌+◌, ◌≤◌, Bool, true, false, not, if◌then◌else◌, List, [], ◌∷◌, ◌++◌, map, filter, find, count_by, slice_get, Some, IfSome, refl, ap, ◌∙◌, subst, arith, inl, inr, append-nil}
 use Rattle.std.specs.List.{AllByRecursion, list_any}
 use Rattle.std.proofs.lemmas.Bool.{cond_both, cases_Bool, both_ways, or_parts, or_from, not_from_true, not_from_false}
 use Rattle.std.proofs.lemmas.List.Sums.{sum_by-cons, sum_by-append}
@@ -10,6 +10,19 @@ use Rattle.ce_model.specs.Lists.{ArePairwise}
 pub all-append : {X : Type 0} (P : X → Type 0) (xs ys : List X) → AllByRecursion P xs → AllByRecursion P ys → AllByRecursion P (xs ++ ys)
 all-append P [] ys of_xs of_ys = of_ys
 all-append P (x ∷ xs) ys of_xs of_ys = (of_xs.0, all-append P xs ys of_xs.1 of_ys)
+
+pub all-front : {X : Type 0} (P : X → Type 0) (xs ys : List X) → AllByRecursion P (xs ++ ys) → AllByRecursion P xs
+all-front P [] ys all = tt
+all-front P (x ∷ xs) ys all = (all.0, all-front P xs ys all.1)
+
+pub all-back : {X : Type 0} (P : X → Type 0) (xs ys : List X) → AllByRecursion P (xs ++ ys) → AllByRecursion P ys
+all-back P [] ys all = all
+all-back P (x ∷ xs) ys all = all-back P xs ys all.1
+
+pub all-get : {X : Type 0} (P : X → Type 0) (xs : List X) (k : ℕ) → AllByRecursion P xs → IfSome (slice_get xs k) P
+all-get P [] k all = tt
+all-get P (x ∷ xs) zero all = all.0
+all-get P (x ∷ xs) (suc k) all = all-get P xs k all.1
 
 pub all-weaker : {X : Type 0} (P Q : X → Type 0) (xs : List X) → ((x : X) → P x → Q x) → AllByRecursion P xs → AllByRecursion Q xs
 all-weaker P Q [] up all = tt

@@ -9,18 +9,18 @@ use Rattle.ce_model.specs.declared.entry.What.{What}
 use Rattle.ce_model.specs.declared.entry.What.TheVariants.{Spawn, Kill as Killing}
 use Rattle.ce_model.specs.declared.entry.KillFound.{KillFound}
 use Rattle.ce_model.specs.declared.entry.KillFound.TheVariants.{Killed, Unused, Already}
-use Rattle.ce_model.specs.declared.entry.Given.{Given}
-use Rattle.ce_model.specs.declared.entry.Given.TheVariants.{Start, Mail, Kill, Poll, Idle, Spent}
+use Rattle.ce_model.specs.declared.entry.TakeResult.{TakeResult}
+use Rattle.ce_model.specs.declared.entry.TakeResult.TheVariants.{Start, Mail, Kill, Poll, Idle, Spent}
 use Rattle.ce_model.specs.Parcels.{Parcel, Item, start, mail, kill, given_as, is_item, is_named_by, parcels_from}
 use Rattle.ce_model.specs.Node.{Call, takes, sends, spawns, kills, notes, arms, looks, takes_mail, is_place}
 use Rattle.ce_model.specs.Trace.{NodeRecord, Standing, items_to}
-use Rattle.ce_model.specs.Answers.{is_among, kill_found, offered, first_number, answer}
+use Rattle.ce_model.specs.Answers.{is_among, kill_found, offer_of, first_number, answer}
 use Rattle.ce_model.specs.Saying.{says}
 use Rattle.ce_model.specs.Cube.{Cube, CubeState, IsCube, HostCall, host_call, is_node}
 use Rattle.ce_model.specs.Sound.{numbers_of, IsItemOf, IsHostItem, IsSound}
 use Rattle.ce_model.proofs.OneMore.{taken_for, is_untaken}
 use Rattle.ce_solo.proofs.Lists.{all-weaker, all-filter}
-use Rattle.ce_solo.proofs.Words.{Leaves}
+use Rattle.ce_solo.proofs.Words.{HasMadeCall}
 use Rattle.ce_solo.proofs.Sending.{to_node, from-count}
 use Rattle.ce_solo.proofs.Steps.{entry_in, state_after}
 use Rattle.ce_solo.proofs.NodeSteps.{node-said, notes-acts, spawned-acts, killed-acts, kill_accepted}
@@ -30,7 +30,7 @@ use Rattle.ce_solo.proofs.HostSteps.{host-step}
 
 -- ---- the cube stays sound
 
-pub node-step : (cube : Cube) (s : CubeState) (r : ℕ) (call : Call) → IsCube cube → r < 2 ^ cube.dim → IsSound cube s → Leaves (s.node r) (says (s.node r)).node call
+pub node-step : (cube : Cube) (s : CubeState) (r : ℕ) (call : Call) → IsCube cube → r < 2 ^ cube.dim → IsSound cube s → HasMadeCall (s.node r) (says (s.node r)).node call
     → IsSound cube (state_after cube s (entry_in cube s r call))
 unfolding answer
 node-step cube s r (takes asking dead poller) of below sound said = takes-acts cube s r of below sound asking dead poller said
@@ -59,33 +59,33 @@ asked-step cube s None call of sound e = cc
 asked-step cube s (Some asked) call of sound e = host-step cube s of sound asked call e
 
 -- who makes an entry: the host, or a node that says its call
-pub data Made (cube : Cube) (s : CubeState) (actor : ℕ) (asked : Option HostCall) (call : Call) : Type 0 where
-  by_host : actor ≡ HOST → option_and_then (host_call cube s.hoststore) asked ≡ Some call → Made cube s actor asked call
-  by_node : actor < 2 ^ cube.dim → (says (s.node actor)).call ≡ call → Made cube s actor asked call
+pub data IsMadeCall (cube : Cube) (s : CubeState) (actor : ℕ) (asked : Option HostCall) (call : Call) : Type 0 where
+  by_host : actor ≡ HOST → option_and_then (host_call cube s.hoststore) asked ≡ Some call → IsMadeCall cube s actor asked call
+  by_node : actor < 2 ^ cube.dim → (says (s.node actor)).call ≡ call → IsMadeCall cube s actor asked call
 
 some_same : (x y : Call) → Some x ≡ Some y → x ≡ y
 some_same x y e = cc
 
 made-by_node : (cube : Cube) (s : CubeState) (actor : ℕ) (asked : Option HostCall) (call : Call) (b : Bool) → is_node cube actor ≡ b
-    → (if b then Some (says (s.node actor)).call else None) ≡ Some call → Made cube s actor asked call
+    → (if b then Some (says (s.node actor)).call else None) ≡ Some call → IsMadeCall cube s actor asked call
 made-by_node cube s actor asked call true is e = by_node (ltb-true _ _ is) (some_same (says (s.node actor)).call call e)
 made-by_node cube s actor asked call false is e = absurd (cc)
 
 made-by : (cube : Cube) (s : CubeState) (actor : ℕ) (asked : Option HostCall) (call : Call) (b : Bool) → (actor == HOST) ≡ b
     → (if b then option_and_then (host_call cube s.hoststore) asked else (if is_node cube actor then Some (says (s.node actor)).call else None)) ≡ Some call
-    → Made cube s actor asked call
+    → IsMadeCall cube s actor asked call
 made-by cube s actor asked call true is e = by_host (eqb-true actor HOST is) e
 made-by cube s actor asked call false is e = made-by_node cube s actor asked call (is_node cube actor) refl e
 
-pub made : (cube : Cube) (s : CubeState) (actor : ℕ) (asked : Option HostCall) (call : Call) → call_in cube s actor asked ≡ Some call → Made cube s actor asked call
+pub made : (cube : Cube) (s : CubeState) (actor : ℕ) (asked : Option HostCall) (call : Call) → call_in cube s actor asked ≡ Some call → IsMadeCall cube s actor asked call
 made cube s actor asked call e = made-by cube s actor asked call (actor == HOST) refl e
 
 pub made-leaves : (cube : Cube) (s : CubeState) (r : ℕ) (call : Call) → IsCube cube → r < 2 ^ cube.dim → IsSound cube s → (says (s.node r)).call ≡ call
-    → Leaves (s.node r) (says (s.node r)).node call
-made-leaves cube s r call of below sound e = subst (Leaves (s.node r) (says (s.node r)).node) e (node-said cube s r of below sound).leaves
+    → HasMadeCall (s.node r) (says (s.node r)).node call
+made-leaves cube s r call of below sound e = subst (HasMadeCall (s.node r) (says (s.node r)).node) e (node-said cube s r of below sound).leaves
 
 pub made-sound : (cube : Cube) (s : CubeState) (actor : ℕ) (asked : Option HostCall) (call : Call) → IsCube cube → IsSound cube s
-    → Made cube s actor asked call → IsSound cube (state_after cube s (entry_in cube s actor call))
+    → IsMadeCall cube s actor asked call → IsSound cube (state_after cube s (entry_in cube s actor call))
 made-sound cube s actor asked call of sound (by_host is e) =
     subst (λ actor. IsSound cube (state_after cube s (entry_in cube s actor call))) (sym is) (asked-step cube s asked call of sound e)
 made-sound cube s actor asked call of sound (by_node below e) = node-step cube s actor call of below sound (made-leaves cube s actor call of below sound e)
@@ -148,13 +148,13 @@ items-new cube s actor r takes_mail = tt
 -- ---- what an entry takes is known
 
 -- an item that was taken had been sent to the node
-abbrev pub IsKnown : ℕ → NodeRecord → Given → Type 0
+abbrev pub IsKnown : ℕ → NodeRecord → TakeResult → Type 0
 IsKnown sent kept (Start pid image) = is_among pid kept.spawned ≡ true
 IsKnown sent kept (Mail pid number) = number < sent
 IsKnown sent kept (Kill pid) = is_among pid kept.killed ≡ true
 IsKnown sent kept other = Unit {0}
 
-new-unnamed : (sent : ℕ) (kept : NodeRecord) (given : Given) (item : Item) → IsKnown sent kept given → IsNewItem sent kept item → is_named_by given item ≡ false
+new-unnamed : (sent : ℕ) (kept : NodeRecord) (given : TakeResult) (item : Item) → IsKnown sent kept given → IsNewItem sent kept item → is_named_by given item ≡ false
 new-unnamed sent kept (Start pid image) (start pid' image') known new =
     ne_eqb pid pid' (λ e. both_ways _ new (subst (λ p. is_among p kept.spawned ≡ true) e known))
 new-unnamed sent kept (Start pid image) (mail parcel) known new = refl
@@ -169,22 +169,22 @@ new-unnamed sent kept (Poll pid) item known new = refl
 new-unnamed sent kept Idle item known new = refl
 new-unnamed sent kept Spent item known new = refl
 
-any_unnamed : (sent : ℕ) (kept : NodeRecord) (taken : List Given) (item : Item) → AllByRecursion (IsKnown sent kept) taken → IsNewItem sent kept item
+any_unnamed : (sent : ℕ) (kept : NodeRecord) (taken : List TakeResult) (item : Item) → AllByRecursion (IsKnown sent kept) taken → IsNewItem sent kept item
     → list_any (λ given. is_named_by given item) taken ≡ false
 any_unnamed sent kept [] item known new = refl
 any_unnamed sent kept (given ∷ taken) item known new = or_from _ _ (new-unnamed sent kept given item known.0 new) (any_unnamed sent kept taken item known.1 new)
 
-pub new-untaken : (sent : ℕ) (kept : NodeRecord) (taken : List Given) (items : List Item) → AllByRecursion (IsKnown sent kept) taken → AllByRecursion (IsNewItem sent kept) items
+pub new-untaken : (sent : ℕ) (kept : NodeRecord) (taken : List TakeResult) (items : List Item) → AllByRecursion (IsKnown sent kept) taken → AllByRecursion (IsNewItem sent kept) items
     → AllByRecursion (λ item. is_untaken taken item ≡ true) items
 new-untaken sent kept taken items known new =
     all-weaker (IsNewItem sent kept) (λ item. is_untaken taken item ≡ true) items (λ item h. not_from_false _ (any_unnamed sent kept taken item known h)) new
 
-pub takes_none : (own : Bool) (given : Given) → (if own then None else None) ≡ Some given → ⊥
+pub takes_none : (own : Bool) (given : TakeResult) → (if own then None else None) ≡ Some given → ⊥
 takes_none true given e = cc
 takes_none false given e = cc
 
 -- an entry that takes an item sends none
-pub taking-sends_none : (cube : Cube) (s : CubeState) (actor r : ℕ) (call : Call) (given : Given) → taken_for r (entry_in cube s actor call) ≡ Some given
+pub taking-sends_none : (cube : Cube) (s : CubeState) (actor r : ℕ) (call : Call) (given : TakeResult) → taken_for r (entry_in cube s actor call) ≡ Some given
     → items_to r (entry_in cube s actor call) ≡ []
 unfolding answer
 taking-sends_none cube s actor r (takes asking dead poller) given e = refl
@@ -211,9 +211,9 @@ find-all P test (y ∷ ys) x all e =
       | inr f ↦ let later : find test ys ≡ Some x = rw f at e in find-all P test ys x all.1 later
     ]
 
-pub known_given : (sent : ℕ) (kept : NodeRecord) (found : Option Item) (poller : Option ℕ) (used : Bool) (given : Given)
+pub known_given : (sent : ℕ) (kept : NodeRecord) (found : Option Item) (poller : Option ℕ) (used : Bool) (given : TakeResult)
     → ((item : Item) → found ≡ Some item → IsKnown sent kept (given_as item))
-    → (if is_item (offered found poller used) then Some (offered found poller used) else None) ≡ Some given → IsKnown sent kept given
+    → (if is_item (offer_of found poller used) then Some (offer_of found poller used) else None) ≡ Some given → IsKnown sent kept given
 known_given sent kept (Some item) poller true given known e = absurd (cc)
 known_given sent kept (Some (start pid image)) poller false given known e = let same : given_as (start pid image) ≡ given = cc in subst (IsKnown sent kept) same (known (start pid image) refl)
 known_given sent kept (Some (mail parcel)) poller false given known e = let same : given_as (mail parcel) ≡ given = cc in subst (IsKnown sent kept) same (known (mail parcel) refl)
@@ -222,7 +222,7 @@ known_given sent kept None (Some pid) true given known e = absurd (cc)
 known_given sent kept None (Some pid) false given known e = absurd (cc)
 known_given sent kept None None used given known e = absurd (cc)
 
-pub known_first : (sent : ℕ) (kept : NodeRecord) (items : List Item) (given : Given) → AllByRecursion IsHostItem items → AllByRecursion (λ n. n < sent) (numbers_of items)
+pub known_first : (sent : ℕ) (kept : NodeRecord) (items : List Item) (given : TakeResult) → AllByRecursion IsHostItem items → AllByRecursion (λ n. n < sent) (numbers_of items)
     → option_map (λ n. Mail 0 n) (first_number items) ≡ Some given → IsKnown sent kept given
 known_first sent kept [] given own below e = absurd (cc)
 known_first sent kept (start pid image ∷ items) given own below e = absurd own.0

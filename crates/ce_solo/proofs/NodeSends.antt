@@ -1,5 +1,5 @@
 -- An entry of a node that sends parcels leaves a sound cube.
-use Rattle.std.proofs.Common.{◌≡◌, ℕ, ◌+◌, ◌^◌, ◌<◌, Bool, true, false, ◌==◌, if◌then◌else◌, List, [], map, length, refl, ap, sym, ◌∙◌, subst, arith, inl, inr}
+use Rattle.std.proofs.Common.{◌≡◌, ℕ, ◌+◌, ◌^◌, ◌<◌, Bool, true, false, ◌==◌, if◌then◌else◌, List, [], ◌++◌, map, length, refl, ap, sym, ◌∙◌, subst, arith, inl, inr}
 use Rattle.std.proofs.lemmas.Bool.{eq-eqb, ne_eqb, or_cases}
 use Rattle.ce_model.specs.declared.topology.TheConstants.{HOST}
 use Rattle.ce_model.specs.declared.topology.Place.{Place}
@@ -17,10 +17,10 @@ use Rattle.ce_model.specs.Sound.{IsSound}
 use Rattle.ce_solo.proofs.Counting.{count, count-nil, count-append, sum_run-at}
 use Rattle.ce_solo.proofs.Lists.{all-weaker, joined, joined-is}
 use Rattle.ce_solo.proofs.Items.{parcel_ids}
-use Rattle.ce_solo.proofs.Nodes.{became-end}
-use Rattle.ce_solo.proofs.Words.{call_ids, Leaves}
+use Rattle.ce_solo.proofs.Nodes.{became-then}
+use Rattle.ce_solo.proofs.Words.{call_ids, HasMadeCall}
 use Rattle.ce_solo.proofs.Hears.{told-hears}
-use Rattle.ce_solo.proofs.Records.{kept_with, Keeps, keeps-mails, mails-ids}
+use Rattle.ce_solo.proofs.Records.{kept_with, HasStayedSound, keeps-mails, mails-ids}
 use Rattle.ce_solo.proofs.Sending.{IsTargetOf, is_host, sent_ids, to_node, from-ids, are_sent, sent-new, sent-host, sent-sum}
 use Rattle.ce_solo.proofs.Steps.{record_by, state_after, sound_node-became}
 use Rattle.ce_solo.proofs.Acts.{idle-goes, node-acts}
@@ -56,27 +56,27 @@ module _ (cube : Cube) (s : CubeState) (r : ℕ) (of : IsCube cube) (below : r <
   sends-other : (b : Bool) → b ≡ false → (n : ℕ) → (if b then n else 0) ≡ 0
   sends-other b f n = ap {B = ℕ} (λ b. if b then n else 0) f
 
-  pub sends-acts : Leaves (s.node r) now (sends pid to bytes) → IsSound cube (state_after cube s (record { user = cube.user; actor = r; what = what }))
+  pub sends-acts : HasMadeCall (s.node r) now (sends pid to bytes) → IsSound cube (state_after cube s (record { user = cube.user; actor = r; what = what }))
   sends-acts said =
       let same : now.dim ≡ cube.dim = said.became.dim ∙ (sound.nodes r below).dim in
       let are = are_sent cube (record { node = r; pid = pid }) s.standing.parcel_count bytes to
       (all-weaker (λ (target : Place × BlockId). is_target now target.0 ≡ true) (λ target. IsTargetOf cube target.0) to (λ target h. target_of cube now target.0 same h) said.of_node) in
       let sent' = s.standing.parcel_count + length ps in
       let keeps : (q : ℕ) (mark : Mark) → q < 2 ^ cube.dim
-      → Keeps cube sent' q (s.standing.node_record q) (kept_with (joined (s.standing.node_record q).waiting (map mail (to_node q ps))) (s.standing.node_record q).spawned (s.standing.node_record q).killed mark) (sent_ids (to_node q ps)) [] =
+      → HasStayedSound cube sent' q (s.standing.node_record q) (kept_with (joined (s.standing.node_record q).waiting (map mail (to_node q ps))) (s.standing.node_record q).spawned (s.standing.node_record q).killed mark) (sent_ids (to_node q ps)) [] =
       λ q mark within. keeps-mails cube s.standing.parcel_count sent' q (s.standing.node_record q) mark (to_node q ps) are.more (sound.records q within) (sent-new cube s.standing.parcel_count sent' ps of are q within) in
       let heard = told-hears cube.images now 0 said.became.well said.turn in
       let node = hears cube.images now (told 0) in
       let mine = keeps r (marked_by (s.standing.node_record r).mark what) below in
-      let both = became-end (now).turn node.turn (s.node r) now node [] (call_ids (sends pid to bytes)) said.became heard.became in
+      let both = became-then said.became heard.became in
       node-acts cube s r what come gone of below sound (record {
         others = λ q within differ.
             idle-goes cube sent' q (s.standing.node_record q) (record_by false q (record { user = cube.user; actor = r; what = what }) (s.standing.node_record q)) (s.node q) (sent_ids (to_node q ps))
             (λ id. gone id q) (sound.nodes q within) (λ id. sends-other (r == q) (ne_eqb r q differ) (count id (call_ids (sends pid to bytes)))) (keeps q (s.standing.node_record q).mark within);
         own = record {
           record_sound = mine.sound;
-          node_sound = sound_node-became cube (s.standing.node_record r) (record_by true r (record { user = cube.user; actor = r; what = what }) (s.standing.node_record r)) r (s.node r) node [] (call_ids (sends pid to bytes)) (sound.nodes r below) mine.births both heard.turn;
-          blocks = λ id. omega (arith, mine.parcels id, both.blocks id, count-nil id, sends-own (r == r) (eq-eqb r r refl) (count id (call_ids (sends pid to bytes))));
+          node_sound = sound_node-became cube (s.standing.node_record r) (record_by true r (record { user = cube.user; actor = r; what = what }) (s.standing.node_record r)) r (s.node r) node [] (call_ids (sends pid to bytes) ++ []) (sound.nodes r below) mine.births both heard.turn;
+          blocks = λ id. omega (arith, mine.parcels id, both.blocks id, count-nil id, count-append id (call_ids (sends pid to bytes)) [], sends-own (r == r) (eq-eqb r r refl) (count id (call_ids (sends pid to bytes))));
         };
         host = sent-host cube s.standing.parcel_count sent' ps of are (s.standing.node_record HOST).waiting sound.host;
         balance = λ id.

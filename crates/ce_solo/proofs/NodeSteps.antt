@@ -19,15 +19,15 @@ use Rattle.ce_model.specs.Sound.{IsSoundNode, IsSoundHost, IsSound}
 use Rattle.ce_solo.proofs.Counting.{count, count-nil}
 use Rattle.ce_solo.proofs.Lists.{joined}
 use Rattle.ce_solo.proofs.Items.{parcel_ids}
-use Rattle.ce_solo.proofs.Nodes.{Became, became-end}
-use Rattle.ce_solo.proofs.Words.{Leaves}
+use Rattle.ce_solo.proofs.Nodes.{HasBecome, became-then}
+use Rattle.ce_solo.proofs.Words.{HasMadeCall}
 use Rattle.ce_solo.proofs.Says.{IsSaid, says-said}
-use Rattle.ce_solo.proofs.Hears.{Hears, nothing-hears, told-hears}
-use Rattle.ce_solo.proofs.Records.{kept_with, births, Keeps, keeps-same, numbered-more}
+use Rattle.ce_solo.proofs.Hears.{HasHeardAnswer, nothing-hears, told-hears}
+use Rattle.ce_solo.proofs.Records.{kept_with, births, HasStayedSound, keeps-same, numbered-more}
 use Rattle.ce_solo.proofs.Totals.{at_node-is, at_node-le}
 use Rattle.ce_solo.proofs.Sending.{not_host, place_parts, start-keeps, kill-keeps}
 use Rattle.ce_solo.proofs.Steps.{record_by, node_by, state_after, well_of, sound_node-became}
-use Rattle.ce_solo.proofs.Acts.{idle-goes, sent_by, NodeActs, node-acts}
+use Rattle.ce_solo.proofs.Acts.{idle-goes, sent_by, IsNodeAct, node-acts}
 
 -- what a property of each Bool needs
 of_both : (P : Bool → Type 0) → P true → P false → (b : Bool) → P b
@@ -62,21 +62,21 @@ module _ (cube : Cube) (s : CubeState) (r : ℕ) (of : IsCube cube) (below : r <
       says-said (s.node r) (well_of cube (kept_at r) r (s.node r) (sound.nodes r below) (λ id. omega (arith, once_here id))) (sound.nodes r below).turn
 
   -- the state of a node that hears of no block
-  node_quiet : (node : Node) (gone : List BlockId) (kept' : NodeRecord) → Became (now).turn (s.node r) now [] gone → Hears now node []
+  node_quiet : (node : Node) (gone : List BlockId) (kept' : NodeRecord) → HasBecome (now).turn (s.node r) now [] gone → HasHeardAnswer now node []
       → ((pid : ℕ) → births kept' pid ≡ births (kept_at r) pid) → IsSoundNode cube kept' r node
   node_quiet node gone kept' said heard same =
-      sound_node-became cube (kept_at r) kept' r (s.node r) node [] gone (sound.nodes r below) same
-      (became-end (now).turn node.turn (s.node r) now node [] gone said heard.became) heard.turn
+      sound_node-became cube (kept_at r) kept' r (s.node r) node [] (gone ++ []) (sound.nodes r below) same
+      (became-then said heard.became) heard.turn
 
-  blocks_quiet : (node : Node) (gone : List BlockId) → Became (now).turn (s.node r) now [] gone → Hears now node [] → (id : BlockId)
+  blocks_quiet : (node : Node) (gone : List BlockId) → HasBecome (now).turn (s.node r) now [] gone → HasHeardAnswer now node [] → (id : BlockId)
       → count id (blocks_of node) + count id gone ≡ count id (blocks_of (s.node r))
   blocks_quiet node gone said heard id = omega (arith, said.blocks id, heard.became.blocks id, count-nil id)
 
   -- an entry that moves no block
-  quiet-acts : (what : What) → ((own : Bool) (q : ℕ) → q < 2 ^ cube.dim → Keeps cube (sent_by s r what) q (kept_at q) (record_by own q (entry_of what) (kept_at q)) [] [])
+  quiet-acts : (what : What) → ((own : Bool) (q : ℕ) → q < 2 ^ cube.dim → HasStayedSound cube (sent_by s r what) q (kept_at q) (record_by own q (entry_of what) (kept_at q)) [] [])
       → (record_by false HOST (entry_of what) (kept_at HOST)).waiting ≡ (kept_at HOST).waiting → dispatched_by s.standing.dispatched what ≤ armed_by s.standing.armed what
-      → Became (now).turn (s.node r) now [] [] → Hears now (node_by true cube s r (entry_of what)) []
-      → NodeActs cube s r what (λ id q. count id []) (λ id q. count id [])
+      → HasBecome (now).turn (s.node r) now [] [] → HasHeardAnswer now (node_by true cube s r (entry_of what)) []
+      → IsNodeAct cube s r what (λ id q. count id []) (λ id q. count id [])
   quiet-acts what keeps no_mail dispatches said heard = record {
     others = λ q within differ. idle-goes cube (sent_by s r what) q (kept_at q) (record_by false q (entry_of what) (kept_at q)) (s.node q) [] (λ id. count id []) (sound.nodes q within) count-nil (keeps false q within);
     own = record {
@@ -91,24 +91,24 @@ module _ (cube : Cube) (s : CubeState) (r : ℕ) (of : IsCube cube) (below : r <
 
   -- an entry that keeps each record, its actor's and those of others, and moves no block, leaves a sound cube
   pub quiet-step : (what : What)
-      → ((q : ℕ) → q < 2 ^ cube.dim → Keeps cube (sent_by s r what) q (kept_at q) (record_by true q (entry_of what) (kept_at q)) [] [])
-      → ((q : ℕ) → q < 2 ^ cube.dim → Keeps cube (sent_by s r what) q (kept_at q) (record_by false q (entry_of what) (kept_at q)) [] [])
+      → ((q : ℕ) → q < 2 ^ cube.dim → HasStayedSound cube (sent_by s r what) q (kept_at q) (record_by true q (entry_of what) (kept_at q)) [] [])
+      → ((q : ℕ) → q < 2 ^ cube.dim → HasStayedSound cube (sent_by s r what) q (kept_at q) (record_by false q (entry_of what) (kept_at q)) [] [])
       → (record_by false HOST (entry_of what) (kept_at HOST)).waiting ≡ (kept_at HOST).waiting → dispatched_by s.standing.dispatched what ≤ armed_by s.standing.armed what
-      → Became (now).turn (s.node r) now [] [] → Hears now (node_by true cube s r (entry_of what)) [] → IsSound cube (state_after cube s (entry_of what))
+      → HasBecome (now).turn (s.node r) now [] [] → HasHeardAnswer now (node_by true cube s r (entry_of what)) [] → IsSound cube (state_after cube s (entry_of what))
   quiet-step what own others no_mail dispatches said heard =
       node-acts cube s r what (λ id q. count id []) (λ id q. count id []) of below sound
       (quiet-acts what
-      (of_both (λ own. (q : ℕ) → q < 2 ^ cube.dim → Keeps cube (sent_by s r what) q (kept_at q) (record_by own q (entry_of what) (kept_at q)) [] []) own others)
+      (of_both (λ own. (q : ℕ) → q < 2 ^ cube.dim → HasStayedSound cube (sent_by s r what) q (kept_at q) (record_by own q (entry_of what) (kept_at q)) [] []) own others)
       no_mail dispatches said heard)
 
   -- what is kept for a node of which an entry says nothing
   pub plain_keeps : (q : ℕ) (mark : Mark) → q < 2 ^ cube.dim
-      → Keeps cube (s.standing.parcel_count + 0) q (kept_at q) (kept_with (kept_at q).waiting (kept_at q).spawned (kept_at q).killed mark) [] []
+      → HasStayedSound cube (s.standing.parcel_count + 0) q (kept_at q) (kept_with (kept_at q).waiting (kept_at q).spawned (kept_at q).killed mark) [] []
   plain_keeps q mark within = keeps-same cube s.standing.parcel_count (s.standing.parcel_count + 0) q (kept_at q) mark (omega arith) (sound.records q within)
 
   -- ---- notes
 
-  pub notes-acts : (pid word : ℕ) → Leaves (s.node r) now (notes pid word) → IsSound cube (state_after cube s (entry_of (Note pid word)))
+  pub notes-acts : (pid word : ℕ) → HasMadeCall (s.node r) now (notes pid word) → IsSound cube (state_after cube s (entry_of (Note pid word)))
   notes-acts pid word said =
       quiet-step (Note pid word) (λ q within. plain_keeps q _ within) (λ q within. plain_keeps q _ within)
       refl sound.dispatches said.became (nothing-hears cube.images now said.became.well said.turn)
@@ -116,7 +116,7 @@ module _ (cube : Cube) (s : CubeState) (r : ℕ) (of : IsCube cube) (below : r <
   -- ---- spawns
 
   pub spawned-acts : (pid image : ℕ) (to : Place) (fresh : Bool) → not (is_among to.pid (kept_at to.node).spawned) ≡ fresh → is_place cube.dim to ≡ true
-      → image < length cube.images → Leaves (s.node r) now (spawns pid image to) → IsSound cube (state_after cube s (entry_of (Spawn pid image to fresh)))
+      → image < length cube.images → HasMadeCall (s.node r) now (spawns pid image to) → IsSound cube (state_after cube s (entry_of (Spawn pid image to fresh)))
   spawned-acts pid image to false e place of_cube said =
       quiet-step (Spawn pid image to false) (λ q within. plain_keeps q _ within) (λ q within. plain_keeps q _ within)
       refl sound.dispatches said.became (told-hears cube.images now 2 said.became.well said.turn)
@@ -133,7 +133,7 @@ module _ (cube : Cube) (s : CubeState) (r : ℕ) (of : IsCube cube) (below : r <
   -- ---- kills
 
   pub killed-acts : (pid : ℕ) (to : Place) (found : KillFound) → kill_found (kept_at to.node) to.pid ≡ found → is_place cube.dim to ≡ true
-      → Leaves (s.node r) now (kills pid to) → IsSound cube (state_after cube s (entry_of (Kill pid to found)))
+      → HasMadeCall (s.node r) now (kills pid to) → IsSound cube (state_after cube s (entry_of (Kill pid to found)))
   killed-acts pid to Unused e place said =
       quiet-step (Kill pid to Unused) (λ q within. plain_keeps q _ within) (λ q within. plain_keeps q _ within)
       refl sound.dispatches said.became (told-hears cube.images now 2 said.became.well said.turn)

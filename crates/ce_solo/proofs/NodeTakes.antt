@@ -8,14 +8,14 @@ use Rattle.ce_model.specs.declared.process.Status.{Status}
 use Rattle.ce_model.specs.declared.process.Status.TheVariants.{Unborn, Running, Asking, Polling, Stopped}
 use Rattle.ce_model.specs.declared.entry.Entry.{Entry}
 use Rattle.ce_model.specs.declared.entry.What.TheVariants.{Take}
-use Rattle.ce_model.specs.declared.entry.Given.{Given}
-use Rattle.ce_model.specs.declared.entry.Given.TheVariants.{Start, Kill, Poll, Idle, Spent}
+use Rattle.ce_model.specs.declared.entry.TakeResult.{TakeResult}
+use Rattle.ce_model.specs.declared.entry.TakeResult.TheVariants.{Start, Kill, Poll, Idle, Spent}
 use Rattle.ce_model.specs.Limits.{process_count}
 use Rattle.ce_model.specs.Parcels.{Parcel, Item, start, mail, kill, is_eligible, given_as, is_named_by, parcel_in}
-use Rattle.ce_model.specs.Process.{Process, unborn, is_stopped}
+use Rattle.ce_model.specs.Process.{Process, unborn_process, is_stopped}
 use Rattle.ce_model.specs.Node.{Node, process_at, blocks_of, takes, take_of}
 use Rattle.ce_model.specs.Trace.{Mark, NodeRecord, marked_by, is_work}
-use Rattle.ce_model.specs.Answers.{offered, is_used_up}
+use Rattle.ce_model.specs.Answers.{offer_of, is_used_up}
 use Rattle.ce_model.specs.Saying.{says}
 use Rattle.ce_model.specs.Hearing.{hears}
 use Rattle.ce_model.specs.Cube.{Cube, CubeState, IsCube, parcel_numbered, heard_parcel}
@@ -23,12 +23,12 @@ use Rattle.ce_model.specs.Sound.{is_unborn, is_polling, is_start_of, IsSoundNode
 use Rattle.ce_solo.proofs.Counting.{count, count-nil}
 use Rattle.ce_solo.proofs.Items.{parcel_ids}
 use Rattle.ce_solo.proofs.Nodes.{polls, IsWell, became-then}
-use Rattle.ce_solo.proofs.Words.{Leaves}
-use Rattle.ce_solo.proofs.Hears.{Hears, Begins, nothing-hears, poll-hears, kill-hears, mail-hears, start-begins}
+use Rattle.ce_solo.proofs.Words.{HasMadeCall}
+use Rattle.ce_solo.proofs.Hears.{HasHeardAnswer, HasStarted, nothing-hears, poll-hears, kill-hears, mail-hears, start-begins}
 use Rattle.ce_solo.proofs.Lists.{count_by-cons, one_if-true, one_if-false}
-use Rattle.ce_solo.proofs.Records.{kept_with, births, TakesItem, takes-item, start-taken, kill-taken, without_named, among-all}
-use Rattle.ce_solo.proofs.Steps.{record_by, node_by, state_after, sound_node-became, NodeGoes}
-use Rattle.ce_solo.proofs.Acts.{idle-goes, NodeActs, node-acts}
+use Rattle.ce_solo.proofs.Records.{kept_with, births, HasTakenItem, takes-item, start-taken, kill-taken, without_named, among-all}
+use Rattle.ce_solo.proofs.Steps.{record_by, node_by, state_after, sound_node-became, IsNodeStep}
+use Rattle.ce_solo.proofs.Acts.{idle-goes, IsNodeAct, node-acts}
 use Rattle.ce_solo.proofs.NodeSteps.{host-more, once_here, quiet-step, plain_keeps}
 
 -- ---- those that poll
@@ -57,28 +57,28 @@ pub poller-within : (node : Node) (pid : ℕ) → IsWell None node → is_pollin
 poller-within node pid well h =
     elim (cases_lt pid process_count) [
       | inl within ↦ within
-      | inr past ↦ absurd (both_ways _ (ap (λ (p : Process). is_polling p.status) (get_or_past node.processes pid unborn (omega (arith, past, well.process_ids)))) h)
+      | inr past ↦ absurd (both_ways _ (ap (λ (p : Process). is_polling p.status) (get_or_past node.processes pid unborn_process (omega (arith, past, well.process_ids)))) h)
     ]
 
 -- ---- a Take
 
-module _ (cube : Cube) (s : CubeState) (r : ℕ) (of : IsCube cube) (below : r < 2 ^ cube.dim) (sound : IsSound cube s) (asking dead : ℕ) (poller : Option ℕ) (said : Leaves (s.node r) (says (s.node r)).node (takes asking dead poller)) where
+module _ (cube : Cube) (s : CubeState) (r : ℕ) (of : IsCube cube) (below : r < 2 ^ cube.dim) (sound : IsSound cube s) (asking dead : ℕ) (poller : Option ℕ) (said : HasMadeCall (s.node r) (says (s.node r)).node (takes asking dead poller)) where
   abbrev now : Node
   now = (says (s.node r)).node
 
   abbrev kept : NodeRecord
   kept = s.standing.node_record r
 
-  abbrev entry_of : Given → Entry
+  abbrev entry_of : TakeResult → Entry
   entry_of given = record { user = cube.user; actor = r; what = Take asking dead poller given }
 
   pub now_well : IsWell None now
   now_well = subst (λ turn. IsWell turn now) said.of_node.1 said.became.well
 
-  abbrev mark_of : Given → Mark
+  abbrev mark_of : TakeResult → Mark
   mark_of given = marked_by kept.mark (Take asking dead poller given)
 
-  plain_given : (given : Given) → NodeActs cube s r (Take asking dead poller given) (λ id q. count id []) (λ id q. count id []) → IsSound cube (state_after cube s (entry_of given))
+  plain_given : (given : TakeResult) → IsNodeAct cube s r (Take asking dead poller given) (λ id q. count id []) (λ id q. count id []) → IsSound cube (state_after cube s (entry_of given))
   plain_given given acts = node-acts cube s r (Take asking dead poller given) (λ id q. count id []) (λ id q. count id []) of below sound acts
 
   spent-acts : IsSound cube (state_after cube s (entry_of Spent))
@@ -115,8 +115,8 @@ module _ (cube : Cube) (s : CubeState) (r : ℕ) (of : IsCube cube) (below : r <
   -- ---- an item is given
 
   -- a Take is put together from what it makes of its own node
-  given-acts : (given : Given)
-      → NodeGoes cube (s.standing.parcel_count + 0) r kept (record_by true r (entry_of given) kept) (s.node r) (node_by true cube s r (entry_of given)) (λ id. count id []) (λ id. count id [])
+  given-acts : (given : TakeResult)
+      → IsNodeStep cube (s.standing.parcel_count + 0) r kept (record_by true r (entry_of given) kept) (s.node r) (node_by true cube s r (entry_of given)) (λ id. count id []) (λ id. count id [])
       → (if is_work given then s.standing.dispatched + 1 else s.standing.dispatched) ≤ s.standing.armed → IsSound cube (state_after cube s (entry_of given))
   given-acts given own dispatches =
       plain_given given (record {
@@ -131,10 +131,10 @@ module _ (cube : Cube) (s : CubeState) (r : ℕ) (of : IsCube cube) (below : r <
 
   -- what is kept once an item is taken, and the node that heard of it
   item-goes : (item : Item) (mark : Mark) (node : Node)
-      → TakesItem cube s.standing.parcel_count r asking dead kept (kept_with (without_named item kept.waiting) kept.spawned kept.killed mark) item
+      → HasTakenItem cube s.standing.parcel_count r asking dead kept (kept_with (without_named item kept.waiting) kept.spawned kept.killed mark) item
       → IsSoundNode cube (kept_with (without_named item kept.waiting) kept.spawned kept.killed mark) r node
       → ((id : BlockId) → count id (blocks_of node) ≡ count id (blocks_of (s.node r)) + count id (parcel_ids (item ∷ [])))
-      → NodeGoes cube (s.standing.parcel_count + 0) r kept (kept_with (without_named item kept.waiting) kept.spawned kept.killed mark) (s.node r) node (λ id. count id []) (λ id. count id [])
+      → IsNodeStep cube (s.standing.parcel_count + 0) r kept (kept_with (without_named item kept.waiting) kept.spawned kept.killed mark) (s.node r) node (λ id. count id []) (λ id. count id [])
   item-goes item mark node taken sound_node blocks = record {
     record_sound = subst (λ n. IsSoundRecord cube n r (kept_with (without_named item kept.waiting) kept.spawned kept.killed mark)) (omega arith) taken.sound;
     node_sound = sound_node;
@@ -143,11 +143,11 @@ module _ (cube : Cube) (s : CubeState) (r : ℕ) (of : IsCube cube) (below : r <
 
   -- the node that has heard of an item that is no start
   heard_node : (item : Item) (mark : Mark) (node : Node) → ((pid : ℕ) → is_start_of pid item ≡ false)
-      → TakesItem cube s.standing.parcel_count r asking dead kept (kept_with (without_named item kept.waiting) kept.spawned kept.killed mark) item
-      → Hears now node (parcel_ids (item ∷ []))
-      → NodeGoes cube (s.standing.parcel_count + 0) r kept (kept_with (without_named item kept.waiting) kept.spawned kept.killed mark) (s.node r) node (λ id. count id []) (λ id. count id [])
+      → HasTakenItem cube s.standing.parcel_count r asking dead kept (kept_with (without_named item kept.waiting) kept.spawned kept.killed mark) item
+      → HasHeardAnswer now node (parcel_ids (item ∷ []))
+      → IsNodeStep cube (s.standing.parcel_count + 0) r kept (kept_with (without_named item kept.waiting) kept.spawned kept.killed mark) (s.node r) node (λ id. count id []) (λ id. count id [])
   heard_node item mark node no_start taken heard =
-      let both = became-then (now).turn node.turn (s.node r) now node (parcel_ids (item ∷ [])) [] said.became heard.became in
+      let both = became-then said.became heard.became in
       item-goes item mark node taken
       (sound_node-became cube kept (kept_with (without_named item kept.waiting) kept.spawned kept.killed mark) r (s.node r) node (parcel_ids (item ∷ [])) [] (sound.nodes r below)
       (λ pid. taken.births pid (no_start pid)) both heard.turn)
@@ -171,7 +171,7 @@ module _ (cube : Cube) (s : CubeState) (r : ℕ) (of : IsCube cube) (below : r <
       let heard = mail-hears cube.images now parcel now_well said.of_node.1 taken.of_node.1 once in
       given-acts given
       (heard_node (mail parcel) (mark_of given) (node_by true cube s r (entry_of given)) (λ pid. refl) taken
-      (subst (λ found. Hears now (hears cube.images now (heard_parcel found)) (parcel.block.id ∷ [])) (sym (numbered_parcel parcel taken.out.found)) heard))
+      (subst (λ found. HasHeardAnswer now (hears cube.images now (heard_parcel found)) (parcel.block.id ∷ [])) (sym (numbered_parcel parcel taken.out.found)) heard))
       (one_more room)
 
   kill-acts : (pid : ℕ) → find (is_eligible asking dead) kept.waiting ≡ Some (kill pid) → is_used_up s.standing ≡ false
@@ -186,7 +186,7 @@ module _ (cube : Cube) (s : CubeState) (r : ℕ) (of : IsCube cube) (below : r <
 
   -- a node in which a process begins is sound, by what is kept once its start is taken
   begun_node : (pid image : ℕ) (kept' : NodeRecord) (node : Node) → births kept' pid ≡ false → ((q : ℕ) → is_start_of q (start pid image) ≡ false → births kept' q ≡ births kept q)
-      → Begins now node pid → IsSoundNode cube kept' r node
+      → HasStarted now node pid → IsSoundNode cube kept' r node
   begun_node pid image kept' node born others begins = record {
     number = begins.number ∙ said.became.number ∙ (sound.nodes r below).number;
     dim = begins.dim ∙ said.became.dim ∙ (sound.nodes r below).dim;
@@ -233,12 +233,12 @@ module _ (cube : Cube) (s : CubeState) (r : ℕ) (of : IsCube cube) (below : r <
   item-acts (kill pid) found room = kill-acts pid found room
 
   offered-acts : (found : Option Item) (polls : Option ℕ) (used : Bool) → find (is_eligible asking dead) kept.waiting ≡ found → poller ≡ polls → is_used_up s.standing ≡ used
-      → IsSound cube (state_after cube s (entry_of (offered found polls used)))
+      → IsSound cube (state_after cube s (entry_of (offer_of found polls used)))
   offered-acts (Some item) polls true f p u = spent-acts
   offered-acts (Some item) polls false f p u = item-acts item f u
   offered-acts None (Some pid) true f p u = spent-acts
   offered-acts None (Some pid) false f p u = poll-acts pid p u
   offered-acts None None used f p u = idle-acts
 
-  pub takes-acts : IsSound cube (state_after cube s (entry_of (offered (find (is_eligible asking dead) kept.waiting) poller (is_used_up s.standing))))
+  pub takes-acts : IsSound cube (state_after cube s (entry_of (offer_of (find (is_eligible asking dead) kept.waiting) poller (is_used_up s.standing))))
   takes-acts = offered-acts (find (is_eligible asking dead) kept.waiting) poller (is_used_up s.standing) refl refl refl

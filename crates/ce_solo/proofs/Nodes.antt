@@ -1,5 +1,5 @@
 -- What a node keeps when one of its processes changes: its limits, the list of those that poll, and its blocks.
-use Rattle.std.proofs.Common.{◌≡◌, ℕ, ◌+◌, ◌<◌, ◌≤◌, true, false, ◌==◌, if◌then◌else◌, List, [], ◌∷◌, ◌++◌, length, flat_map, slice_set, slice_index_or, count_by, Option, None, IsTrue, refl, ap, sym, ◌∙◌, subst, arith, length-set, inl, inr}
+use Rattle.std.proofs.Common.{◌≡◌, ℕ, ◌+◌, ◌<◌, ◌≤◌, true, false, ◌==◌, if◌then◌else◌, List, [], ◌∷◌, ◌++◌, length, flat_map, slice_set, slice_index_or, count_by, Option, Some, None, IsTrue, refl, ap, sym, ◌∙◌, subst, arith, length-set, inl, inr}
 use Rattle.std.proofs.lemmas.Bool.{cond_both, cases_eq, eqb-true, ne_eqb, cases_Bool, both_ways}
 use Rattle.std.proofs.lemmas.List.{get_or-set_same, get_or-set_other, length-map}
 use Rattle.std.proofs.lemmas.List.Sums.{sum_by-cons, sum_by-append}
@@ -8,7 +8,7 @@ use Rattle.ce_model.specs.declared.topology.BlockId.{BlockId}
 use Rattle.ce_model.specs.Limits.{process_count, window_count}
 use Rattle.ce_model.specs.Blocks.{Block, put_all}
 use Rattle.ce_model.specs.Space.{mapped_ids}
-use Rattle.ce_model.specs.Process.{Process, register_count, is_stopped, unborn, ended}
+use Rattle.ce_model.specs.Process.{Process, register_count, is_stopped, unborn_process, ended_process}
 use Rattle.ce_model.specs.Node.{Turn, Node, process_at, without_poller, with_stopped, blocks_of}
 use Rattle.ce_model.specs.Sound.{is_unborn, is_running, is_polling, is_turn_of, IsRising}
 use Rattle.ce_solo.proofs.Counting.{count, count-nil, count-append, count-put_all, count-set, count-piece, rising-put_all}
@@ -61,8 +61,19 @@ pub record IsWell (turn : Option Turn) (node : Node) : Type 0 where
   pub store : IsRising node.store
   pub once : (id : BlockId) → count id (blocks_of node) ≤ 1
 
+-- a node is as well at another point of its process's turn
+pub well-turn : (node : Node) (turn : Turn) (left calls : ℕ) → IsWell (Some turn) node → IsWell (Some (record turn { left = left; calls = calls })) node
+well-turn node turn left calls well = record {
+  process_ids = well.process_ids;
+  processes = λ q h. let was = well.processes q h in
+      record { registers = was.registers; windows = was.windows; unborn_used = was.unborn_used; stopped_holds = was.stopped_holds; running = was.running };
+  polling = well.polling;
+  store = well.store;
+  once = well.once;
+}
+
 -- a node has become another, whose turn this is: blocks came and went, no process was born, and who has stopped has stopped
-pub record Became (turn : Option Turn) (node node' : Node) (come gone : List BlockId) : Type 0 where
+pub record HasBecome (turn : Option Turn) (node node' : Node) (come gone : List BlockId) : Type 0 where
   pub number : node'.number ≡ node.number
   pub dim : node'.dim ≡ node.dim
   pub home : node'.home ≡ node.home
@@ -72,7 +83,7 @@ pub record Became (turn : Option Turn) (node node' : Node) (come gone : List Blo
   pub unborn : (pid : ℕ) → is_unborn (process_at node' pid).status ≡ is_unborn (process_at node pid).status
   pub stopped : (pid : ℕ) → is_stopped (process_at node pid).status ≡ true → is_stopped (process_at node' pid).status ≡ true
 
-pub became-same : (turn : Option Turn) (node : Node) → IsWell turn node → Became turn node node [] []
+pub became-same : (turn : Option Turn) (node : Node) → IsWell turn node → HasBecome turn node node [] []
 became-same turn node well = record {
   number = refl;
   dim = refl;
@@ -84,28 +95,15 @@ became-same turn node well = record {
   stopped = λ pid h. h;
 }
 
-pub became-then : (turn turn' : Option Turn) (a b c : Node) (come gone : List BlockId)
-    → Became turn a b [] [] → Became turn' b c come gone → Became turn' a c come gone
-became-then turn turn' a b c come gone first next = record {
+pub became-then : {turn turn' : Option Turn} {a b c : Node} {come gone come' gone' : List BlockId}
+    → HasBecome turn a b come gone → HasBecome turn' b c come' gone' → HasBecome turn' a c (come ++ come') (gone ++ gone')
+became-then {come = come} {gone = gone} {come' = come'} {gone' = gone'} first next = record {
   number = next.number ∙ first.number;
   dim = next.dim ∙ first.dim;
   home = next.home ∙ first.home;
   images = next.images ∙ first.images;
   well = next.well;
-  blocks = λ id. omega (arith, first.blocks id, next.blocks id);
-  unborn = λ pid. next.unborn pid ∙ first.unborn pid;
-  stopped = λ pid h. next.stopped pid (first.stopped pid h);
-}
-
-pub became-end : (turn turn' : Option Turn) (a b c : Node) (come gone : List BlockId)
-    → Became turn a b come gone → Became turn' b c [] [] → Became turn' a c come gone
-became-end turn turn' a b c come gone first next = record {
-  number = next.number ∙ first.number;
-  dim = next.dim ∙ first.dim;
-  home = next.home ∙ first.home;
-  images = next.images ∙ first.images;
-  well = next.well;
-  blocks = λ id. omega (arith, first.blocks id, next.blocks id, count-nil id);
+  blocks = λ id. omega (arith, first.blocks id, next.blocks id, count-append id come come', count-append id gone gone');
   unborn = λ pid. next.unborn pid ∙ first.unborn pid;
   stopped = λ pid h. next.stopped pid (first.stopped pid h);
 }
@@ -114,13 +112,13 @@ became-end turn turn' a b c come gone first next = record {
 
 -- what holds of each process once one of them is as given
 pub at_changed : (ps : List Process) (pid : ℕ) (p : Process) (P : ℕ → Process → Type 0) → pid < length ps → P pid p
-    → ((q : ℕ) → (q ≡ pid → ⊥) → P q (slice_index_or ps q unborn)) → (q : ℕ) → P q (slice_index_or (slice_set ps pid p) q unborn)
+    → ((q : ℕ) → (q ≡ pid → ⊥) → P q (slice_index_or ps q unborn_process)) → (q : ℕ) → P q (slice_index_or (slice_set ps pid p) q unborn_process)
 at_changed ps pid p P within here others q =
     elim (cases_eq q pid) [
       | inl same ↦
-          subst (λ k. P k (slice_index_or (slice_set ps pid p) k unborn)) (sym same)
-          (subst (P pid) (sym (get_or-set_same ps pid p unborn within)) here)
-      | inr differ ↦ subst (P q) (sym (get_or-set_other ps pid q p unborn differ)) (others q differ)
+          subst (λ k. P k (slice_index_or (slice_set ps pid p) k unborn_process)) (sym same)
+          (subst (P pid) (sym (get_or-set_same ps pid p unborn_process within)) here)
+      | inr differ ↦ subst (P q) (sym (get_or-set_other ps pid q p unborn_process differ)) (others q differ)
     ]
 
 -- the node whose process, store and list of those that poll are as given
@@ -154,7 +152,7 @@ module _ (turn turn' turn'' : Option Turn) (node : Node) (pid : ℕ) (p : Proces
         c.blocks id,
         count-append id store (flat_map (λ q. mapped_ids q.space) (slice_set node.processes pid p)),
         count-append id node.store (flat_map (λ q. mapped_ids q.space) node.processes),
-        count-set id (λ (q : Process). mapped_ids q.space) node.processes pid p unborn within_list,
+        count-set id (λ (q : Process). mapped_ids q.space) node.processes pid p unborn_process within_list,
       )
 
   well_process : (q : ℕ) → q < process_count → IsWellProcess turn' q (process_at (changed_to node pid p store polling turn'') q)
@@ -175,7 +173,7 @@ module _ (turn turn' turn'' : Option Turn) (node : Node) (pid : ℕ) (p : Proces
 
   pub change-became : is_unborn p.status ≡ is_unborn (process_at node pid).status
       → (is_stopped (process_at node pid).status ≡ true → is_stopped p.status ≡ true)
-      → Became turn' node (changed_to node pid p store polling turn'') come gone
+      → HasBecome turn' node (changed_to node pid p store polling turn'') come gone
   change-became same_birth stays = record {
     number = refl;
     dim = refl;
@@ -205,7 +203,7 @@ once_together turn node pid id well within =
       arith,
       well.once id,
       count-append id node.store (flat_map (λ q. mapped_ids q.space) node.processes),
-      count-piece id (λ (q : Process). mapped_ids q.space) node.processes pid unborn (omega (arith, well.process_ids)),
+      count-piece id (λ (q : Process). mapped_ids q.space) node.processes pid unborn_process (omega (arith, well.process_ids)),
     )
 
 abbrev empty_window : Option Block → Option Block
@@ -214,7 +212,7 @@ empty_window window = None
 pub stop-change : (turn : Option Turn) (node : Node) (pid : ℕ) (p : Process) (cause : Stop) → IsWell turn node → pid < process_count
     → length p.regs ≡ register_count → length p.space.windows ≤ window_count → IsSameHeld (process_at node pid).space p.space
     → ((q : ℕ) → (q ≡ pid → ⊥) → is_turn_of q turn ≡ false)
-    → IsChange turn None node pid (ended cause p) (put_all (mapped_ids p.space) node.store) (without_poller pid node.polling) [] []
+    → IsChange turn None node pid (ended_process cause p) (put_all (mapped_ids p.space) node.store) (without_poller pid node.polling) [] []
 stop-change turn node pid p cause well within registers windows held turns = record {
   well = well;
   within = within;
@@ -238,7 +236,7 @@ stop-change turn node pid p cause well within registers windows held turns = rec
 pub stop-became : (turn : Option Turn) (node : Node) (pid : ℕ) (p : Process) (cause : Stop) → IsWell turn node → pid < process_count
     → length p.regs ≡ register_count → length p.space.windows ≤ window_count → IsSameHeld (process_at node pid).space p.space
     → ((q : ℕ) → (q ≡ pid → ⊥) → is_turn_of q turn ≡ false) → is_unborn (process_at node pid).status ≡ false
-    → Became None node (with_stopped node pid p cause) [] []
+    → HasBecome None node (with_stopped node pid p cause) [] []
 stop-became turn node pid p cause well within registers windows held turns born =
-    change-became turn None None node pid (ended cause p) (put_all (mapped_ids p.space) node.store) (without_poller pid node.polling) [] []
+    change-became turn None None node pid (ended_process cause p) (put_all (mapped_ids p.space) node.store) (without_poller pid node.polling) [] []
     (stop-change turn node pid p cause well within registers windows held turns) (sym born) (λ h. refl)

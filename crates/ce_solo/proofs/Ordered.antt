@@ -4,7 +4,7 @@ use Rattle.std.proofs.lemmas.Bool.{eq-eqb, eqb-true, lt-ltb, le-ltb, and_from, a
 use Rattle.ce_model.specs.declared.topology.TheConstants.{HOST}
 use Rattle.ce_model.specs.declared.topology.Place.{Place}
 use Rattle.ce_model.specs.declared.entry.Entry.{Entry}
-use Rattle.ce_model.specs.declared.entry.Given.{Given}
+use Rattle.ce_model.specs.declared.entry.TakeResult.{TakeResult}
 use Rattle.ce_model.specs.Lists.{EachAfter}
 use Rattle.ce_model.specs.Process.{is_stopped}
 use Rattle.ce_model.specs.Node.{process_at, Call, takes, sends, spawns, kills, notes, arms, looks, takes_mail}
@@ -17,20 +17,20 @@ use Rattle.ce_model.specs.Order.{bytes_between, bytes_handed, IsInOrder}
 use Rattle.ce_model.proofs.Walked.{kept_by_each, each_of_front}
 use Rattle.ce_model.proofs.AloneByEntries.{entries_of_alone}
 use Rattle.ce_model.proofs.OneMore.{taken_for}
-use Rattle.ce_solo.proofs.Words.{Leaves}
+use Rattle.ce_solo.proofs.Words.{HasMadeCall}
 use Rattle.ce_solo.proofs.Sending.{host_past}
 use Rattle.ce_solo.proofs.Steps.{node_by, state_after, entry_in}
-use Rattle.ce_solo.proofs.Made.{Made, by_host, by_node, made-leaves}
-use Rattle.ce_solo.proofs.Stands.{taken_in-of, no_take, Stands, IsEntryOf, entry_of-next, stands-made, stands-nil}
+use Rattle.ce_solo.proofs.Made.{IsMadeCall, by_host, by_node, made-leaves}
+use Rattle.ce_solo.proofs.Stands.{taken_in-of, no_take, IsSoundTrace, IsEntryOf, entry_of-next, stands-made, stands-nil}
 use Rattle.ce_solo.proofs.Stopped.{gone, own-stays, gone-stays}
-use Rattle.ce_solo.proofs.InOrder.{InOrder, Passed, order-nil, order-step}
+use Rattle.ce_solo.proofs.InOrder.{AreInOrder, HasPassed, order-nil, order-step}
 use Rattle.ce_solo.proofs.Passing.{unnamed, host-takes, node-takes}
 
 module _ (cube : Cube) (s : CubeState) (of : IsCube cube) (sound : IsSound cube s) (from to : Place) where
   -- what the receiver's own entry does to the bytes between the two
-  abbrev IsPassed : Call → Given → Type 0
+  abbrev IsPassed : Call → TakeResult → Type 0
   IsPassed call given =
-      Passed (bytes_handed from to (s.standing.node_record to.node).waiting (entry_in cube s to.node call)) (bytes_between from to (s.standing.node_record to.node).waiting)
+      HasPassed (bytes_handed from to (s.standing.node_record to.node).waiting (entry_in cube s to.node call)) (bytes_between from to (s.standing.node_record to.node).waiting)
       (bytes_between from to (unnamed given (s.standing.node_record to.node).waiting)) (gone cube s to) (gone cube (state_after cube s (entry_in cube s to.node call)) to)
 
   -- the host does not stop
@@ -38,14 +38,14 @@ module _ (cube : Cube) (s : CubeState) (of : IsCube cube) (sound : IsSound cube 
   host_here e = and_left _ _ (le-ltb to.node (2 ^ cube.dim) (omega (arith, e, host_past cube of)))
 
   -- who has stopped by now has stopped behind the entry
-  stops-later : (call : Call) → to.node < 2 ^ cube.dim → Leaves (s.node to.node) (says (s.node to.node)).node call → is_stopped (process_at (says (s.node to.node)).node to.pid).status ≡ true
+  stops-later : (call : Call) → to.node < 2 ^ cube.dim → HasMadeCall (s.node to.node) (says (s.node to.node)).node call → is_stopped (process_at (says (s.node to.node)).node to.pid).status ≡ true
       → gone cube (state_after cube s (entry_in cube s to.node call)) to ≡ true
   stops-later call below said h =
       and_from _ _ (lt-ltb to.node (2 ^ cube.dim) below)
       (subst (λ b. is_stopped (process_at (node_by b cube s to.node (entry_in cube s to.node call)) to.pid).status ≡ true) (sym (eq-eqb to.node to.node refl))
       (own-stays cube s to.node of below sound call said to.pid h))
 
-  passed-own : (asked : Option HostCall) (call : Call) (given : Given) → Made cube s to.node asked call → taken_in (answer (node_numbers cube.dim) s.standing to.node call) ≡ Some given → IsPassed call given
+  passed-own : (asked : Option HostCall) (call : Call) (given : TakeResult) → IsMadeCall cube s to.node asked call → taken_in (answer (node_numbers cube.dim) s.standing to.node call) ≡ Some given → IsPassed call given
   unfolding answer
   passed-own asked (takes asking dead poller) given (by_host is e) t = absurd (no_take cube s asked (takes asking dead poller) refl e)
   passed-own asked (takes asking dead poller) given (by_node below e) t =
@@ -62,36 +62,36 @@ module _ (cube : Cube) (s : CubeState) (of : IsCube cube) (sound : IsSound cube 
       host-takes cube s from to given sound is t (host_here is) (gone cube (state_after cube s (entry_in cube s to.node takes_mail)) to) cube.user
   passed-own asked takes_mail given (by_node below e) t = absurd (made-leaves cube s to.node takes_mail of below sound e).of_node
 
-  pub passed-by : (actor : ℕ) (asked : Option HostCall) (call : Call) (given : Given) → Made cube s actor asked call → taken_for to.node (entry_in cube s actor call) ≡ Some given
-      → Passed (bytes_handed from to (s.standing.node_record to.node).waiting (entry_in cube s actor call)) (bytes_between from to (s.standing.node_record to.node).waiting)
+  pub passed-by : (actor : ℕ) (asked : Option HostCall) (call : Call) (given : TakeResult) → IsMadeCall cube s actor asked call → taken_for to.node (entry_in cube s actor call) ≡ Some given
+      → HasPassed (bytes_handed from to (s.standing.node_record to.node).waiting (entry_in cube s actor call)) (bytes_between from to (s.standing.node_record to.node).waiting)
       (bytes_between from to (unnamed given (s.standing.node_record to.node).waiting)) (gone cube s to) (gone cube (state_after cube s (entry_in cube s actor call)) to)
   passed-by actor asked call given m t =
       let parts = taken_in-of actor to.node (taken_in (entry_in cube s actor call).what) given t in
       let same = eqb-true actor to.node parts.0 in
-      subst (λ actor. Made cube s actor asked call → taken_in (answer (node_numbers cube.dim) s.standing actor call) ≡ Some given
-      → Passed (bytes_handed from to (s.standing.node_record to.node).waiting (entry_in cube s actor call)) (bytes_between from to (s.standing.node_record to.node).waiting)
+      subst (λ actor. IsMadeCall cube s actor asked call → taken_in (answer (node_numbers cube.dim) s.standing actor call) ≡ Some given
+      → HasPassed (bytes_handed from to (s.standing.node_record to.node).waiting (entry_in cube s actor call)) (bytes_between from to (s.standing.node_record to.node).waiting)
       (bytes_between from to (unnamed given (s.standing.node_record to.node).waiting)) (gone cube s to) (gone cube (state_after cube s (entry_in cube s actor call)) to))
       (sym same) (passed-own asked call given) m parts.1
 
-order-made : (cube : Cube) (o : CubeState) (from to : Place) (t : List Entry) (entry : Entry) → IsCube cube → Stands cube o t → IsEntryOf cube (left_by cube o t) entry
-    → InOrder cube o from to t → InOrder cube o from to (t ++ entry ∷ [])
+order-made : (cube : Cube) (o : CubeState) (from to : Place) (t : List Entry) (entry : Entry) → IsCube cube → IsSoundTrace cube o t → IsEntryOf cube (left_by cube o t) entry
+    → AreInOrder cube o from to t → AreInOrder cube o from to (t ++ entry ∷ [])
 order-made cube o from to t entry of stands e is =
     let s = left_by cube o t in
     let made_entry : IsEntryOf cube s (entry_in cube s e.actor e.call) = record { actor = e.actor; asked = e.asked; call = e.call; by = e.by; is = refl } in
-    subst (λ entry. InOrder cube o from to (t ++ entry ∷ [])) (sym e.is)
+    subst (λ entry. AreInOrder cube o from to (t ++ entry ∷ [])) (sym e.is)
     (order-step cube o from to t of stands e.actor e.call made_entry (taken_for to.node (entry_in cube s e.actor e.call)) refl
     (λ given one. passed-by cube s of stands.sound from to e.actor e.asked e.call given e.by one)
     (gone-stays cube s e.actor e.asked e.call to of stands.sound e.by) is)
 
 -- a trace that stands, and is in order between two places
-record StandsInOrder (cube : Cube) (o : CubeState) (from to : Place) (t : List Entry) : Type 0 where
-  stands : Stands cube o t
-  order : InOrder cube o from to t
+record IsSoundInOrder (cube : Cube) (o : CubeState) (from to : Place) (t : List Entry) : Type 0 where
+  stands : IsSoundTrace cube o t
+  order : AreInOrder cube o from to t
 
 pub in_order : (cube : Cube) (o : CubeState) (t : List Entry) → IsCube cube → IsSound cube o → IsAloneFrom cube o t → IsInOrder o.standing t
 in_order cube o t of sound alone front is from to =
     let each = each_of_front (IsNext cube o) [] front is.0 (subst (EachAfter (IsNext cube o) []) (sym is.1) (entries_of_alone cube o t alone)) in
-    (kept_by_each (IsNext cube o) (StandsInOrder cube o from to)
+    (kept_by_each (IsNext cube o) (IsSoundInOrder cube o from to)
     (λ before entry now next.
     let e = entry_of-next cube o before entry next in
     record { stands = stands-made cube o before entry of now.stands e; order = order-made cube o from to before entry of now.stands e now.order })

@@ -6,35 +6,35 @@ use Rattle.ce_model.specs.declared.topology.TheConstants.{HOST}
 use Rattle.ce_model.specs.declared.topology.Place.{Place}
 use Rattle.ce_model.specs.declared.entry.Entry.{Entry}
 use Rattle.ce_model.specs.declared.entry.What.TheVariants.{HostTake, Take}
-use Rattle.ce_model.specs.declared.entry.Given.{Given}
-use Rattle.ce_model.specs.declared.entry.Given.TheVariants.{Start, Mail, Kill}
+use Rattle.ce_model.specs.declared.entry.TakeResult.{TakeResult}
+use Rattle.ce_model.specs.declared.entry.TakeResult.TheVariants.{Start, Mail, Kill}
 use Rattle.ce_model.specs.Parcels.{Parcel, Item, start, mail, kill, is_member, is_eligible, is_item, given_as, is_named_by, parcel_in}
 use Rattle.ce_model.specs.Process.{is_receiving, is_stopped}
 use Rattle.ce_model.specs.Node.{Node, process_at, takes, take_of, ids_of}
-use Rattle.ce_model.specs.Answers.{offered, is_used_up, first_number}
+use Rattle.ce_model.specs.Answers.{offer_of, is_used_up, first_number}
 use Rattle.ce_model.specs.Saying.{says}
 use Rattle.ce_model.specs.Cube.{Cube, CubeState, IsCube, parcel_numbered}
 use Rattle.ce_model.specs.Order.{is_between, bytes_between, number_handed, bytes_handed}
 use Rattle.ce_model.specs.Sound.{numbers_of, IsHostItem, IsSound, IsSoundHost}
 use Rattle.ce_solo.proofs.Lists.{IsOut, find-out}
 use Rattle.ce_solo.proofs.Items.{AreRising, named-mail, named-itself}
-use Rattle.ce_solo.proofs.Words.{Leaves}
+use Rattle.ce_solo.proofs.Words.{HasMadeCall}
 use Rattle.ce_solo.proofs.Hears.{receiving_is}
 use Rattle.ce_solo.proofs.Records.{named_once}
 use Rattle.ce_solo.proofs.HandedOver.{member-of, find-passes, dead-of}
 use Rattle.ce_solo.proofs.Stopped.{gone}
 use Rattle.ce_solo.proofs.Between.{found_bytes, between-other, one-between, none-between, between-first, between-receiver, none-earlier, handed-own}
-use Rattle.ce_solo.proofs.InOrder.{Passed, passes, hands, drops}
+use Rattle.ce_solo.proofs.InOrder.{HasPassed, passes, hands, drops}
 
 -- a list without what is named so
-abbrev pub unnamed : Given → List Item → List Item
+abbrev pub unnamed : TakeResult → List Item → List Item
 unnamed given items = filter (λ item. not (is_named_by given item)) items
 
 -- a parcel that is handed over, and was the first of those that go between the two
 passed-parcel : (from to : Place) (e named : Item → Bool) (items : List Item) (parcel : Parcel) (handed : List (List ℕ)) (g g' : Bool) → IsOut e named items (mail parcel)
     → handed ≡ bytes_between from to (mail parcel ∷ []) → ((before : List Item) → AllByRecursion (λ y. e y ≡ false) before → bytes_between from to before ≡ [])
     → (is_between from to parcel ≡ true → g ≡ false)
-    → Passed handed (bytes_between from to items) (bytes_between from to (filter (λ item. not (named item)) items)) g g'
+    → HasPassed handed (bytes_between from to items) (bytes_between from to (filter (λ item. not (named item)) items)) g g'
 passed-parcel from to e named items parcel handed g g' out same first here =
     elim (cases_Bool (is_between from to parcel)) [
       | inl t ↦
@@ -48,7 +48,7 @@ passed-parcel from to e named items parcel handed g g' out same first here =
 
 -- an item that goes, with nothing handed over and nothing between the two in it
 passed-other : (from to : Place) (e named : Item → Bool) (items : List Item) (item : Item) (handed : List (List ℕ)) (g g' : Bool) → IsOut e named items item
-    → handed ≡ [] → bytes_between from to (item ∷ []) ≡ [] → Passed handed (bytes_between from to items) (bytes_between from to (filter (λ x. not (named x)) items)) g g'
+    → handed ≡ [] → bytes_between from to (item ∷ []) ≡ [] → HasPassed handed (bytes_between from to items) (bytes_between from to (filter (λ x. not (named x)) items)) g g'
 passed-other from to e named items item handed g g' out none nothing =
     passes none (ap (bytes_between from to) out.rest ∙ between-other from to out.before item out.behind nothing ∙ sym (ap (bytes_between from to) out.whole))
 
@@ -58,10 +58,10 @@ no_earlier : (from to : Place) (before : List Item) → AllByRecursion (λ (y : 
 no_earlier from to [] all = refl
 no_earlier from to (x ∷ before) all = absurd (both_ways _ all.0 refl)
 
-host-passed : (from to : Place) (items : List Item) (given : Given) (handed : List (List ℕ)) (g' : Bool) → AllByRecursion IsHostItem items → AreRising (numbers_of items)
+host-passed : (from to : Place) (items : List Item) (given : TakeResult) (handed : List (List ℕ)) (g' : Bool) → AllByRecursion IsHostItem items → AreRising (numbers_of items)
     → option_map (λ n. Mail 0 n) (first_number items) ≡ Some given
     → handed ≡ found_bytes from to (option_and_then (λ n. parcel_numbered n items) (number_handed to.pid (HostTake (first_number items))))
-    → Passed handed (bytes_between from to items) (bytes_between from to (unnamed given items)) false g'
+    → HasPassed handed (bytes_between from to items) (bytes_between from to (unnamed given items)) false g'
 host-passed from to [] given handed g' own rising e is = absurd (cc)
 host-passed from to (start pid image ∷ rest) given handed g' own rising e is = absurd own.0
 host-passed from to (kill pid ∷ rest) given handed g' own rising e is = absurd own.0
@@ -71,7 +71,7 @@ host-passed from to (mail parcel ∷ rest) given handed g' own rising e is =
     let out = find-out (λ (x : Item). true) named items (mail parcel) refl (eq-eqb parcel.number parcel.number refl) (named-mail 0 parcel.number items rising) in
     let found : parcel_numbered parcel.number items ≡ Some parcel = ap (option_and_then parcel_in) out.found in
     let same : Mail 0 parcel.number ≡ given = cc in
-    subst (λ given. Passed handed (bytes_between from to items) (bytes_between from to (unnamed given items)) false g') same
+    subst (λ given. HasPassed handed (bytes_between from to items) (bytes_between from to (unnamed given items)) false g') same
     (elim (cases_Bool (to.pid == 0)) [
       | inl t ↦
           passed-parcel from to (λ (x : Item). true) named items parcel handed false g' out
@@ -85,21 +85,21 @@ host-passed from to (mail parcel ∷ rest) given handed g' own rising e is =
           both_ways _ f (eq-eqb to.pid 0 (sym pid ∙ ap (λ (p : Place). p.pid) own.0)))))
     ])
 
-pub host-takes : (cube : Cube) (s : CubeState) (from to : Place) (given : Given) → IsSound cube s → to.node ≡ HOST
+pub host-takes : (cube : Cube) (s : CubeState) (from to : Place) (given : TakeResult) → IsSound cube s → to.node ≡ HOST
     → option_map (λ n. Mail 0 n) (first_number (s.standing.node_record to.node).waiting) ≡ Some given → gone cube s to ≡ false → (g' : Bool) → (user : ℕ)
-    → Passed (bytes_handed from to (s.standing.node_record to.node).waiting (record { user = user; actor = to.node; what = HostTake (first_number (s.standing.node_record to.node).waiting) }))
+    → HasPassed (bytes_handed from to (s.standing.node_record to.node).waiting (record { user = user; actor = to.node; what = HostTake (first_number (s.standing.node_record to.node).waiting) }))
     (bytes_between from to (s.standing.node_record to.node).waiting) (bytes_between from to (unnamed given (s.standing.node_record to.node).waiting)) (gone cube s to) g'
 host-takes cube s from to given sound is e here g' user =
     let items = (s.standing.node_record to.node).waiting in
     let entry : Entry = record { user = user; actor = to.node; what = HostTake (first_number items) } in
     let host = subst (λ q. IsSoundHost s.standing.parcel_count (s.standing.node_record q).waiting) (sym is) sound.host in
-    subst (λ g. Passed (bytes_handed from to items entry) (bytes_between from to items) (bytes_between from to (unnamed given items)) g g') (sym here)
+    subst (λ g. HasPassed (bytes_handed from to items entry) (bytes_between from to items) (bytes_between from to (unnamed given items)) g g') (sym here)
     (host-passed from to items given (bytes_handed from to items entry) g' host.own host.numbered.rising e
     (handed-own from to items entry (number_handed to.pid (HostTake (first_number items))) (eq-eqb to.node to.node refl) refl))
 
 -- ---- a node takes an item
 
-module _ (cube : Cube) (s : CubeState) (of : IsCube cube) (sound : IsSound cube s) (from to : Place) (below : to.node < 2 ^ cube.dim) (asking dead : ℕ) (poller : Option ℕ) (said : Leaves (s.node to.node) (says (s.node to.node)).node (takes asking dead poller)) where
+module _ (cube : Cube) (s : CubeState) (of : IsCube cube) (sound : IsSound cube s) (from to : Place) (below : to.node < 2 ^ cube.dim) (asking dead : ℕ) (poller : Option ℕ) (said : HasMadeCall (s.node to.node) (says (s.node to.node)).node (takes asking dead poller)) where
   abbrev items : List Item
   items = (s.standing.node_record to.node).waiting
 
@@ -107,7 +107,7 @@ module _ (cube : Cube) (s : CubeState) (of : IsCube cube) (sound : IsSound cube 
   now = (says (s.node to.node)).node
 
   -- the entry by which the node is given this
-  abbrev given_entry : Given → Entry
+  abbrev given_entry : TakeResult → Entry
   given_entry given = record { user = cube.user; actor = to.node; what = Take asking dead poller given }
 
   out-of : (item : Item) → find (is_eligible asking dead) items ≡ Some item → IsOut (is_eligible asking dead) (is_named_by (given_as item)) items item
@@ -130,7 +130,7 @@ module _ (cube : Cube) (s : CubeState) (of : IsCube cube) (sound : IsSound cube 
 
   mail-passed : (parcel : Parcel) (g' : Bool) → find (is_eligible asking dead) items ≡ Some (mail parcel)
       → (is_stopped (process_at now to.pid).status ≡ true → g' ≡ true)
-      → Passed (bytes_handed from to items (given_entry (given_as (mail parcel)))) (bytes_between from to items) (bytes_between from to (unnamed (given_as (mail parcel)) items)) (gone cube s to) g'
+      → HasPassed (bytes_handed from to items (given_entry (given_as (mail parcel)))) (bytes_between from to items) (bytes_between from to (unnamed (given_as (mail parcel)) items)) (gone cube s to) g'
   mail-passed parcel g' found stops =
       let out = out-of (mail parcel) found in
       let entry = given_entry (given_as (mail parcel)) in
@@ -162,7 +162,7 @@ module _ (cube : Cube) (s : CubeState) (of : IsCube cube) (sound : IsSound cube 
       second_of false y f h = h
 
   item-passed : (item : Item) (g' : Bool) → find (is_eligible asking dead) items ≡ Some item → (is_stopped (process_at now to.pid).status ≡ true → g' ≡ true)
-      → Passed (bytes_handed from to items (given_entry (given_as item))) (bytes_between from to items) (bytes_between from to (unnamed (given_as item) items)) (gone cube s to) g'
+      → HasPassed (bytes_handed from to items (given_entry (given_as item))) (bytes_between from to items) (bytes_between from to (unnamed (given_as item) items)) (gone cube s to) g'
   item-passed (start pid image) g' found stops =
       passed-other from to (is_eligible asking dead) (is_named_by (Start pid image)) items (start pid image) (bytes_handed from to items (given_entry (Start pid image))) (gone cube s to) g' (out-of (start pid image) found)
       (handed-own from to items (given_entry (Start pid image)) None (eq-eqb to.node to.node refl) refl) refl
@@ -171,15 +171,15 @@ module _ (cube : Cube) (s : CubeState) (of : IsCube cube) (sound : IsSound cube 
       passed-other from to (is_eligible asking dead) (is_named_by (Kill pid)) items (kill pid) (bytes_handed from to items (given_entry (Kill pid))) (gone cube s to) g' (out-of (kill pid) found)
       (handed-own from to items (given_entry (Kill pid)) None (eq-eqb to.node to.node refl) refl) refl
 
-  given-passed : (item : Item) (given : Given) (g' : Bool) → find (is_eligible asking dead) items ≡ Some item → given_as item ≡ given → (is_stopped (process_at now to.pid).status ≡ true → g' ≡ true)
-      → Passed (bytes_handed from to items (given_entry (given_as item))) (bytes_between from to items) (bytes_between from to (unnamed given items)) (gone cube s to) g'
+  given-passed : (item : Item) (given : TakeResult) (g' : Bool) → find (is_eligible asking dead) items ≡ Some item → given_as item ≡ given → (is_stopped (process_at now to.pid).status ≡ true → g' ≡ true)
+      → HasPassed (bytes_handed from to items (given_entry (given_as item))) (bytes_between from to items) (bytes_between from to (unnamed given items)) (gone cube s to) g'
   given-passed item given g' found same stops =
-      subst (λ given. Passed (bytes_handed from to items (given_entry (given_as item))) (bytes_between from to items) (bytes_between from to (unnamed given items)) (gone cube s to) g') same
+      subst (λ given. HasPassed (bytes_handed from to items (given_entry (given_as item))) (bytes_between from to items) (bytes_between from to (unnamed given items)) (gone cube s to) g') same
       (item-passed item g' found stops)
 
-  offered-passed : (found : Option Item) (p : Option ℕ) (used : Bool) (given : Given) (g' : Bool) → find (is_eligible asking dead) items ≡ found
-      → (if is_item (offered found p used) then Some (offered found p used) else None) ≡ Some given → (is_stopped (process_at now to.pid).status ≡ true → g' ≡ true)
-      → Passed (bytes_handed from to items (given_entry (offered found p used))) (bytes_between from to items) (bytes_between from to (unnamed given items)) (gone cube s to) g'
+  offered-passed : (found : Option Item) (p : Option ℕ) (used : Bool) (given : TakeResult) (g' : Bool) → find (is_eligible asking dead) items ≡ found
+      → (if is_item (offer_of found p used) then Some (offer_of found p used) else None) ≡ Some given → (is_stopped (process_at now to.pid).status ≡ true → g' ≡ true)
+      → HasPassed (bytes_handed from to items (given_entry (offer_of found p used))) (bytes_between from to items) (bytes_between from to (unnamed given items)) (gone cube s to) g'
   offered-passed (Some item) p true given g' f e stops = absurd (cc)
   offered-passed (Some (start pid image)) p false given g' f e stops = let same : given_as (start pid image) ≡ given = cc in given-passed (start pid image) given g' f same stops
   offered-passed (Some (mail parcel)) p false given g' f e stops = let same : given_as (mail parcel) ≡ given = cc in given-passed (mail parcel) given g' f same stops
@@ -188,8 +188,8 @@ module _ (cube : Cube) (s : CubeState) (of : IsCube cube) (sound : IsSound cube 
   offered-passed None (Some pid) false given g' f e stops = absurd (cc)
   offered-passed None None used given g' f e stops = absurd (cc)
 
-  pub node-takes : (given : Given) (g' : Bool)
-      → (if is_item (offered (find (is_eligible asking dead) items) poller (is_used_up s.standing)) then Some (offered (find (is_eligible asking dead) items) poller (is_used_up s.standing)) else None) ≡ Some given
+  pub node-takes : (given : TakeResult) (g' : Bool)
+      → (if is_item (offer_of (find (is_eligible asking dead) items) poller (is_used_up s.standing)) then Some (offer_of (find (is_eligible asking dead) items) poller (is_used_up s.standing)) else None) ≡ Some given
       → (is_stopped (process_at now to.pid).status ≡ true → g' ≡ true)
-      → Passed (bytes_handed from to items (given_entry (offered (find (is_eligible asking dead) items) poller (is_used_up s.standing)))) (bytes_between from to items) (bytes_between from to (unnamed given items)) (gone cube s to) g'
+      → HasPassed (bytes_handed from to items (given_entry (offer_of (find (is_eligible asking dead) items) poller (is_used_up s.standing)))) (bytes_between from to items) (bytes_between from to (unnamed given items)) (gone cube s to) g'
   node-takes given g' e stops = offered-passed (find (is_eligible asking dead) items) poller (is_used_up s.standing) given g' refl e stops

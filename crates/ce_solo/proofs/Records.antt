@@ -22,7 +22,7 @@ abbrev pub births : NodeRecord → ℕ → Bool
 births kept pid = not (is_among pid kept.spawned) || has_start pid kept.waiting
 
 -- what is kept for a node stays sound, nothing is born, and parcels came with these blocks and went with those
-pub record Keeps (cube : Cube) (sent' r : ℕ) (kept kept' : NodeRecord) (come gone : List BlockId) : Type 0 where
+pub record HasStayedSound (cube : Cube) (sent' r : ℕ) (kept kept' : NodeRecord) (come gone : List BlockId) : Type 0 where
   pub sound : IsSoundRecord cube sent' r kept'
   pub births : (pid : ℕ) → births kept' pid ≡ births kept pid
   pub parcels : (id : BlockId) → count id (parcel_ids kept'.waiting) + count id gone ≡ count id (parcel_ids kept.waiting) + count id come
@@ -34,7 +34,7 @@ numbered-more sent sent' items more numbered = record {
 }
 
 pub keeps-same : (cube : Cube) (sent sent' r : ℕ) (kept : NodeRecord) (mark : Mark) → sent ≤ sent' → IsSoundRecord cube sent r kept
-    → Keeps cube sent' r kept (kept_with kept.waiting kept.spawned kept.killed mark) [] []
+    → HasStayedSound cube sent' r kept (kept_with kept.waiting kept.spawned kept.killed mark) [] []
 keeps-same cube sent sent' r kept mark more sound = record {
   sound = record {
     numbered = numbered-more sent sent' kept.waiting more sound.numbered;
@@ -87,7 +87,7 @@ pub mails-ids : (items : List Item) (ps : List Parcel) → parcel_ids (items ++ 
 mails-ids items ps = ids-append items (map mail ps) ∙ ap (λ qs. parcel_ids items ++ map (λ (p : Parcel). p.block.id) qs) (among-mails ps)
 
 keeps-appended : (cube : Cube) (sent sent' r : ℕ) (kept : NodeRecord) (mark : Mark) (ps : List Parcel) → sent ≤ sent' → IsSoundRecord cube sent r kept
-    → AreNew sent sent' r ps → Keeps cube sent' r kept (kept_with (kept.waiting ++ map mail ps) kept.spawned kept.killed mark) (map (λ p. p.block.id) ps) []
+    → AreNew sent sent' r ps → HasStayedSound cube sent' r kept (kept_with (kept.waiting ++ map mail ps) kept.spawned kept.killed mark) (map (λ p. p.block.id) ps) []
 keeps-appended cube sent sent' r kept mark ps more sound new = record {
   sound = record {
     numbered = numbered-mails sent sent' r kept.waiting ps more sound.numbered new.rising new.from_count new.below;
@@ -107,9 +107,9 @@ keeps-appended cube sent sent' r kept mark ps more sound new = record {
 }
 
 pub keeps-mails : (cube : Cube) (sent sent' r : ℕ) (kept : NodeRecord) (mark : Mark) (ps : List Parcel) → sent ≤ sent' → IsSoundRecord cube sent r kept
-    → AreNew sent sent' r ps → Keeps cube sent' r kept (kept_with (joined kept.waiting (map mail ps)) kept.spawned kept.killed mark) (map (λ p. p.block.id) ps) []
+    → AreNew sent sent' r ps → HasStayedSound cube sent' r kept (kept_with (joined kept.waiting (map mail ps)) kept.spawned kept.killed mark) (map (λ p. p.block.id) ps) []
 keeps-mails cube sent sent' r kept mark ps more sound new =
-    subst (λ waiting. Keeps cube sent' r kept (kept_with waiting kept.spawned kept.killed mark) (map (λ p. p.block.id) ps) []) (joined-is kept.waiting (map mail ps))
+    subst (λ waiting. HasStayedSound cube sent' r kept (kept_with waiting kept.spawned kept.killed mark) (map (λ p. p.block.id) ps) []) (joined-is kept.waiting (map mail ps))
     (keeps-appended cube sent sent' r kept mark ps more sound new)
 
 -- ---- a start or a kill comes
@@ -159,7 +159,7 @@ numbered-other sent items others none numbered =
 
 pub keeps-start : (cube : Cube) (sent r pid image : ℕ) (kept : NodeRecord) (mark : Mark) → IsSoundRecord cube sent r kept
     → is_among pid kept.spawned ≡ false → pid < process_count → image < length cube.images
-    → Keeps cube sent r kept (kept_with (kept.waiting ++ start pid image ∷ []) (kept.spawned ++ pid ∷ []) kept.killed mark) [] []
+    → HasStayedSound cube sent r kept (kept_with (kept.waiting ++ start pid image ∷ []) (kept.spawned ++ pid ∷ []) kept.killed mark) [] []
 keeps-start cube sent r pid image kept mark sound fresh within of_cube =
     let items = start pid image ∷ [] in
     let kept' = kept_with (kept.waiting ++ items) (kept.spawned ++ pid ∷ []) kept.killed mark in
@@ -200,7 +200,7 @@ keeps-start cube sent r pid image kept mark sound fresh within of_cube =
 
 pub keeps-kill : (cube : Cube) (sent r pid : ℕ) (kept : NodeRecord) (mark : Mark) → IsSoundRecord cube sent r kept
     → is_among pid kept.spawned ≡ true → is_among pid kept.killed ≡ false
-    → Keeps cube sent r kept (kept_with (kept.waiting ++ kill pid ∷ []) kept.spawned (kept.killed ++ pid ∷ []) mark) [] []
+    → HasStayedSound cube sent r kept (kept_with (kept.waiting ++ kill pid ∷ []) kept.spawned (kept.killed ++ pid ∷ []) mark) [] []
 keeps-kill cube sent r pid kept mark sound known fresh =
     let items = kill pid ∷ [] in
     let kept' = kept_with (kept.waiting ++ items) kept.spawned (kept.killed ++ pid ∷ []) mark in
@@ -242,7 +242,7 @@ named_once cube sent r kept (kill pid) sound =
     omega (arith, sound.one_kill pid, count_by-agree (is_named_by (given_as (kill pid))) (is_kill_of pid) kept.waiting (named-kill pid))
 
 -- what is left once an item is taken that can be given first
-pub record TakesItem (cube : Cube) (sent r asking dead : ℕ) (kept kept' : NodeRecord) (item : Item) : Type 0 where
+pub record HasTakenItem (cube : Cube) (sent r asking dead : ℕ) (kept kept' : NodeRecord) (item : Item) : Type 0 where
   pub sound : IsSoundRecord cube sent r kept'
   pub parcels : (id : BlockId) → count id (parcel_ids kept'.waiting) + count id (parcel_ids (item ∷ [])) ≡ count id (parcel_ids kept.waiting)
   pub births : (pid : ℕ) → is_start_of pid item ≡ false → births kept' pid ≡ births kept pid
@@ -258,7 +258,7 @@ start-out pid (x ∷ before) item behind other = ap (λ b. is_start_of pid x || 
 
 pub takes-item : (cube : Cube) (sent r asking dead : ℕ) (kept : NodeRecord) (mark : Mark) (item : Item) → IsSoundRecord cube sent r kept
     → find (is_eligible asking dead) kept.waiting ≡ Some item
-    → TakesItem cube sent r asking dead kept (kept_with (without_named item kept.waiting) kept.spawned kept.killed mark) item
+    → HasTakenItem cube sent r asking dead kept (kept_with (without_named item kept.waiting) kept.spawned kept.killed mark) item
 takes-item cube sent r asking dead kept mark item sound found =
     let test = λ (x : Item). not (is_named_by (given_as item) x) in
     let left = filter test kept.waiting in
@@ -300,7 +300,7 @@ takes-item cube sent r asking dead kept mark item sound found =
 -- the start of a process that is taken was the only one
 pub start-taken : (cube : Cube) (sent r asking dead pid image : ℕ) (kept kept' : NodeRecord) → IsSoundRecord cube sent r kept → kept'.spawned ≡ kept.spawned
     → kept'.waiting ≡ without_named (start pid image) kept.waiting
-    → TakesItem cube sent r asking dead kept kept' (start pid image) → (births kept pid ≡ true) × (births kept' pid ≡ false)
+    → HasTakenItem cube sent r asking dead kept kept' (start pid image) → (births kept pid ≡ true) × (births kept' pid ≡ false)
 start-taken cube sent r asking dead pid image kept kept' sound spawned waiting taken =
     let here = eq-eqb pid pid refl in
     let others : count_by (is_start_of pid) (taken.out.before ++ taken.out.behind) ≡ 0 =
@@ -321,7 +321,7 @@ start-taken cube sent r asking dead pid image kept kept' sound spawned waiting t
 
 -- the process of a kill that is taken was born
 pub kill-taken : (cube : Cube) (sent r asking dead pid : ℕ) (kept kept' : NodeRecord) → IsSoundRecord cube sent r kept
-    → TakesItem cube sent r asking dead kept kept' (kill pid) → (pid < process_count) × (births kept pid ≡ false)
+    → HasTakenItem cube sent r asking dead kept kept' (kill pid) → (pid < process_count) × (births kept pid ≡ false)
 kill-taken cube sent r asking dead pid kept kept' sound taken =
     let spawned : is_among pid kept.spawned ≡ true =
     true_from_ne_false (is_among pid kept.spawned) (λ none. both_ways _ (killed-spawned pid kept.spawned kept.killed sound.killed none) taken.of_node) in

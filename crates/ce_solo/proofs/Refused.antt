@@ -6,18 +6,18 @@ use Rattle.ce_model.specs.declared.topology.TheConstants.{HOST}
 use Rattle.ce_model.specs.declared.topology.Place.{Place}
 use Rattle.ce_model.specs.declared.topology.BlockId.{BlockId}
 use Rattle.ce_model.specs.declared.entry.Entry.{Entry}
-use Rattle.ce_model.specs.declared.entry.Given.{Given}
-use Rattle.ce_model.specs.declared.entry.Given.TheVariants.{Start, Mail}
+use Rattle.ce_model.specs.declared.entry.TakeResult.{TakeResult}
+use Rattle.ce_model.specs.declared.entry.TakeResult.TheVariants.{Start, Mail}
 use Rattle.ce_model.specs.declared.entry.What.TheVariants.{Send, Spawn, Take}
 use Rattle.ce_model.specs.Limits.{home_blocks_lem}
 use Rattle.ce_model.specs.Lists.{IsFront}
 use Rattle.ce_model.specs.Parcels.{Item, mail, item_id, is_eligible, is_member}
 use Rattle.ce_model.specs.Node.{host_place}
-use Rattle.ce_model.specs.Trace.{sent_to, taken_by, waiting}
-use Rattle.ce_model.specs.Answers.{offered}
+use Rattle.ce_model.specs.Trace.{sent_to, taken_by, waiting_items}
+use Rattle.ce_model.specs.Answers.{offer_of}
 use Rattle.ce_model.specs.Cube.{opening, left_by}
 use Rattle.ce_model.specs.Owners.{IsBlockOf, IsOwned}
-use Rattle.ce_model.specs.Order.{sent, got, IsInOrder}
+use Rattle.ce_model.specs.Order.{messages_sent, messages_got, IsInOrder}
 use Rattle.ce_model.proofs.Rows.Cubes.{one_cube, by, place_0, host_block, host_parcel}
 use Rattle.ce_solo.proofs.Counting.{hit-self, count, count-nil, count-cons, sum_run-part}
 use Rattle.ce_solo.proofs.Items.{parcel_ids}
@@ -35,8 +35,8 @@ two_parcels = by HOST (Send 0 0 (one_block_each (host_block 0) (place_0 ∷ plac
 
 -- what waits behind it
 two_wait : (image : ImageParts)
-    → waiting (opening (one_cube image)).standing 0 two_parcels ≡ mail (host_parcel 0 0 (1 ∷ [])) ∷ mail (host_parcel 1 0 (1 ∷ [])) ∷ []
-unfolding waiting sent_to taken_by
+    → waiting_items (opening (one_cube image)).standing 0 two_parcels ≡ mail (host_parcel 0 0 (1 ∷ [])) ∷ mail (host_parcel 1 0 (1 ∷ [])) ∷ []
+unfolding waiting_items sent_to taken_by
 two_wait image = refl
 
 of_the_cube : (image : ImageParts) → IsBlockOf (one_cube image).dim (host_block 0)
@@ -80,8 +80,8 @@ not_front front =
 -- ---- the newest mail first
 
 -- what a node would be given that takes the newest item first
-abbrev pub newest_given : ℕ → ℕ → List Item → Given
-newest_given asking dead items = offered (find (is_eligible asking dead) (reverse items)) None false
+abbrev pub newest_given : ℕ → ℕ → List Item → TakeResult
+newest_given asking dead items = offer_of (find (is_eligible asking dead) (reverse items)) None false
 
 -- the host sends 1 and then 2 to process 0, which asks, and gets 2
 abbrev pub newest_first : List Entry
@@ -92,7 +92,7 @@ newest_first =
     ∷ []
 
 pub newest_first-refused : (image : ImageParts) → IsInOrder (opening (one_cube image)).standing newest_first → ⊥
-unfolding got sent waiting sent_to taken_by
+unfolding messages_got messages_sent waiting_items sent_to taken_by
 newest_first-refused image order = not_front (order newest_first ([], refl) host_place place_0)
 
 -- ---- early mail dropped
@@ -101,8 +101,8 @@ newest_first-refused image order = not_front (order newest_first ([], refl) host
 abbrev pub is_early_eligible : ℕ → ℕ → ℕ → Item → Bool
 is_early_eligible asking dead unborn item = is_eligible asking dead item || is_member (item_id item) unborn
 
-abbrev pub early_given : ℕ → ℕ → ℕ → List Item → Given
-early_given asking dead unborn items = offered (find (is_early_eligible asking dead unborn) items) None false
+abbrev pub early_given : ℕ → ℕ → ℕ → List Item → TakeResult
+early_given asking dead unborn items = offer_of (find (is_early_eligible asking dead unborn) items) None false
 
 -- the host sends 1 to process 0 before it is spawned, and its node is given it at once; later 2 comes, and the process gets it
 abbrev pub early_dropped : List Entry
@@ -116,5 +116,5 @@ early_dropped =
     ∷ []
 
 pub early_dropped-refused : (image : ImageParts) → IsInOrder (opening (one_cube image)).standing early_dropped → ⊥
-unfolding got sent waiting sent_to taken_by
+unfolding messages_got messages_sent waiting_items sent_to taken_by
 early_dropped-refused image order = not_front (order early_dropped ([], refl) host_place place_0)

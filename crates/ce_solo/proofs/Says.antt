@@ -4,34 +4,34 @@ use Rattle.rv_model.specs.declared.stop.Stop.TheVariants.{TurnSpent}
 use Rattle.rv_model.specs.Exec.{Outcome, went, called, stopped}
 use Rattle.ce_model.specs.Limits.{turn_instructions}
 use Rattle.ce_model.specs.Space.{Space}
-use Rattle.ce_model.specs.Process.{moved}
+use Rattle.ce_model.specs.Process.{moved_process}
 use Rattle.ce_model.specs.Node.{Turn, Node, process_at, with_process}
-use Rattle.ce_model.specs.Kernel.{Did, goes_on, leaves, turn_ends, kernel}
+use Rattle.ce_model.specs.Kernel.{CallOutcome, goes_on, leaves, turn_ends, kernel}
 use Rattle.ce_model.specs.Saying.{Saying, asks, after_call, after_instruction, instruction, runs, says_in, says}
 use Rattle.ce_model.specs.Sound.{IsSoundTurn}
 use Rattle.ce_solo.proofs.Windows.{IsSameHeld, same_held}
 use Rattle.ce_solo.proofs.Instructions.{IsLed, exec-led}
-use Rattle.ce_solo.proofs.Nodes.{IsWell, Became, became-same, became-then}
-use Rattle.ce_solo.proofs.Words.{InTurn, Leaves, Ends, IsDone, in_turn-windows, goes-done, stops-done}
+use Rattle.ce_solo.proofs.Nodes.{IsWell, HasBecome, well-turn, became-same, became-then}
+use Rattle.ce_solo.proofs.Words.{IsInItsTurn, HasMadeCall, HasEndedTurn, IsDone, in_turn-windows, goes-done, stops-done}
 use Rattle.ce_solo.proofs.Calls.{kernel-done}
 
 -- a saying is one that the node can make
 pub record IsSaid (node : Node) (saying : Saying) : Type 0 where
-  pub leaves : Leaves node saying.node saying.call
+  pub leaves : HasMadeCall node saying.node saying.call
 
-asks-said : (node node' : Node) → Ends node node' → IsSaid node (asks node')
+asks-said : (node node' : Node) → HasEndedTurn node node' → IsSaid node (asks node')
 asks-said node node' ends = record {
   leaves = record {
-    became = subst (λ turn. Became turn node node' [] []) (sym ends.turn) ends.became;
+    became = subst (λ turn. HasBecome turn node node' [] []) (sym ends.turn) ends.became;
     turn = subst (λ turn. IfSome turn IsSoundTurn) (sym ends.turn) tt;
     of_node = (refl, ends.turn);
   };
 }
 
-said-then : (turn : Option Turn) (a b : Node) (saying : Saying) → Became turn a b [] [] → IsSaid b saying → IsSaid a saying
+said-then : (turn : Option Turn) (a b : Node) (saying : Saying) → HasBecome turn a b [] [] → IsSaid b saying → IsSaid a saying
 said-then turn a b saying first said = record {
   leaves = record {
-    became = became-then turn saying.node.turn a b saying.node [] _ first said.leaves.became;
+    became = became-then first said.leaves.became;
     turn = said.leaves.turn;
     of_node = said.leaves.of_node;
   };
@@ -41,18 +41,8 @@ said-then turn a b saying first said = record {
 abbrev with_left : ℕ → Turn → Turn
 with_left left turn = record turn { left = left }
 
-well-left : (node : Node) (turn : Turn) (left : ℕ) → IsWell (Some turn) node → IsWell (Some (with_left left turn)) node
-well-left node turn left well = record {
-  process_ids = well.process_ids;
-  processes = λ q h. let was = well.processes q h in
-      record { registers = was.registers; windows = was.windows; unborn_used = was.unborn_used; stopped_holds = was.stopped_holds; running = was.running };
-  polling = well.polling;
-  store = well.store;
-  once = well.once;
-}
-
 -- the process of a turn as it stands
-pub now_in_turn : (node : Node) (turn : Turn) → IsWell (Some turn) node → IsSoundTurn turn → InTurn node turn (process_at node turn.pid)
+pub now_in_turn : (node : Node) (turn : Turn) → IsWell (Some turn) node → IsSoundTurn turn → IsInItsTurn node turn (process_at node turn.pid)
 now_in_turn node turn well sound = record {
   well = well;
   sound = sound;
@@ -62,7 +52,7 @@ now_in_turn node turn well sound = record {
 }
 
 -- what is said once a kernel call came to this
-call-said : (left : ℕ) (node : Node) (did : Did)
+call-said : (left : ℕ) (node : Node) (did : CallOutcome)
     → ((node' : Node) (turn' : Turn) → IsWell (Some turn') node' → IsSoundTurn turn' → IsSaid node' (runs left node' turn'))
     → IsDone node did → IsSaid node (after_call (runs left) did)
 call-said left node (goes_on node' turn') onward done =
@@ -72,9 +62,9 @@ call-said left node (turn_ends node') onward done = asks-said node node' done
 
 moved_in_turn : (node : Node) (turn : Turn) (left : ℕ) (regs : List ℕ) (pc : ℕ) (space : Space) → IsWell (Some turn) node → IsSoundTurn turn → left ≤ turn_instructions
     → length regs ≡ length (process_at node turn.pid).regs → IsSameHeld (process_at node turn.pid).space space
-    → InTurn node (with_left left turn) (moved (process_at node turn.pid) regs pc space)
+    → IsInItsTurn node (with_left left turn) (moved_process (process_at node turn.pid) regs pc space)
 moved_in_turn node turn left regs pc space well sound enough long held = record {
-  well = well-left node turn left well;
+  well = well-turn node turn left turn.calls well;
   sound = record { pid = sound.pid; left = enough; calls = sound.calls };
   registers = long ∙ (well.processes turn.pid sound.pid).registers;
   held = held;
@@ -87,13 +77,13 @@ instruction-said : (left : ℕ) (node : Node) (turn : Turn) (outcome : Outcome S
     → IsSaid node (after_instruction (runs left) left node turn (process_at node turn.pid) outcome)
 instruction-said left node turn (went regs pc space) enough onward well sound led =
     let c = moved_in_turn node turn left regs pc space well sound enough led.0 led.1 in
-    let p = moved (process_at node turn.pid) regs pc space in
+    let p = moved_process (process_at node turn.pid) regs pc space in
     let went_on = goes-done node (with_left left turn) p c p node.store refl c.registers (in_turn-windows node (with_left left turn) p c) well.store (λ id. refl) in
     said-then (Some (with_left left turn)) node (with_process node turn.pid p) (runs left (with_process node turn.pid p) turn) went_on.became
-    (onward (with_process node turn.pid p) turn (well-left (with_process node turn.pid p) (with_left left turn) turn.left went_on.became.well) sound)
+    (onward (with_process node turn.pid p) turn (well-turn (with_process node turn.pid p) (with_left left turn) turn.left turn.calls went_on.became.well) sound)
 instruction-said left node turn (called regs pc space) enough onward well sound led =
-    call-said left node (kernel node (with_left left turn) (moved (process_at node turn.pid) regs pc space)) onward
-    (kernel-done node (with_left left turn) (moved (process_at node turn.pid) regs pc space) (moved_in_turn node turn left regs pc space well sound enough led.0 led.1))
+    call-said left node (kernel node (with_left left turn) (moved_process (process_at node turn.pid) regs pc space)) onward
+    (kernel-done node (with_left left turn) (moved_process (process_at node turn.pid) regs pc space) (moved_in_turn node turn left regs pc space well sound enough led.0 led.1))
 instruction-said left node turn (stopped cause) enough onward well sound led =
     asks-said node _ (stops-done node turn (process_at node turn.pid) (now_in_turn node turn well sound) cause)
 

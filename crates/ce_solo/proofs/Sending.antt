@@ -16,7 +16,7 @@ use Rattle.ce_model.specs.Sound.{IsHostItem, IsSoundHost, IsSoundRecord}
 use Rattle.ce_solo.proofs.Counting.{hit, count, count-nil, count-cons, sum_run, sum_run-same, sum_run-add, sum_run-zero, sum_run-at}
 use Rattle.ce_solo.proofs.Lists.{all-append, all-weaker, all-filter, all-filtered, all-both, all-map, pairwise-filter, joined, joined-is}
 use Rattle.ce_solo.proofs.Items.{AreRising}
-use Rattle.ce_solo.proofs.Records.{kept_with, Keeps, keeps-same, AreNew, numbered-mails, keeps-start, keeps-kill}
+use Rattle.ce_solo.proofs.Records.{kept_with, HasStayedSound, keeps-same, AreNew, numbered-mails, keeps-start, keeps-kill}
 
 -- ---- places
 
@@ -209,19 +209,19 @@ sent-sum cube id (p ∷ ps) of all =
 -- a start of a fresh id comes to its node, and to no other
 pub start-keeps : (cube : Cube) (sent r image : ℕ) (to : Place) (kept : NodeRecord) (mark : Mark) (b : Bool) → IsSoundRecord cube sent r kept
     → (b ≡ true → is_among to.pid kept.spawned ≡ false) → to.pid < process_count → image < length cube.images
-    → Keeps cube (sent + 0) r kept
+    → HasStayedSound cube (sent + 0) r kept
     (kept_with (joined kept.waiting ((if b then start to.pid image ∷ [] else []) ++ [])) (joined kept.spawned (map item_id (if b then start to.pid image ∷ [] else []))) kept.killed mark) [] []
 start-keeps cube sent r image to kept mark true sound fresh within of_cube =
-    subst (λ n. Keeps cube n r kept (kept_with (kept.waiting ++ start to.pid image ∷ []) (kept.spawned ++ to.pid ∷ []) kept.killed mark) [] []) (omega arith)
+    subst (λ n. HasStayedSound cube n r kept (kept_with (kept.waiting ++ start to.pid image ∷ []) (kept.spawned ++ to.pid ∷ []) kept.killed mark) [] []) (omega arith)
     (keeps-start cube sent r to.pid image kept mark sound (fresh refl) within of_cube)
 start-keeps cube sent r image to kept mark false sound fresh within of_cube = keeps-same cube sent (sent + 0) r kept mark (omega arith) sound
 
 -- so does an accepted kill
 pub kill-keeps : (cube : Cube) (sent r : ℕ) (to : Place) (kept : NodeRecord) (mark : Mark) (b : Bool) → IsSoundRecord cube sent r kept
     → (b ≡ true → is_among to.pid kept.spawned ≡ true) → (b ≡ true → is_among to.pid kept.killed ≡ false)
-    → Keeps cube (sent + 0) r kept
+    → HasStayedSound cube (sent + 0) r kept
     (kept_with (joined kept.waiting ((if b then kill to.pid ∷ [] else []) ++ [])) kept.spawned (joined kept.killed (map item_id (if b then kill to.pid ∷ [] else []))) mark) [] []
 kill-keeps cube sent r to kept mark true sound known fresh =
-    subst (λ n. Keeps cube n r kept (kept_with (kept.waiting ++ kill to.pid ∷ []) kept.spawned (kept.killed ++ to.pid ∷ []) mark) [] []) (omega arith)
+    subst (λ n. HasStayedSound cube n r kept (kept_with (kept.waiting ++ kill to.pid ∷ []) kept.spawned (kept.killed ++ to.pid ∷ []) mark) [] []) (omega arith)
     (keeps-kill cube sent r to.pid kept mark sound (known refl) (fresh refl))
 kill-keeps cube sent r to kept mark false sound known fresh = keeps-same cube sent (sent + 0) r kept mark (omega arith) sound

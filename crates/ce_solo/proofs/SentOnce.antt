@@ -1,33 +1,25 @@
 -- One start and one kill at most are sent to an id.
 use Rattle.std.proofs.Common.{◌≡◌, ℕ, ◌+◌, ◌^◌, ◌<◌, ◌≤◌, Bool, true, false, ◌==◌, if◌then◌else◌, List, [], ◌∷◌, ◌++◌, map, count_by, refl, ap, sym, ◌∙◌, subst, arith, inl, inr, append-nil}
 use Rattle.std.specs.List.{AllByRecursion}
-use Rattle.std.proofs.lemmas.Bool.{cases_Bool, cases_eq, ne_eqb}
-use Rattle.ce_model.specs.declared.topology.Place.{Place}
+use Rattle.std.proofs.lemmas.Bool.{cond_both, cases_Bool, cases_eq, ne_eqb}
 use Rattle.ce_model.specs.declared.entry.Entry.{Entry}
 use Rattle.ce_model.specs.declared.entry.What.{What}
 use Rattle.ce_model.specs.declared.entry.What.TheVariants.{Spawn, Kill}
 use Rattle.ce_model.specs.declared.entry.KillFound.TheVariants.{Killed}
-use Rattle.ce_model.specs.Parcels.{Parcel, start, mail, kill, item_id}
-use Rattle.ce_model.specs.Trace.{NodeRecord, Standing, starts_in, kills_in, mails_in, items_to, spawned_in, killed_in, sent_to, spawned, killed}
+use Rattle.ce_model.specs.Parcels.{Item, start, kill, item_id}
+use Rattle.ce_model.specs.Trace.{NodeRecord, Standing, parcels_of, starts_in, kills_in, mails_in, items_to, spawned_in, killed_in, sent_to, spawned_ids, killed_ids}
 use Rattle.ce_model.specs.Answers.{is_among}
 use Rattle.ce_model.specs.Cube.{Cube, CubeState, left_by}
 use Rattle.ce_model.specs.Sound.{is_start_of, is_kill_of, IsSound}
 use Rattle.ce_model.proofs.OneMore.{sent_to-more, spawned-more, killed-more}
-use Rattle.ce_solo.proofs.Lists.{count_by-cons, count_by-append, one_if, one_if-true, one_if-false, one_if-le, count_by-none}
-use Rattle.ce_solo.proofs.Items.{kill-mails, own-starts, own-kills}
+use Rattle.ce_solo.proofs.Lists.{all-front, all-back, count_by-cons, count_by-append, one_if, one_if-true, one_if-false, one_if-le, count_by-none, none-from_any}
+use Rattle.ce_solo.proofs.Items.{start-mails, kill-mails, own-starts, own-kills}
 use Rattle.ce_solo.proofs.Records.{among-last, among-other}
 use Rattle.ce_solo.proofs.Made.{IsNewItem, items-new}
+use Rattle.ce_solo.proofs.Sending.{to_node}
 use Rattle.ce_solo.proofs.Stands.{IsEntryOf}
 
 -- ---- one start or kill more
-
-all-front : {X : Type 0} (P : X → Type 0) (xs ys : List X) → AllByRecursion P (xs ++ ys) → AllByRecursion P xs
-all-front P [] ys all = tt
-all-front P (x ∷ xs) ys all = (all.0, all-front P xs ys all.1)
-
-all-back : {X : Type 0} (P : X → Type 0) (xs ys : List X) → AllByRecursion P (xs ++ ys) → AllByRecursion P ys
-all-back P [] ys all = all
-all-back P (x ∷ xs) ys all = all-back P xs ys all.1
 
 none_more : (pid c : ℕ) (pids : List ℕ) → c ≤ one_if (is_among pid pids) → c + 0 ≤ one_if (is_among pid (pids ++ []))
 none_more pid c pids h = omega (arith, h, ap (λ xs. one_if (is_among pid xs)) (append-nil pids))
@@ -44,91 +36,80 @@ one_more pid other c pids h fresh =
     ]
 
 module _ (sent : ℕ) (kept : NodeRecord) (r pid c : ℕ) where
-  starts_by : (to : Place) (image : ℕ) (b : Bool) → AllByRecursion (IsNewItem sent kept) (if b then start to.pid image ∷ [] else []) → c ≤ one_if (is_among pid kept.spawned)
-      → c + count_by (is_start_of pid) (if b then start to.pid image ∷ [] else []) ≤ one_if (is_among pid (kept.spawned ++ map item_id (if b then start to.pid image ∷ [] else [])))
-  starts_by to image true new h = omega (arith, one_more pid to.pid c kept.spawned h new.0, count_by-cons (is_start_of pid) (start to.pid image) [])
-  starts_by to image false new h = none_more pid c kept.spawned h
+  -- an item more, if any, whose id is a new one
+  one_if_new : (test : Item → Bool) (ids : List ℕ) (x : Item) (b : Bool) → test x ≡ (item_id x == pid) → (IsNewItem sent kept x → is_among (item_id x) ids ≡ false)
+      → AllByRecursion (IsNewItem sent kept) (if b then x ∷ [] else []) → c ≤ one_if (is_among pid ids)
+      → c + count_by test (if b then x ∷ [] else []) ≤ one_if (is_among pid (ids ++ map item_id (if b then x ∷ [] else [])))
+  one_if_new test ids x true same fresh new h = omega (arith, one_more pid (item_id x) c ids h (fresh new.0), count_by-cons test x [], ap one_if same)
+  one_if_new test ids x false same fresh new h = none_more pid c ids h
 
   starts_step : (what : What) → AllByRecursion (IsNewItem sent kept) (starts_in r what) → c ≤ one_if (is_among pid kept.spawned)
       → c + count_by (is_start_of pid) (starts_in r what) ≤ one_if (is_among pid (kept.spawned ++ spawned_in r what))
-  starts_step (Spawn by image to true) new h = starts_by to image (to.node == r) new h
+  starts_step (Spawn by image to true) new h = one_if_new (is_start_of pid) kept.spawned (start to.pid image) (to.node == r) refl (λ fresh. fresh) new h
   starts_step other new h = none_more pid c kept.spawned h
-
-  kills_by : (to : Place) (b : Bool) → AllByRecursion (IsNewItem sent kept) (if b then kill to.pid ∷ [] else []) → c ≤ one_if (is_among pid kept.killed)
-      → c + count_by (is_kill_of pid) (if b then kill to.pid ∷ [] else []) ≤ one_if (is_among pid (kept.killed ++ map item_id (if b then kill to.pid ∷ [] else [])))
-  kills_by to true new h = omega (arith, one_more pid to.pid c kept.killed h new.0, count_by-cons (is_kill_of pid) (kill to.pid) [])
-  kills_by to false new h = none_more pid c kept.killed h
 
   kills_step : (what : What) → AllByRecursion (IsNewItem sent kept) (kills_in r what) → c ≤ one_if (is_among pid kept.killed)
       → c + count_by (is_kill_of pid) (kills_in r what) ≤ one_if (is_among pid (kept.killed ++ killed_in r what))
-  kills_step (Kill by to Killed) new h = kills_by to (to.node == r) new h
+  kills_step (Kill by to Killed) new h = one_if_new (is_kill_of pid) kept.killed (kill to.pid) (to.node == r) refl (λ fresh. fresh) new h
   kills_step other new h = none_more pid c kept.killed h
 
-no_starts-mails : (pid : ℕ) (ps : List Parcel) → AllByRecursion (λ x. is_start_of pid x ≡ false) (map mail ps)
-no_starts-mails pid [] = tt
-no_starts-mails pid (p ∷ ps) = (refl, no_starts-mails pid ps)
-
 no_starts-kills : (pid r : ℕ) (what : What) → count_by (is_start_of pid) (kills_in r what) ≡ 0
-no_starts-kills pid r (Kill by to Killed) = none (to.node == r)
-  where
-    none : (b : Bool) → count_by (is_start_of pid) (if b then kill to.pid ∷ [] else []) ≡ 0
-    none true = refl
-    none false = refl
+no_starts-kills pid r (Kill by to Killed) = cond_both (to.node == r) (kill to.pid ∷ []) [] (λ items. count_by (is_start_of pid) items ≡ 0) (λ t. refl) (λ f. refl)
 no_starts-kills pid r other = refl
 
 no_kills-starts : (pid r : ℕ) (what : What) → count_by (is_kill_of pid) (starts_in r what) ≡ 0
-no_kills-starts pid r (Spawn by image to true) = none (to.node == r)
-  where
-    none : (b : Bool) → count_by (is_kill_of pid) (if b then start to.pid image ∷ [] else []) ≡ 0
-    none true = refl
-    none false = refl
+no_kills-starts pid r (Spawn by image to true) = cond_both (to.node == r) (start to.pid image ∷ []) [] (λ items. count_by (is_kill_of pid) items ≡ 0) (λ t. refl) (λ f. refl)
 no_kills-starts pid r other = refl
+
+-- what is sent to a node, by a test that no mail passes
+without_mails : (test : Item → Bool) (r : ℕ) (entry : Entry) → AllByRecursion (λ x. test x ≡ false) (mails_in r entry)
+    → count_by test (items_to r entry) ≡ count_by test (starts_in r entry.what) + count_by test (kills_in r entry.what)
+without_mails test r entry none =
+    omega (
+      arith,
+      count_by-append test (starts_in r entry.what) (kills_in r entry.what ++ mails_in r entry),
+      count_by-append test (kills_in r entry.what) (mails_in r entry),
+      count_by-none test (mails_in r entry) none,
+    )
 
 starts-to : (pid r : ℕ) (entry : Entry) → count_by (is_start_of pid) (items_to r entry) ≡ count_by (is_start_of pid) (starts_in r entry.what)
 starts-to pid r entry =
-    omega (
-      arith,
-      count_by-append (is_start_of pid) (starts_in r entry.what) (kills_in r entry.what ++ mails_in r entry),
-      count_by-append (is_start_of pid) (kills_in r entry.what) (mails_in r entry),
-      no_starts-kills pid r entry.what,
-      count_by-none (is_start_of pid) (mails_in r entry) (no_starts-mails pid _),
-    )
+    omega (arith, without_mails (is_start_of pid) r entry (none-from_any (is_start_of pid) (mails_in r entry) (start-mails pid (to_node r (parcels_of entry.actor entry.what)))), no_starts-kills pid r entry.what)
 
 kills-to : (pid r : ℕ) (entry : Entry) → count_by (is_kill_of pid) (items_to r entry) ≡ count_by (is_kill_of pid) (kills_in r entry.what)
 kills-to pid r entry =
-    omega (
-      arith,
-      count_by-append (is_kill_of pid) (starts_in r entry.what) (kills_in r entry.what ++ mails_in r entry),
-      count_by-append (is_kill_of pid) (kills_in r entry.what) (mails_in r entry),
-      no_kills-starts pid r entry.what,
-      count_by-none (is_kill_of pid) (mails_in r entry) (kill-mails pid _),
-    )
+    omega (arith, without_mails (is_kill_of pid) r entry (kill-mails pid _), no_kills-starts pid r entry.what)
 
 -- ---- a trace
 
 -- what was sent to a node has a start only of an id that was spawned, and of each one; and so with kills
-pub record SentOnce (o : Standing) (r pid : ℕ) (t : List Entry) : Type 0 where
-  pub starts : count_by (is_start_of pid) (sent_to o r t) ≤ one_if (is_among pid (spawned o r t))
-  pub kills : count_by (is_kill_of pid) (sent_to o r t) ≤ one_if (is_among pid (killed o r t))
+pub record HasSentOnce (o : Standing) (r pid : ℕ) (t : List Entry) : Type 0 where
+  pub starts : count_by (is_start_of pid) (sent_to o r t) ≤ one_if (is_among pid (spawned_ids o r t))
+  pub kills : count_by (is_kill_of pid) (sent_to o r t) ≤ one_if (is_among pid (killed_ids o r t))
 
-pub once-nil : (cube : Cube) (o : CubeState) (r pid : ℕ) → r < 2 ^ cube.dim → IsSound cube o → SentOnce o.standing r pid []
-unfolding sent_to spawned killed
+-- an item of the id waits only where the id is among these
+once_at : (test : Item → Bool) (pid : ℕ) (ids : List ℕ) (items : List Item) → count_by test items ≤ 1
+    → (is_among pid ids ≡ false → AllByRecursion (λ x. test x ≡ false) items) → count_by test (items ++ []) ≤ one_if (is_among pid (ids ++ []))
+once_at test pid ids items once none =
+    let all = ap (count_by test) (append-nil items) in
+    let same = ap (λ xs. one_if (is_among pid xs)) (append-nil ids) in
+    elim (cases_Bool (is_among pid ids)) [
+      | inl t ↦ omega (arith, once, one_if-true (is_among pid ids) t, same, all)
+      | inr f ↦ omega (arith, count_by-none test items (none f), all)
+    ]
+
+pub once-nil : (cube : Cube) (o : CubeState) (r pid : ℕ) → r < 2 ^ cube.dim → IsSound cube o → HasSentOnce o.standing r pid []
+unfolding sent_to spawned_ids killed_ids
 once-nil cube o r pid below sound =
     let kept = o.standing.node_record r in
     let is = sound.records r below in
     record {
-      starts = elim (cases_Bool (is_among pid kept.spawned)) [
-        | inl t ↦ omega (arith, is.one_start pid, one_if-true (is_among pid kept.spawned) t, ap (λ xs. one_if (is_among pid xs)) (append-nil kept.spawned), ap (count_by (is_start_of pid)) (append-nil kept.waiting))
-        | inr f ↦ omega (arith, count_by-none (is_start_of pid) kept.waiting (own-starts cube r pid kept kept.waiting f is.own), ap (count_by (is_start_of pid)) (append-nil kept.waiting))
-      ];
-      kills = elim (cases_Bool (is_among pid kept.killed)) [
-        | inl t ↦ omega (arith, is.one_kill pid, one_if-true (is_among pid kept.killed) t, ap (λ xs. one_if (is_among pid xs)) (append-nil kept.killed), ap (count_by (is_kill_of pid)) (append-nil kept.waiting))
-        | inr f ↦ omega (arith, count_by-none (is_kill_of pid) kept.waiting (own-kills cube r pid kept kept.waiting f is.own), ap (count_by (is_kill_of pid)) (append-nil kept.waiting))
-      ];
+      starts = once_at (is_start_of pid) pid kept.spawned kept.waiting (is.one_start pid) (λ f. own-starts cube r pid kept kept.waiting f is.own);
+      kills = once_at (is_kill_of pid) pid kept.killed kept.waiting (is.one_kill pid) (λ f. own-kills cube r pid kept kept.waiting f is.own);
     }
 
-pub once-more : (cube : Cube) (o : CubeState) (r pid : ℕ) (t : List Entry) (entry : Entry) → SentOnce o.standing r pid t → IsEntryOf cube (left_by cube o t) entry
-    → SentOnce o.standing r pid (t ++ entry ∷ [])
+pub once-more : (cube : Cube) (o : CubeState) (r pid : ℕ) (t : List Entry) (entry : Entry) → HasSentOnce o.standing r pid t → IsEntryOf cube (left_by cube o t) entry
+    → HasSentOnce o.standing r pid (t ++ entry ∷ [])
 once-more cube o r pid t entry once e =
     let s = left_by cube o t in
     let kept = s.standing.node_record r in

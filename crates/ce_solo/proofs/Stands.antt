@@ -5,13 +5,13 @@ use Rattle.std.proofs.lemmas.Bool.{eqb-true, or_left}
 use Rattle.std.proofs.lemmas.List.Folds.{list_any-append}
 use Rattle.ce_model.specs.declared.topology.TheConstants.{HOST}
 use Rattle.ce_model.specs.declared.entry.Entry.{Entry}
-use Rattle.ce_model.specs.declared.entry.Given.{Given}
-use Rattle.ce_model.specs.declared.entry.Given.TheVariants.{Start, Mail, Kill, Poll, Idle, Spent}
+use Rattle.ce_model.specs.declared.entry.TakeResult.{TakeResult}
+use Rattle.ce_model.specs.declared.entry.TakeResult.TheVariants.{Start, Mail, Kill, Poll, Idle, Spent}
 use Rattle.ce_model.specs.Lists.{EachAfter, IsFront}
 use Rattle.ce_model.specs.Parcels.{Item, is_eligible, given_as}
 use Rattle.ce_model.specs.Node.{Call, takes, sends, spawns, kills, notes, arms, looks, takes_mail}
-use Rattle.ce_model.specs.Trace.{Mark, NodeRecord, Standing, items_to, taken_in, spawned_in, killed_in, parcels_of, sent_to, taken_by, waiting, spawned, killed, mark, armed, dispatched, parcels}
-use Rattle.ce_model.specs.Answers.{is_among, offered, is_used_up, first_number, answer}
+use Rattle.ce_model.specs.Trace.{Mark, NodeRecord, Standing, items_to, taken_in, spawned_in, killed_in, parcels_of, sent_to, taken_by, waiting_items, spawned_ids, killed_ids, mark, allowed_dispatches, made_dispatches, parcels}
+use Rattle.ce_model.specs.Answers.{is_among, offer_of, is_used_up, first_number, answer}
 use Rattle.ce_model.specs.Cube.{Cube, CubeState, IsCube, HostCall, host_call, asked_by, state, hoststore, left_by, asked_in, IsNext, IsAloneFrom, node_numbers}
 use Rattle.ce_model.specs.Sound.{IsSound}
 use Rattle.ce_model.proofs.Walked.{kept_by_each, each_of_front}
@@ -20,12 +20,12 @@ use Rattle.ce_model.proofs.AloneByEntries.{asked_by-host_call, is_made, entries_
 use Rattle.ce_solo.proofs.Lists.{all-append, all-weaker, filter-kept, joined, joined-is}
 use Rattle.ce_solo.proofs.Records.{kept_with}
 use Rattle.ce_solo.proofs.Steps.{waiting_after, state_after, entry_in}
-use Rattle.ce_solo.proofs.Made.{Made, by_host, by_node, made, made-leaves, made-sound, items-new, IsKnown, new-untaken, taking-sends_none, known_items, find-all, known_given, known_first}
+use Rattle.ce_solo.proofs.Made.{IsMadeCall, by_host, by_node, made, made-leaves, made-sound, items-new, IsKnown, new-untaken, taking-sends_none, known_items, find-all, known_given, known_first}
 use Rattle.ce_model.specs.declared.entry.What.TheVariants.{Take}
 
 -- ---- what is taken is known
 
-pub taken_in-of : (actor r : ℕ) (what : Option Given) (given : Given) → (if actor == r then what else None) ≡ Some given → ((actor == r) ≡ true) × (what ≡ Some given)
+pub taken_in-of : (actor r : ℕ) (what : Option TakeResult) (given : TakeResult) → (if actor == r then what else None) ≡ Some given → ((actor == r) ≡ true) × (what ≡ Some given)
 taken_in-of actor r what given e = by_test (actor == r) refl e
   where
     by_test : (b : Bool) → (actor == r) ≡ b → (if b then what else None) ≡ Some given → ((actor == r) ≡ true) × (what ≡ Some given)
@@ -44,15 +44,15 @@ module _ (cube : Cube) (s : CubeState) (of : IsCube cube) (sound : IsSound cube 
   abbrev sent : ℕ
   sent = s.standing.parcel_count
 
-  known_take : (r asking dead : ℕ) (poller : Option ℕ) (given : Given) → r < 2 ^ cube.dim
-      → taken_in (Take asking dead poller (offered (find (is_eligible asking dead) (s.standing.node_record r).waiting) poller (is_used_up s.standing))) ≡ Some given
+  known_take : (r asking dead : ℕ) (poller : Option ℕ) (given : TakeResult) → r < 2 ^ cube.dim
+      → taken_in (Take asking dead poller (offer_of (find (is_eligible asking dead) (s.standing.node_record r).waiting) poller (is_used_up s.standing))) ≡ Some given
       → IsKnown sent (s.standing.node_record r) given
   known_take r asking dead poller given below e =
       known_given sent (s.standing.node_record r) (find (is_eligible asking dead) (s.standing.node_record r).waiting) poller (is_used_up s.standing) given
       (λ item found. find-all (λ item. IsKnown sent (s.standing.node_record r) (given_as item)) (is_eligible asking dead) (s.standing.node_record r).waiting item
       (known_items cube sent r (s.standing.node_record r) (s.standing.node_record r).waiting (sound.records r below).own (sound.records r below).numbered.below) found) e
 
-  known_by : (actor r : ℕ) (asked : Option HostCall) (call : Call) (given : Given) → actor ≡ r → Made cube s actor asked call
+  known_by : (actor r : ℕ) (asked : Option HostCall) (call : Call) (given : TakeResult) → actor ≡ r → IsMadeCall cube s actor asked call
       → taken_in (answer (node_numbers cube.dim) s.standing actor call) ≡ Some given → IsKnown sent (s.standing.node_record r) given
   unfolding answer
   known_by actor r asked (takes asking dead poller) given same (by_host is e) t = absurd (no_take cube s asked (takes asking dead poller) refl e)
@@ -70,7 +70,7 @@ module _ (cube : Cube) (s : CubeState) (of : IsCube cube) (sound : IsSound cube 
       (ap (λ q. option_map (λ n. Mail 0 n) (first_number (s.standing.node_record q).waiting)) (sym is) ∙ t))
   known_by actor r asked takes_mail given same (by_node below e) t = absurd (made-leaves cube s actor takes_mail of below sound e).of_node
 
-  pub taken-known : (actor r : ℕ) (asked : Option HostCall) (call : Call) (given : Given) → Made cube s actor asked call
+  pub taken-known : (actor r : ℕ) (asked : Option HostCall) (call : Call) (given : TakeResult) → IsMadeCall cube s actor asked call
       → taken_for r (entry_in cube s actor call) ≡ Some given → IsKnown sent (s.standing.node_record r) given
   taken-known actor r asked call given m t =
       let parts = taken_in-of actor r (taken_in (entry_in cube s actor call).what) given t in
@@ -80,39 +80,39 @@ module _ (cube : Cube) (s : CubeState) (of : IsCube cube) (sound : IsSound cube 
 among-joined : (pid : ℕ) (xs ys : List ℕ) → is_among pid xs ≡ true → is_among pid (joined xs ys) ≡ true
 among-joined pid xs ys h = ap (is_among pid) (sym (joined-is xs ys)) ∙ (list_any-append (λ x. x == pid) xs ys ∙ or_left _ _ h)
 
-pub known-more : (sent sent' : ℕ) (kept : NodeRecord) (waiting : List Item) (more_spawned more_killed : List ℕ) (mark : Mark) (given : Given) → sent ≤ sent' → IsKnown sent kept given
-    → IsKnown sent' (kept_with waiting (joined kept.spawned more_spawned) (joined kept.killed more_killed) mark) given
-known-more sent sent' kept waiting more_spawned more_killed mark (Start pid image) more h = among-joined pid kept.spawned more_spawned h
-known-more sent sent' kept waiting more_spawned more_killed mark (Mail pid number) more h = omega (arith, h)
-known-more sent sent' kept waiting more_spawned more_killed mark (Kill pid) more h = among-joined pid kept.killed more_killed h
-known-more sent sent' kept waiting more_spawned more_killed mark (Poll pid) more h = tt
-known-more sent sent' kept waiting more_spawned more_killed mark Idle more h = tt
-known-more sent sent' kept waiting more_spawned more_killed mark Spent more h = tt
+pub known-more : (sent sent' : ℕ) (kept : NodeRecord) (waiting_items : List Item) (more_spawned more_killed : List ℕ) (mark : Mark) (given : TakeResult) → sent ≤ sent' → IsKnown sent kept given
+    → IsKnown sent' (kept_with waiting_items (joined kept.spawned more_spawned) (joined kept.killed more_killed) mark) given
+known-more sent sent' kept waiting_items more_spawned more_killed mark (Start pid image) more h = among-joined pid kept.spawned more_spawned h
+known-more sent sent' kept waiting_items more_spawned more_killed mark (Mail pid number) more h = omega (arith, h)
+known-more sent sent' kept waiting_items more_spawned more_killed mark (Kill pid) more h = among-joined pid kept.killed more_killed h
+known-more sent sent' kept waiting_items more_spawned more_killed mark (Poll pid) more h = tt
+known-more sent sent' kept waiting_items more_spawned more_killed mark Idle more h = tt
+known-more sent sent' kept waiting_items more_spawned more_killed mark Spent more h = tt
 
 -- ---- one entry more
 
 -- a trace leaves a sound state, and what each node has taken had been sent to it
-pub record Stands (cube : Cube) (o : CubeState) (t : List Entry) : Type 0 where
+pub record IsSoundTrace (cube : Cube) (o : CubeState) (t : List Entry) : Type 0 where
   pub sound : IsSound cube (left_by cube o t)
   pub known : (r : ℕ) → AllByRecursion (IsKnown (left_by cube o t).standing.parcel_count ((left_by cube o t).standing.node_record r)) (taken_by r t)
 
-waiting-more : (o : Standing) (r : ℕ) (t : List Entry) (entry : Entry) (taken : Option Given) → taken_for r entry ≡ taken
-    → AllByRecursion (λ item. is_untaken (taken_by r t) item ≡ true) (items_to r entry) → ((given : Given) → taken ≡ Some given → items_to r entry ≡ [])
-    → waiting o r (t ++ entry ∷ []) ≡ waiting_after taken (items_to r entry) (waiting o r t)
+waiting-more : (o : Standing) (r : ℕ) (t : List Entry) (entry : Entry) (taken : Option TakeResult) → taken_for r entry ≡ taken
+    → AllByRecursion (λ item. is_untaken (taken_by r t) item ≡ true) (items_to r entry) → ((given : TakeResult) → taken ≡ Some given → items_to r entry ≡ [])
+    → waiting_items o r (t ++ entry ∷ []) ≡ waiting_after taken (items_to r entry) (waiting_items o r t)
 waiting-more o r t entry None e new none =
-    waiting-stays o r t entry e ∙ ap (λ items. waiting o r t ++ items) (filter-kept (is_untaken (taken_by r t)) (items_to r entry) new) ∙ joined-is (waiting o r t) (items_to r entry)
+    waiting-stays o r t entry e ∙ ap (λ items. waiting_items o r t ++ items) (filter-kept (is_untaken (taken_by r t)) (items_to r entry) new) ∙ joined-is (waiting_items o r t) (items_to r entry)
 waiting-more o r t entry (Some given) e new none = waiting-taken o r t entry given e (none given refl)
 
 pub left_by-more : (cube : Cube) (o : CubeState) (t : List Entry) (entry : Entry)
-    → ((r : ℕ) → waiting o.standing r (t ++ entry ∷ []) ≡ waiting_after (taken_for r entry) (items_to r entry) (waiting o.standing r t))
+    → ((r : ℕ) → waiting_items o.standing r (t ++ entry ∷ []) ≡ waiting_after (taken_for r entry) (items_to r entry) (waiting_items o.standing r t))
     → left_by cube o (t ++ entry ∷ []) ≡ state_after cube (left_by cube o t) entry
 left_by-more cube o t entry waits = λ i. record {
   node = λ r. state-more cube o r t entry i;
   standing = record {
     node_record = λ r. record {
       waiting = waits r i;
-      spawned = (spawned-more o.standing r t entry ∙ joined-is (spawned o.standing r t) (spawned_in r entry.what)) i;
-      killed = (killed-more o.standing r t entry ∙ joined-is (killed o.standing r t) (killed_in r entry.what)) i;
+      spawned = (spawned-more o.standing r t entry ∙ joined-is (spawned_ids o.standing r t) (spawned_in r entry.what)) i;
+      killed = (killed-more o.standing r t entry ∙ joined-is (killed_ids o.standing r t) (killed_in r entry.what)) i;
       mark = mark-more o.standing r t entry i;
     };
     armed = armed-more o.standing t entry i;
@@ -127,7 +127,7 @@ pub record IsEntryOf (cube : Cube) (s : CubeState) (entry : Entry) : Type 0 wher
   pub actor : ℕ
   pub asked : Option HostCall
   pub call : Call
-  pub by : Made cube s actor asked call
+  pub by : IsMadeCall cube s actor asked call
   pub is : entry ≡ entry_in cube s actor call
 
 pub entry_of-next : (cube : Cube) (o : CubeState) (t : List Entry) (entry : Entry) → IsNext cube o t entry → IsEntryOf cube (left_by cube o t) entry
@@ -135,9 +135,9 @@ entry_of-next cube o t entry next =
     let m = is_made cube o t entry.actor (asked_in entry) entry next in
     record { actor = entry.actor; asked = asked_in entry; call = m.call; by = made cube (left_by cube o t) entry.actor (asked_in entry) m.call m.made; is = m.is }
 
-pub waits-made : (cube : Cube) (o : CubeState) (t : List Entry) (actor : ℕ) (call : Call) → Stands cube o t → (r : ℕ)
-    → waiting o.standing r (t ++ entry_in cube (left_by cube o t) actor call ∷ [])
-    ≡ waiting_after (taken_for r (entry_in cube (left_by cube o t) actor call)) (items_to r (entry_in cube (left_by cube o t) actor call)) (waiting o.standing r t)
+pub waits-made : (cube : Cube) (o : CubeState) (t : List Entry) (actor : ℕ) (call : Call) → IsSoundTrace cube o t → (r : ℕ)
+    → waiting_items o.standing r (t ++ entry_in cube (left_by cube o t) actor call ∷ [])
+    ≡ waiting_after (taken_for r (entry_in cube (left_by cube o t) actor call)) (items_to r (entry_in cube (left_by cube o t) actor call)) (waiting_items o.standing r t)
 waits-made cube o t actor call stands r =
     let s = left_by cube o t in
     let entry = entry_in cube s actor call in
@@ -146,24 +146,24 @@ waits-made cube o t actor call stands r =
     (λ given e. taking-sends_none cube s actor r call given e)
 
 -- the state that the trace leaves with this entry more is the one behind the entry
-pub left-made : (cube : Cube) (o : CubeState) (t : List Entry) (entry : Entry) → Stands cube o t → IsEntryOf cube (left_by cube o t) entry
+pub left-made : (cube : Cube) (o : CubeState) (t : List Entry) (entry : Entry) → IsSoundTrace cube o t → IsEntryOf cube (left_by cube o t) entry
     → left_by cube o (t ++ entry ∷ []) ≡ state_after cube (left_by cube o t) entry
 left-made cube o t entry stands e =
     subst (λ entry. left_by cube o (t ++ entry ∷ []) ≡ state_after cube (left_by cube o t) entry) (sym e.is)
     (left_by-more cube o t (entry_in cube (left_by cube o t) e.actor e.call) (waits-made cube o t e.actor e.call stands))
 
 -- what is known of an item taken, behind an entry
-abbrev IsKnownLater : Cube → CubeState → ℕ → Entry → Given → Type 0
+abbrev IsKnownLater : Cube → CubeState → ℕ → Entry → TakeResult → Type 0
 IsKnownLater cube s r entry given = IsKnown (state_after cube s entry).standing.parcel_count ((state_after cube s entry).standing.node_record r) given
 
-known-later : (cube : Cube) (s : CubeState) (r : ℕ) (entry : Entry) (given : Given) → IsKnown s.standing.parcel_count (s.standing.node_record r) given → IsKnownLater cube s r entry given
+known-later : (cube : Cube) (s : CubeState) (r : ℕ) (entry : Entry) (given : TakeResult) → IsKnown s.standing.parcel_count (s.standing.node_record r) given → IsKnownLater cube s r entry given
 known-later cube s r entry given h =
     known-more s.standing.parcel_count (s.standing.parcel_count + length (parcels_of entry.actor entry.what)) (s.standing.node_record r)
     ((state_after cube s entry).standing.node_record r).waiting (spawned_in r entry.what) (killed_in r entry.what) ((state_after cube s entry).standing.node_record r).mark given (omega arith) h
 
-known-step : (cube : Cube) (s : CubeState) (r : ℕ) (t : List Entry) (entry : Entry) (taken : Option Given) → taken_for r entry ≡ taken
+known-step : (cube : Cube) (s : CubeState) (r : ℕ) (t : List Entry) (entry : Entry) (taken : Option TakeResult) → taken_for r entry ≡ taken
     → AllByRecursion (IsKnown s.standing.parcel_count (s.standing.node_record r)) (taken_by r t)
-    → ((given : Given) → taken ≡ Some given → IsKnown s.standing.parcel_count (s.standing.node_record r) given)
+    → ((given : TakeResult) → taken ≡ Some given → IsKnown s.standing.parcel_count (s.standing.node_record r) given)
     → AllByRecursion (IsKnownLater cube s r entry) (taken_by r (t ++ entry ∷ []))
 known-step cube s r t entry None e before new =
     subst (AllByRecursion (IsKnownLater cube s r entry)) (sym (taken_by-stays r t entry e))
@@ -174,7 +174,7 @@ known-step cube s r t entry (Some given) e before new =
     (all-weaker (IsKnown s.standing.parcel_count (s.standing.node_record r)) (IsKnownLater cube s r entry) (taken_by r t) (known-later cube s r entry) before)
     (known-later cube s r entry given (new given refl), tt))
 
-pub stands-made : (cube : Cube) (o : CubeState) (t : List Entry) (entry : Entry) → IsCube cube → Stands cube o t → IsEntryOf cube (left_by cube o t) entry → Stands cube o (t ++ entry ∷ [])
+pub stands-made : (cube : Cube) (o : CubeState) (t : List Entry) (entry : Entry) → IsCube cube → IsSoundTrace cube o t → IsEntryOf cube (left_by cube o t) entry → IsSoundTrace cube o (t ++ entry ∷ [])
 stands-made cube o t entry of stands e =
     let s = left_by cube o t in
     let left = left-made cube o t entry stands e in
@@ -187,8 +187,8 @@ stands-made cube o t entry of stands e =
 
 -- ---- a whole trace
 
-pub waiting-nil : (o : Standing) (r : ℕ) → waiting o r [] ≡ (o.node_record r).waiting
-unfolding waiting sent_to taken_by
+pub waiting-nil : (o : Standing) (r : ℕ) → waiting_items o r [] ≡ (o.node_record r).waiting
+unfolding waiting_items sent_to taken_by
 waiting-nil o r =
     ap (filter (is_untaken [])) (append-nil (o.node_record r).waiting)
     ∙ filter-kept (is_untaken []) (o.node_record r).waiting (all_true (o.node_record r).waiting)
@@ -197,12 +197,12 @@ waiting-nil o r =
     all_true [] = tt
     all_true (item ∷ items) = (refl, all_true items)
 
-spawned-nil : (o : Standing) (r : ℕ) → spawned o r [] ≡ (o.node_record r).spawned
-unfolding spawned
+spawned-nil : (o : Standing) (r : ℕ) → spawned_ids o r [] ≡ (o.node_record r).spawned
+unfolding spawned_ids
 spawned-nil o r = append-nil (o.node_record r).spawned
 
-killed-nil : (o : Standing) (r : ℕ) → killed o r [] ≡ (o.node_record r).killed
-unfolding killed
+killed-nil : (o : Standing) (r : ℕ) → killed_ids o r [] ≡ (o.node_record r).killed
+unfolding killed_ids
 killed-nil o r = append-nil (o.node_record r).killed
 
 count-nil : (o : Standing) → o.parcel_count + length (parcels []) ≡ o.parcel_count
@@ -210,7 +210,7 @@ unfolding parcels
 count-nil o = omega arith
 
 pub left_by-nil : (cube : Cube) (o : CubeState) → left_by cube o [] ≡ o
-unfolding state hoststore mark armed dispatched
+unfolding state hoststore mark allowed_dispatches made_dispatches
 left_by-nil cube o = λ i. record {
   node = o.node;
   standing = record {
@@ -227,16 +227,16 @@ left_by-nil cube o = λ i. record {
   hoststore = o.hoststore;
 }
 
-pub stands-nil : (cube : Cube) (o : CubeState) → IsSound cube o → Stands cube o []
+pub stands-nil : (cube : Cube) (o : CubeState) → IsSound cube o → IsSoundTrace cube o []
 unfolding taken_by
 stands-nil cube o sound = record { sound = subst (IsSound cube) (sym (left_by-nil cube o)) sound; known = λ r. tt }
 
-pub stands-each : (cube : Cube) (o : CubeState) (t : List Entry) → IsCube cube → IsSound cube o → EachAfter (IsNext cube o) [] t → Stands cube o t
+pub stands-each : (cube : Cube) (o : CubeState) (t : List Entry) → IsCube cube → IsSound cube o → EachAfter (IsNext cube o) [] t → IsSoundTrace cube o t
 stands-each cube o t of sound each =
-    kept_by_each (IsNext cube o) (Stands cube o) (λ before entry stands next. stands-made cube o before entry of stands (entry_of-next cube o before entry next)) [] t
+    kept_by_each (IsNext cube o) (IsSoundTrace cube o) (λ before entry stands next. stands-made cube o before entry of stands (entry_of-next cube o before entry next)) [] t
     (stands-nil cube o sound) each
 
-pub stands-front : (cube : Cube) (o : CubeState) (t front : List Entry) → IsCube cube → IsSound cube o → IsAloneFrom cube o t → IsFront front t → Stands cube o front
+pub stands-front : (cube : Cube) (o : CubeState) (t front : List Entry) → IsCube cube → IsSound cube o → IsAloneFrom cube o t → IsFront front t → IsSoundTrace cube o front
 stands-front cube o t front of sound alone is =
     stands-each cube o front of sound
     (each_of_front (IsNext cube o) [] front is.0 (subst (EachAfter (IsNext cube o) []) (sym is.1) (entries_of_alone cube o t alone)))

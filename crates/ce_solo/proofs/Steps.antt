@@ -3,7 +3,7 @@ use Rattle.std.proofs.Common.{◌≡◌, ℕ, ◌+◌, ◌^◌, ◌<◌, ◌≤�
 use Rattle.ce_model.specs.declared.topology.TheConstants.{HOST}
 use Rattle.ce_model.specs.declared.topology.BlockId.{BlockId}
 use Rattle.ce_model.specs.declared.entry.Entry.{Entry}
-use Rattle.ce_model.specs.declared.entry.Given.{Given}
+use Rattle.ce_model.specs.declared.entry.TakeResult.{TakeResult}
 use Rattle.ce_model.specs.Parcels.{Item, is_named_by}
 use Rattle.ce_model.specs.Node.{Node, Call, blocks_of}
 use Rattle.ce_model.specs.Trace.{NodeRecord, Standing, items_to, taken_in, spawned_in, killed_in, parcels_of, armed_by, dispatched_by, marked_by}
@@ -15,14 +15,14 @@ use Rattle.ce_model.specs.Sound.{IsSoundTurn, IsSoundNode, IsSoundRecord, IsSoun
 use Rattle.ce_solo.proofs.Counting.{count, sum_run, sum_run-same, sum_run-add}
 use Rattle.ce_solo.proofs.Lists.{joined}
 use Rattle.ce_solo.proofs.Items.{parcel_ids}
-use Rattle.ce_solo.proofs.Nodes.{IsWell, Became}
+use Rattle.ce_solo.proofs.Nodes.{IsWell, HasBecome}
 use Rattle.ce_solo.proofs.Records.{kept_with, births}
 use Rattle.ce_solo.proofs.Totals.{at_node, at_node-is, total, total-is, owners-kept, blocks-kept}
 
 -- ---- the state behind an entry
 
 -- what waits behind an entry by which the node has taken this, and that sends it these items
-abbrev pub waiting_after : Option Given → List Item → List Item → List Item
+abbrev pub waiting_after : Option TakeResult → List Item → List Item → List Item
 waiting_after None items waiting = joined waiting items
 waiting_after (Some given) items waiting = filter (λ item. not (is_named_by given item)) waiting
 
@@ -68,7 +68,7 @@ well_of cube kept r node sound once = record {
 
 -- a node that has become another is sound still, by what is kept now
 pub sound_node-became : (cube : Cube) (kept kept' : NodeRecord) (r : ℕ) (node node' : Node) (come gone : List BlockId) → IsSoundNode cube kept r node
-    → ((pid : ℕ) → births kept' pid ≡ births kept pid) → Became node'.turn node node' come gone → IfSome node'.turn IsSoundTurn → IsSoundNode cube kept' r node'
+    → ((pid : ℕ) → births kept' pid ≡ births kept pid) → HasBecome node'.turn node node' come gone → IfSome node'.turn IsSoundTurn → IsSoundNode cube kept' r node'
 sound_node-became cube kept kept' r node node' come gone sound same became turn = record {
   number = became.number ∙ sound.number;
   dim = became.dim ∙ sound.dim;
@@ -112,7 +112,7 @@ sound_node-same cube kept kept' r node sound same = record {
 }
 
 -- what a step makes of a node and of what is kept for it: both stay sound, and blocks came and went
-pub record NodeGoes (cube : Cube) (sent' r : ℕ) (kept kept' : NodeRecord) (node node' : Node) (come gone : BlockId → ℕ) : Type 0 where
+pub record IsNodeStep (cube : Cube) (sent' r : ℕ) (kept kept' : NodeRecord) (node node' : Node) (come gone : BlockId → ℕ) : Type 0 where
   pub record_sound : IsSoundRecord cube sent' r kept'
   pub node_sound : IsSoundNode cube kept' r node'
   pub blocks : (id : BlockId)
@@ -121,9 +121,9 @@ pub record NodeGoes (cube : Cube) (sent' r : ℕ) (kept kept' : NodeRecord) (nod
 -- ---- the cube
 
 -- what a step makes of a cube: its nodes stay sound, and so do its host's parcels and store; as many blocks came as went
-pub record CubeGoes (cube : Cube) (s s' : CubeState) (come gone : BlockId → ℕ → ℕ) : Type 0 where
+pub record IsCubeStep (cube : Cube) (s s' : CubeState) (come gone : BlockId → ℕ → ℕ) : Type 0 where
   pub nodes : (r : ℕ) → r < 2 ^ cube.dim
-      → NodeGoes cube s'.standing.parcel_count r (s.standing.node_record r) (s'.standing.node_record r) (s.node r) (s'.node r) (λ id. come id r) (λ id. gone id r)
+      → IsNodeStep cube s'.standing.parcel_count r (s.standing.node_record r) (s'.standing.node_record r) (s.node r) (s'.node r) (λ id. come id r) (λ id. gone id r)
   pub host : IsSoundHost s'.standing.parcel_count (s'.standing.node_record HOST).waiting
   pub hoststore : IsRising s'.hoststore
   pub balance : (id : BlockId)
@@ -131,7 +131,7 @@ pub record CubeGoes (cube : Cube) (s s' : CubeState) (come gone : BlockId → �
       ≡ sum_run (gone id) 0 (2 ^ cube.dim) + count id (parcel_ids (s.standing.node_record HOST).waiting) + count id s.hoststore
   pub dispatches : s'.standing.dispatched ≤ s'.standing.armed
 
-total-goes : (cube : Cube) (s s' : CubeState) (come gone : BlockId → ℕ → ℕ) (id : BlockId) → CubeGoes cube s s' come gone → total id cube.dim s' ≡ total id cube.dim s
+total-goes : (cube : Cube) (s s' : CubeState) (come gone : BlockId → ℕ → ℕ) (id : BlockId) → IsCubeStep cube s s' come gone → total id cube.dim s' ≡ total id cube.dim s
 total-goes cube s s' come gone id goes =
     let n = 2 ^ cube.dim in
     let each : sum_run (λ r. at_node id s' r + gone id r) 0 n ≡ sum_run (λ r. at_node id s r + come id r) 0 n =
@@ -139,7 +139,7 @@ total-goes cube s s' come gone id goes =
     (λ r low high. omega (arith, (goes.nodes r (omega arith)).blocks id, at_node-is id s' r, at_node-is id s r)) in
     omega (arith, each, goes.balance id, total-is id cube.dim s', total-is id cube.dim s, sum_run-add (at_node id s') (gone id) 0 n, sum_run-add (at_node id s) (come id) 0 n)
 
-pub sound-goes : (cube : Cube) (s s' : CubeState) (come gone : BlockId → ℕ → ℕ) → IsSound cube s → CubeGoes cube s s' come gone → IsSound cube s'
+pub sound-goes : (cube : Cube) (s s' : CubeState) (come gone : BlockId → ℕ → ℕ) → IsSound cube s → IsCubeStep cube s s' come gone → IsSound cube s'
 sound-goes cube s s' come gone sound goes = record {
   nodes = λ r h. (goes.nodes r h).node_sound;
   records = λ r h. (goes.nodes r h).record_sound;

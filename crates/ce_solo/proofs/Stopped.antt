@@ -10,25 +10,25 @@ use Rattle.ce_model.specs.Parcels.{Item, start, mail, kill, is_eligible, given_a
 use Rattle.ce_model.specs.Process.{Process, is_stopped}
 use Rattle.ce_model.specs.Node.{Node, process_at, blocks_of, Call, takes, sends, spawns, kills, notes, arms, looks, takes_mail, take_of}
 use Rattle.ce_model.specs.Trace.{NodeRecord}
-use Rattle.ce_model.specs.Answers.{is_among, kill_found, offered, is_used_up, answer}
+use Rattle.ce_model.specs.Answers.{is_among, kill_found, offer_of, is_used_up, answer}
 use Rattle.ce_model.specs.Saying.{says}
 use Rattle.ce_model.specs.Hearing.{hears, nothing}
 use Rattle.ce_model.specs.Cube.{Cube, CubeState, IsCube, heard_given, heard_parcel, kill_answer, HostCall}
 use Rattle.ce_model.specs.Sound.{is_unborn, IsSound}
 use Rattle.ce_solo.proofs.Counting.{count, count-nil}
-use Rattle.ce_solo.proofs.Words.{Leaves}
+use Rattle.ce_solo.proofs.Words.{HasMadeCall}
 use Rattle.ce_solo.proofs.Hears.{nothing-hears, told-hears, poll-hears, kill-hears, mail-hears, start-begins}
 use Rattle.ce_solo.proofs.Records.{kept_with, takes-item, start-taken, kill-taken, without_named, among-all}
 use Rattle.ce_solo.proofs.NodeSteps.{once_here}
 use Rattle.ce_solo.proofs.NodeTakes.{polling_is, poller-polls, poller-within, now_well, birth_of, numbered_parcel}
 use Rattle.ce_solo.proofs.Steps.{node_by, state_after, entry_in}
-use Rattle.ce_solo.proofs.Made.{Made, by_host, by_node, made-leaves}
-use Rattle.ce_model.specs.declared.entry.Given.TheVariants.{Poll}
+use Rattle.ce_solo.proofs.Made.{IsMadeCall, by_host, by_node, made-leaves}
+use Rattle.ce_model.specs.declared.entry.TakeResult.TheVariants.{Poll}
 use Rattle.ce_solo.proofs.Sending.{not_host}
 
 -- each process that has stopped has stopped still
-abbrev pub Stays : Node → Node → Type 0
-Stays node node' = (pid : ℕ) → is_stopped (process_at node pid).status ≡ true → is_stopped (process_at node' pid).status ≡ true
+abbrev pub AreStillStopped : Node → Node → Type 0
+AreStillStopped node node' = (pid : ℕ) → is_stopped (process_at node pid).status ≡ true → is_stopped (process_at node' pid).status ≡ true
 
 not_both : (s : Status) → is_unborn s ≡ true → is_stopped s ≡ true → ⊥
 not_both Unborn u h = both_ways _ refl h
@@ -44,8 +44,8 @@ module _ (cube : Cube) (s : CubeState) (r : ℕ) (of : IsCube cube) (below : r <
   abbrev kept : NodeRecord
   kept = s.standing.node_record r
 
-  module _ (asking dead : ℕ) (poller : Option ℕ) (said : Leaves (s.node r) now (takes asking dead poller)) where
-    item-stays : (item : Item) → find (is_eligible asking dead) kept.waiting ≡ Some item → Stays now (hears cube.images now (heard_given kept.waiting (given_as item)))
+  module _ (asking dead : ℕ) (poller : Option ℕ) (said : HasMadeCall (s.node r) now (takes asking dead poller)) where
+    item-stays : (item : Item) → find (is_eligible asking dead) kept.waiting ≡ Some item → AreStillStopped now (hears cube.images now (heard_given kept.waiting (given_as item)))
     item-stays (start pid image) found =
         let taken = takes-item cube s.standing.parcel_count r asking dead kept kept.mark (start pid image) (sound.records r below) found in
         let is = start-taken cube s.standing.parcel_count r asking dead pid image kept (kept_with (without_named (start pid image) kept.waiting) kept.spawned kept.killed kept.mark) (sound.records r below) refl refl taken in
@@ -61,7 +61,7 @@ module _ (cube : Cube) (s : CubeState) (r : ℕ) (of : IsCube cube) (below : r <
         let once : (id : BlockId) → count id (blocks_of now) + count id (parcel.block.id ∷ []) ≤ 1 =
         λ id. omega (arith, once_here cube s r of below sound id, taken.parcels id, said.became.blocks id, count-nil id) in
         let heard = mail-hears cube.images now parcel (now_well cube s r of below sound asking dead poller said) said.of_node.1 taken.of_node.1 once in
-        subst (λ found. Stays now (hears cube.images now (heard_parcel found))) (sym (numbered_parcel cube s r of below sound asking dead poller said parcel taken.out.found)) heard.became.stopped
+        subst (λ found. AreStillStopped now (hears cube.images now (heard_parcel found))) (sym (numbered_parcel cube s r of below sound asking dead poller said parcel taken.out.found)) heard.became.stopped
     item-stays (kill pid) found =
         let taken = takes-item cube s.standing.parcel_count r asking dead kept kept.mark (kill pid) (sound.records r below) found in
         let is = kill-taken cube s.standing.parcel_count r asking dead pid kept (kept_with (without_named (kill pid) kept.waiting) kept.spawned kept.killed kept.mark) (sound.records r below) taken in
@@ -70,18 +70,18 @@ module _ (cube : Cube) (s : CubeState) (r : ℕ) (of : IsCube cube) (below : r <
     poller-at : (node : Node) → takes asking dead poller ≡ take_of node → slice_get node.polling 0 ≡ poller
     poller-at node same = cc
 
-    poll-stays : (pid : ℕ) → poller ≡ Some pid → Stays now (hears cube.images now (heard_given kept.waiting (Poll pid)))
+    poll-stays : (pid : ℕ) → poller ≡ Some pid → AreStillStopped now (hears cube.images now (heard_given kept.waiting (Poll pid)))
     poll-stays pid e =
         let well = now_well cube s r of below sound asking dead poller said in
         let polls = poller-polls now pid well (poller-at now said.of_node.0 ∙ e) in
         let is = polling_is (process_at now pid).status polls in
         (poll-hears cube.images now pid well (poller-within now pid well polls) is.0 is.1).became.stopped
 
-    nothing-stays : Stays now (hears cube.images now nothing)
+    nothing-stays : AreStillStopped now (hears cube.images now nothing)
     nothing-stays = (nothing-hears cube.images now said.became.well said.turn).became.stopped
 
     offered-stays : (found : Option Item) (p : Option ℕ) (used : Bool) → find (is_eligible asking dead) kept.waiting ≡ found → poller ≡ p
-        → Stays now (hears cube.images now (heard_given kept.waiting (offered found p used)))
+        → AreStillStopped now (hears cube.images now (heard_given kept.waiting (offer_of found p used)))
     offered-stays (Some item) p true f e = nothing-stays
     offered-stays (Some item) p false f e = item-stays item f
     offered-stays None (Some pid) true f e = nothing-stays
@@ -89,7 +89,7 @@ module _ (cube : Cube) (s : CubeState) (r : ℕ) (of : IsCube cube) (below : r <
     offered-stays None None used f e = nothing-stays
 
   -- by the node's own entry
-  pub own-stays : (call : Call) → Leaves (s.node r) now call → Stays now (node_by true cube s r (entry_in cube s r call))
+  pub own-stays : (call : Call) → HasMadeCall (s.node r) now call → AreStillStopped now (node_by true cube s r (entry_in cube s r call))
   unfolding answer
   own-stays (takes asking dead poller) said = offered-stays asking dead poller said (find (is_eligible asking dead) kept.waiting) poller (is_used_up s.standing) refl refl
   own-stays (sends pid to bytes) said = (told-hears cube.images now 0 said.became.well said.turn).became.stopped
@@ -107,16 +107,16 @@ abbrev pub gone : Cube → CubeState → Place → Bool
 gone cube s to = nat_lt to.node (2 ^ cube.dim) && is_stopped (process_at (s.node to.node) to.pid).status
 
 stays-by : (cube : Cube) (s : CubeState) (actor r : ℕ) (asked : Option HostCall) (call : Call) (b : Bool) → (actor == r) ≡ b → IsCube cube → IsSound cube s → r < 2 ^ cube.dim
-    → Made cube s actor asked call → Stays (s.node r) (node_by b cube s r (entry_in cube s actor call))
+    → IsMadeCall cube s actor asked call → AreStillStopped (s.node r) (node_by b cube s r (entry_in cube s actor call))
 stays-by cube s actor r asked call false is of sound below m = λ pid h. h
 stays-by cube s actor r asked call true is of sound below (by_host e m) = absurd (omega (arith, not_host cube r of below, eqb-true actor r is))
 stays-by cube s actor r asked call true is of sound below (by_node low e) =
     let same = eqb-true actor r is in
     let said = made-leaves cube s actor call of low sound e in
-    subst (λ r. Stays (s.node r) (node_by true cube s r (entry_in cube s actor call))) same
+    subst (λ r. AreStillStopped (s.node r) (node_by true cube s r (entry_in cube s actor call))) same
     (λ pid h. own-stays cube s actor of low sound call said pid (said.became.stopped pid h))
 
-pub gone-stays : (cube : Cube) (s : CubeState) (actor : ℕ) (asked : Option HostCall) (call : Call) (to : Place) → IsCube cube → IsSound cube s → Made cube s actor asked call
+pub gone-stays : (cube : Cube) (s : CubeState) (actor : ℕ) (asked : Option HostCall) (call : Call) (to : Place) → IsCube cube → IsSound cube s → IsMadeCall cube s actor asked call
     → gone cube s to ≡ true → gone cube (state_after cube s (entry_in cube s actor call)) to ≡ true
 gone-stays cube s actor asked call to of sound m h =
     let parts = and_parts (nat_lt to.node (2 ^ cube.dim)) (is_stopped (process_at (s.node to.node) to.pid).status) h in

@@ -10,14 +10,14 @@ use Rattle.rv_model.specs.declared.stop.Stop.TheVariants.{Misaligned, Unmapped, 
 use Rattle.ce_model.specs.declared.topology.BlockId.{BlockId}
 use Rattle.ce_model.specs.Blocks.{Block}
 use Rattle.ce_model.specs.Limits.{window_base}
-use Rattle.ce_model.specs.Space.{Space, window_of, offset_of, mapped, mapped_ids, Spot, in_private, in_block, spot_in, spot, with_number_in, result_map, stored_at, named_in, is_window_start, block_named}
+use Rattle.ce_model.specs.Space.{Space, window_of, offset_of, mapped_space, mapped_ids, Spot, in_private, in_block, spot_in, spot, with_number_in, result_map, stored_at, named_in, is_window_start, block_named}
 use Rattle.ce_solo.proofs.Counting.{hit, count, count-nil, count-cons}
 
 -- the names of the blocks at these windows
 abbrev pub ids_at : List (Option Block) → List BlockId
 ids_at windows = filter_map (option_map (λ block. block.id)) windows
 
-pub ids-mapped : (block : Block) (space : Space) → mapped_ids (mapped block space) ≡ mapped_ids space ++ block.id ∷ []
+pub ids-mapped : (block : Block) (space : Space) → mapped_ids (mapped_space block space) ≡ mapped_ids space ++ block.id ∷ []
 ids-mapped block space = filter_map-append (option_map (λ block. block.id)) space.windows (Some block ∷ [])
 
 pub ids-emptied : (windows : List (Option Block)) → ids_at (map (λ (window : Option Block). None) windows) ≡ []

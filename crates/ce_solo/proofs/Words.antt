@@ -8,19 +8,19 @@ use Rattle.ce_model.specs.declared.process.Status.{Status}
 use Rattle.ce_model.specs.declared.process.Status.TheVariants.{Unborn, Running, Asking, Polling, Stopped}
 use Rattle.ce_model.specs.Limits.{window_count, block_room}
 use Rattle.ce_model.specs.Blocks.{Block, put}
-use Rattle.ce_model.specs.Space.{window_start, has_unused_window, mapped, mapped_ids, block_named}
+use Rattle.ce_model.specs.Space.{window_start, has_unused_window, mapped_space, mapped_ids, block_named}
 use Rattle.ce_model.specs.Process.{Process, register_count, argument, with_answer, is_stopped}
 use Rattle.ce_model.specs.Node.{Turn, Node, process_at, is_place, with_stopped, Call, takes, sends, spawns, kills, notes, take_of}
-use Rattle.ce_model.specs.Kernel.{Did, goes_on, leaves, turn_ends, returns, says_call, reading, with_space, gives_up, maps_least, xmalloc, frees, xfree, xlength, is_target, place_named, sends_block, xsend}
+use Rattle.ce_model.specs.Kernel.{CallOutcome, goes_on, leaves, turn_ends, returns, says_call, read_or_stop, with_space, gives_up, maps_least, xmalloc, frees, xfree, xlength, is_target, place_named, sends_block, xsend}
 use Rattle.ce_model.specs.Sound.{is_unborn, is_running, is_polling, IsSoundTurn, IsRising}
 use Rattle.ce_solo.proofs.Counting.{hit-self, count, count-nil, count-one, count-cons, count-append, count-put, rising-put}
 use Rattle.ce_solo.proofs.Windows.{IsSameHeld, ids-mapped, count-unmapped, named-of}
-use Rattle.ce_solo.proofs.Nodes.{polls, IsWell, Became, changed_to, change-became, once_together, stop-became}
+use Rattle.ce_solo.proofs.Nodes.{polls, IsWell, HasBecome, changed_to, change-became, once_together, stop-became}
 
 -- ---- a process in its turn
 
 -- a process that has come to a kernel call in this turn of its node
-pub record InTurn (node : Node) (turn : Turn) (p : Process) : Type 0 where
+pub record IsInItsTurn (node : Node) (turn : Turn) (p : Process) : Type 0 where
   pub well : IsWell (Some turn) node
   pub sound : IsSoundTurn turn
   pub registers : length p.regs ≡ register_count
@@ -49,26 +49,26 @@ IsCallOf node (notes pid word) = Unit {0}
 IsCallOf node other = ⊥
 
 -- what a node becomes that makes a call
-pub record Leaves (node node' : Node) (call : Call) : Type 0 where
-  pub became : Became node'.turn node node' [] (call_ids call)
+pub record HasMadeCall (node node' : Node) (call : Call) : Type 0 where
+  pub became : HasBecome node'.turn node node' [] (call_ids call)
   pub turn : IfSome node'.turn IsSoundTurn
   pub of_node : IsCallOf node' call
 
 -- what a node becomes whose turn goes on
-pub record Goes (node node' : Node) (turn' : Turn) : Type 0 where
-  pub became : Became (Some turn') node node' [] []
+pub record IsGoingOn (node node' : Node) (turn' : Turn) : Type 0 where
+  pub became : HasBecome (Some turn') node node' [] []
   pub sound : IsSoundTurn turn'
 
-pub record Ends (node node' : Node) : Type 0 where
-  pub became : Became None node node' [] []
+pub record HasEndedTurn (node node' : Node) : Type 0 where
+  pub became : HasBecome None node node' [] []
   pub turn : node'.turn ≡ None
 
-abbrev pub IsDone : Node → Did → Type 0
-IsDone node (goes_on node' turn') = Goes node node' turn'
-IsDone node (leaves node' call) = Leaves node node' call
-IsDone node (turn_ends node') = Ends node node'
+abbrev pub IsDone : Node → CallOutcome → Type 0
+IsDone node (goes_on node' turn') = IsGoingOn node node' turn'
+IsDone node (leaves node' call) = HasMadeCall node node' call
+IsDone node (turn_ends node') = HasEndedTurn node node'
 
-module _ (node : Node) (turn : Turn) (p : Process) (c : InTurn node turn p) where
+module _ (node : Node) (turn : Turn) (p : Process) (c : IsInItsTurn node turn p) where
   pub in_turn-running : is_running p.status ≡ true
   in_turn-running = ap is_running c.status ∙ (c.well.processes turn.pid c.sound.pid).running ∙ eq-eqb turn.pid turn.pid refl
 
@@ -88,7 +88,7 @@ module _ (node : Node) (turn : Turn) (p : Process) (c : InTurn node turn p) wher
   pub runs-became : (turn' : Turn) (turn'' : Option Turn) (p' : Process) (store : List BlockId) (gone : List BlockId) → turn'.pid ≡ turn.pid
       → p'.status ≡ p.status → length p'.regs ≡ register_count → length p'.space.windows ≤ window_count → IsRising store
       → ((id : BlockId) → count id store + count id (mapped_ids p'.space) + count id gone ≡ count id node.store + count id (mapped_ids p.space))
-      → Became (Some turn') node (changed_to node turn.pid p' store node.polling turn'') [] gone
+      → HasBecome (Some turn') node (changed_to node turn.pid p' store node.polling turn'') [] gone
   runs-became turn' turn'' p' store gone same status registers windows rising blocks =
       let going : is_running p'.status ≡ true = ap is_running status ∙ in_turn-running in
       let not_others = running_is p'.status going in
@@ -114,7 +114,7 @@ module _ (node : Node) (turn : Turn) (p : Process) (c : InTurn node turn p) wher
 
   pub goes-done : (p' : Process) (store : List BlockId) → p'.status ≡ p.status → length p'.regs ≡ register_count → length p'.space.windows ≤ window_count
       → IsRising store → ((id : BlockId) → count id store + count id (mapped_ids p'.space) ≡ count id node.store + count id (mapped_ids p.space))
-      → Goes node (changed_to node turn.pid p' store node.polling node.turn) turn
+      → IsGoingOn node (changed_to node turn.pid p' store node.polling node.turn) turn
   goes-done p' store status registers windows rising blocks = record {
     became = runs-became turn node.turn p' store [] refl status registers windows rising (λ id. omega (arith, blocks id, count-nil id));
     sound = c.sound;
@@ -131,22 +131,22 @@ module _ (node : Node) (turn : Turn) (p : Process) (c : InTurn node turn p) wher
       → length p'.space.windows ≤ window_count → IsRising store
       → ((id : BlockId) → count id store + count id (mapped_ids p'.space) + count id (call_ids call) ≡ count id node.store + count id (mapped_ids p.space))
       → IsCallOf (changed_to node turn.pid p' store node.polling (Some turn)) call
-      → Leaves node (changed_to node turn.pid p' store node.polling (Some turn)) call
+      → HasMadeCall node (changed_to node turn.pid p' store node.polling (Some turn)) call
   leaves-done p' store call status registers windows rising blocks of_node = record {
     became = runs-became turn (Some turn) p' store (call_ids call) refl status registers windows rising blocks;
     turn = c.sound;
     of_node = of_node;
   }
 
-  pub stops-done : (cause : Stop) → Ends node (with_stopped node turn.pid p cause)
+  pub stops-done : (cause : Stop) → HasEndedTurn node (with_stopped node turn.pid p cause)
   stops-done cause = record {
     became = stop-became (Some turn) node turn.pid p cause c.well c.sound.pid c.registers in_turn-windows c.held
         (λ q differ. ne_eqb turn.pid q (λ e. differ (sym e))) born_before;
     turn = refl;
   }
 
-  pub reading-done : {X : Type 0} (r : Result X Stop) (P : X → Type 0) (onward : X → Did) → IfOk r P
-      → ((x : X) → P x → IsDone node (onward x)) → IsDone node (reading node turn p r onward)
+  pub reading-done : {X : Type 0} (r : Result X Stop) (P : X → Type 0) (onward : X → CallOutcome) → IfOk r P
+      → ((x : X) → P x → IsDone node (onward x)) → IsDone node (read_or_stop node turn p r onward)
   reading-done (Ok x) P onward of done = done x of
   reading-done (Err cause) P onward of done = stops-done cause
 
@@ -156,7 +156,7 @@ module _ (node : Node) (turn : Turn) (p : Process) (c : InTurn node turn p) wher
   maps-done len [] e room = returns-done 0
   maps-done len (id ∷ store) e room =
       let block : Block = record { id = id; bytes = replicate len 0 } in
-      let p' : Process = with_answer (window_start (length p.space.windows)) (with_space p (mapped block p.space)) in
+      let p' : Process = with_answer (window_start (length p.space.windows)) (with_space p (mapped_space block p.space)) in
       goes-done p' store refl (answered_length (window_start (length p.space.windows)) p c.registers)
       (omega (arith, length-append p.space.windows (Some block ∷ []))) (subst IsRising e c.well.store).1
       (λ name. omega (arith, ap (count name) e, count-cons name id store, ap (count name) (ids-mapped block p.space), count-append name (mapped_ids p.space) (id ∷ []), count-one name id))

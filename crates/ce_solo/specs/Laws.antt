@@ -4,14 +4,14 @@ use Rattle.std.specs.List.{AllByRecursion}
 use Rattle.rv_model.specs.Image.{ImageParts}
 use Rattle.ce_model.specs.declared.entry.Entry.{Entry}
 use Rattle.ce_model.specs.declared.entry.What.TheVariants.{Take}
-use Rattle.ce_model.specs.declared.entry.Given.TheVariants.{Mail}
+use Rattle.ce_model.specs.declared.entry.TakeResult.TheVariants.{Mail}
 use Rattle.ce_model.specs.Limits.{greatest_dim, greatest_users}
 use Rattle.ce_model.specs.Lists.{IsFront}
 use Rattle.ce_model.specs.Parcels.{is_member}
 use Rattle.ce_model.specs.Process.{is_stopped}
 use Rattle.ce_model.specs.Node.{Node, process_at, blocks_of}
 use Rattle.ce_model.specs.Saying.{says}
-use Rattle.ce_model.specs.Hearing.{Heard, mail_of, hears}
+use Rattle.ce_model.specs.Hearing.{Hearing, mail_of, hears}
 use Rattle.ce_model.specs.Trace.{sent_to}
 use Rattle.ce_model.specs.Cube.{Cube, IsCube, CubeState, opening, left_by, rest, host_calls, actors, IsAloneFrom, IsAlone}
 use Rattle.ce_model.specs.Owners.{IsOwned, IsBlockOf}
@@ -112,7 +112,7 @@ pub record IsGrant (dim : ℕ) (grant : CubeGrant) : Type 0 where
 abbrev pub IsNodeOf : ℕ → Node → Type 0
 IsNodeOf dim node = AllByRecursion (IsBlockOf dim) (blocks_of node)
 
-abbrev pub IsHeardOf : ℕ → Heard → Type 0
+abbrev pub IsHeardOf : ℕ → Hearing → Type 0
 IsHeardOf dim (mail_of parcel) = IsBlockOf dim parcel.block.id
 IsHeardOf dim other = Unit {0}
 
@@ -120,5 +120,5 @@ IsHeardOf dim other = Unit {0}
 abbrev pub Renaming : Type 0
 Renaming = (dim : ℕ) (grant : CubeGrant) (node : Node) → IsGrant dim grant → IsNodeOf grant.dim node
     → (says (node_outward grant node) ≡ saying_outward grant (says node))
-    × ((images : List ImageParts) (heard : Heard) → IsHeardOf grant.dim heard
+    × ((images : List ImageParts) (heard : Hearing) → IsHeardOf grant.dim heard
     → hears images (node_outward grant node) (heard_with (block_outward grant) heard) ≡ node_outward grant (hears images node heard))

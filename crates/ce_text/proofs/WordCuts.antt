@@ -1,11 +1,11 @@
 -- The first word of a line.
-use Rattle.std.proofs.Common.{◌≡◌, ℕ, suc, ◌+◌, ◌<◌, Bool, true, false, cond, not, eqb, List, [], ◌∷◌, length, take, Option, Some, None, refl, sym, ap, ◌∙◌, arith}
+use Rattle.std.proofs.Common.{◌≡◌, ℕ, ◌<◌, Bool, true, false, cond, not, eqb, List, [], ◌∷◌, length, Option, Some, None, refl, sym, ap, ◌∙◌, arith}
 use Rattle.std.specs.Prelude.{filter}
 use Rattle.std.proofs.lemmas.Bool.{ne_eqb}
-use Rattle.std.specs.List.{position_or_len, before_first}
 use Rattle.ce_text.specs.Bytes.{is_blank}
 use Rattle.ce_text.specs.Line.{cut, without_front_blanks}
 use Rattle.ce_text.specs.Words.{words}
+use Rattle.ce_text.proofs.CutParts.{cut_later}
 use Rattle.ce_text.proofs.Splitting.{split_cut, split_behind, cut_pieces}
 
 -- the words of what stands behind the first one
@@ -51,23 +51,15 @@ unfolding words
 words_split bytes None = refl
 words_split bytes (Some rest) = refl
 
-front_of : (byte : ℕ) (bytes : List ℕ) → is_blank byte ≡ false → before_first is_blank (byte ∷ bytes) ≡ byte ∷ before_first is_blank bytes
-front_of byte bytes e =
-    let more : position_or_len is_blank (byte ∷ bytes) ≡ 1 + position_or_len is_blank bytes = rw e refl in
-    let place : position_or_len is_blank (byte ∷ bytes) ≡ suc (position_or_len is_blank bytes) = omega (arith, more) in
-    ap (λ (n : ℕ). take n (byte ∷ bytes)) place ∙ taken byte bytes (position_or_len is_blank bytes)
-  where
-    taken : (byte : ℕ) (bytes : List ℕ) (n : ℕ) → take (suc n) (byte ∷ bytes) ≡ byte ∷ take n bytes
-    taken byte bytes n = refl
-
 words_cut : (byte : ℕ) (bytes front : List ℕ) (behind : Option (List ℕ)) → is_blank byte ≡ false → (front, behind) ≡ cut is_blank (byte ∷ bytes) → words (byte ∷ bytes) ≡ front ∷ words_behind behind
-unfolding words cut
+unfolding words
 words_cut byte bytes front behind e h =
-    let front_is : front ≡ byte ∷ before_first is_blank bytes = ap (λ (parts : List ℕ × Option (List ℕ)). parts.0) h ∙ front_of byte bytes e in
+    let rest = (cut is_blank bytes).0 in
+    let front_is : front ≡ byte ∷ rest = ap (λ (parts : List ℕ × Option (List ℕ)). parts.0) (h ∙ cut_later is_blank byte bytes e) in
     ap (filter (λ piece. not (eqb (length piece) 0))) (split_cut is_blank (byte ∷ bytes) ∙ ap (cut_pieces is_blank) (sym h))
     ∙ ap (λ (first : List ℕ). filter (λ piece. not (eqb (length piece) 0)) (first ∷ split_behind is_blank behind)) front_is
-    ∙ kept byte (before_first is_blank bytes) (split_behind is_blank behind)
-    ∙ ap (λ (pieces : List (List ℕ)). (byte ∷ before_first is_blank bytes) ∷ pieces) (words_split bytes behind)
+    ∙ kept byte rest (split_behind is_blank behind)
+    ∙ ap (λ (pieces : List (List ℕ)). (byte ∷ rest) ∷ pieces) (words_split bytes behind)
     ∙ ap (λ (first : List ℕ). first ∷ words_behind behind) (sym front_is)
 
 rest_by : (line rest front : List ℕ) (behind : Option (List ℕ)) → without_front_blanks line ≡ rest → 0 < length rest → (front, behind) ≡ cut is_blank rest → words rest ≡ front ∷ words_behind behind

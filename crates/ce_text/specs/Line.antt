@@ -29,8 +29,8 @@ without_end_blanks [] = []
 without_end_blanks (byte ∷ bytes) = onto_trimmed byte (without_end_blanks bytes)
 
 -- the bytes without the blanks at their ends
-unfoldable pub trimmed : List ℕ → List ℕ
-trimmed bytes = without_end_blanks (without_front_blanks bytes)
+unfoldable pub without_outer_blanks : List ℕ → List ℕ
+without_outer_blanks bytes = without_end_blanks (without_front_blanks bytes)
 
 -- ---- lines
 

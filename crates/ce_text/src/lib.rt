@@ -1,10 +1,11 @@
-//! Lines of a text and what stands in them: comments, blanks, words, names and numbers. The languages that are written
+//! Lines of a text and what stands in them: comments, blanks, words, names and numbers; and tables of words and of names. The languages that are written
 //! so are read above this crate.
 #![tactic(auto)]
 
 mod bytes;
 mod line;
 mod name;
+mod names;
 mod number;
 mod table;
 mod words;
@@ -12,6 +13,7 @@ mod words;
 pub use bytes::{are_plain, has_byte, is_blank, is_digit, is_letter, is_plain};
 pub use line::{before_comment, cut_at, cut_at_blank, trimmed};
 pub use name::is_name;
+pub use names::NameTable;
 pub use number::number_of_digits;
 pub use table::look_up;
 pub use words::next_word;

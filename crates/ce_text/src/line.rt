@@ -3,7 +3,7 @@
 ghost use Rattle.std.specs.Prelude.{◌≡◌, ◌==◌, ◌<◌, ◌≤◌, length, position, IfSome};
 ghost use Rattle.std.specs.Option.{option_map};
 ghost use Rattle.ce_text.specs.Bytes.{is_blank};
-ghost use Rattle.ce_text.specs.Line.{cut, without_front_blanks, without_end_blanks, trimmed, before_comment};
+ghost use Rattle.ce_text.specs.Line.{cut, without_front_blanks, without_end_blanks, without_outer_blanks, before_comment};
 
 use crate::bytes::is_blank;
 
@@ -33,7 +33,8 @@ pub fn cut_at(bytes: &[u8], mark: u8) -> (&[u8], Option<&[u8]>)
 
 /// What stands before the first blank, and what stands behind it, where there is one.
 pub fn cut_at_blank(bytes: &[u8]) -> (&[u8], Option<&[u8]>)
-    ensures parts { (result.0.now, option_map (λ rest. rest.now) result.1) ≡ cut is_blank bytes.now }
+    ensures parts { (result.0.now, option_map (λ rest. rest.now) result.1)
+        ≡ cut is_blank bytes.now }
     ensures shorter { IfSome result.1 (λ rest. length rest.now < length bytes.now) }
 {
     match place_of_blank(bytes) {
@@ -70,9 +71,9 @@ fn without_end_blanks(bytes: &[u8]) -> &[u8]
 }
 
 /// The bytes without the blanks at their ends.
-#[tactic(auto, unfolding(crate::specs::Line::trimmed))]
+#[tactic(auto, unfolding(crate::specs::Line::without_outer_blanks))]
 pub fn trimmed(bytes: &[u8]) -> &[u8]
-    ensures { result.now ≡ trimmed bytes.now }
+    ensures { result.now ≡ without_outer_blanks bytes.now }
 {
     without_end_blanks(without_front_blanks(bytes))
 }

@@ -1,4 +1,6 @@
-use crate::{before_comment, cut_at, is_name, look_up, next_word, number_of_digits, trimmed};
+use crate::{
+    NameTable, before_comment, cut_at, is_name, look_up, next_word, number_of_digits, trimmed,
+};
 use std::test::Fail;
 
 #[test]
@@ -55,4 +57,17 @@ fn first_row_of_a_text(rt: HostRuntime) {
     assert_eq!(rt; look_up(&table, b"a"), Some(1));
     assert_eq!(rt; look_up(&table, b"ab"), Some(2));
     assert_eq!(rt; look_up(&table, b"b"), None);
+}
+
+#[test]
+fn last_meaning_of_a_name(rt: HostRuntime) -> Result<(), Fail> {
+    let mut table = NameTable::new(rt.alloc());
+    assert_eq!(rt; table.meaning(b"a"), None);
+    table.define(b"a", 1)?;
+    table.define(b"ab", 2)?;
+    table.define(b"a", 3)?;
+    assert_eq!(rt; table.meaning(b"a"), Some(3));
+    assert_eq!(rt; table.meaning(b"ab"), Some(2));
+    assert_eq!(rt; table.meaning(b"b"), None);
+    Ok(())
 }

@@ -8,7 +8,7 @@ use Rattle.ce_model.specs.declared.topology.BlockId.{BlockId}
 use Rattle.ce_model.specs.Renaming.{targets_renamed}
 use Rattle.ce_script.specs.EntryText.{target_text, targets_text}
 use Rattle.ce_script.specs.TextParts.{words}
-use Rattle.ce_trace.specs.Spaced.{spaced}
+use Rattle.ce_trace.specs.Spaced.{spaced_words}
 
 -- pieces joined are the first one, and the separator before each further one
 pub join-cons : (c : ℕ) (first : List ℕ) (pieces : List (List ℕ)) → join_with_byte c (first ∷ pieces) ≡ first ++ flat_map (λ piece. c ∷ piece) pieces
@@ -16,7 +16,7 @@ join-cons c first [] = sym (append-nil first)
 join-cons c first (second ∷ pieces) = ap (λ more. first ++ (c ∷ more)) (join-cons c second pieces)
 
 -- words are the first one, and a space before each further one
-pub words-cons : (first : List ℕ) (further : List (List ℕ)) → words (first ∷ further) ≡ first ++ spaced further
+pub words-cons : (first : List ℕ) (further : List (List ℕ)) → words (first ∷ further) ≡ first ++ spaced_words further
 words-cons first further = join-cons 32 first further
 
 -- the digits of one byte more

@@ -140,7 +140,7 @@ next_from cube history count next within is =
     }
 
 -- one turn of a walk from an entry of the user to its next one
-pub record Turn (cube : CubeGrant) (history : List Entry) (left : ℕ) (entry : Entry) (next : ℕ) : Type 0 where
+pub record IsTurnAt (cube : CubeGrant) (history : List Entry) (left : ℕ) (entry : Entry) (next : ℕ) : Type 0 where
   pub begins : last_of left history ≡ entry ∷ last_of (left - 1) history
   pub user : entry.user ≡ cube.user
   pub on : IsNext cube history (left - 1) next
@@ -152,7 +152,7 @@ next_linked cube history links left entry linked some within begins user =
     (ap (λ all. get_or all (left - 1) 0) linked ∙ link_at history left 0 entry some within begins ∙ ap (λ u. length (own_from u (last_of (left - 1) history))) user)
 
 pub turn_at : (cube : CubeGrant) (history : List Entry) (links : List ℕ) (left : ℕ) (entry : Entry) → links ≡ links_of history → IsOwn history cube.user left
-    → 0 < left → entry ≡ get_or history (length history - left) entry → Turn cube history left entry (get_or links (left - 1) 0)
+    → 0 < left → entry ≡ get_or history (length history - left) entry → IsTurnAt cube history left entry (get_or links (left - 1) 0)
 turn_at cube history links left entry linked own some is =
     let begins = last_of-more left history entry some own.within is in
     let user = own_from-begun cube.user entry (last_of (left - 1) history) (ap (own_from cube.user) (sym begins) ∙ own.begun ∙ begins) in

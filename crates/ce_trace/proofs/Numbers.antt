@@ -33,40 +33,40 @@ grant-later grant behind later cube k e =
     rw e (rw (above, same) refl)
 
 -- the sections behind a place of the history, where the traces by number are those that stand there
-record Stands (trace : ℕ → List Entry) (number : ℕ) (history : List Entry) : Type 0 where
+record AreTraces (trace : ℕ → List Entry) (number : ℕ) (history : List Entry) : Type 0 where
   pub at : (k : ℕ) → trace (number + k) ≡ found_trace (from_grant history k)
 
-stands-pass : (trace : ℕ → List Entry) (number : ℕ) (entry : Entry) (behind : List Entry) → grant_by entry ≡ None
-    → Stands trace number (entry ∷ behind) → Stands trace number behind
-stands-pass trace number entry behind e h = record { at = λ k. h.at k ∙ rw e refl }
+traces-pass : (trace : ℕ → List Entry) (number : ℕ) (entry : Entry) (behind : List Entry) → grant_by entry ≡ None
+    → AreTraces trace number (entry ∷ behind) → AreTraces trace number behind
+traces-pass trace number entry behind e h = record { at = λ k. h.at k ∙ rw e refl }
 
-stands-later : (trace : ℕ → List Entry) (number : ℕ) (entry : Entry) (behind : List Entry) (cube : CubeGrant) → grant_by entry ≡ Some cube
-    → Stands trace number (entry ∷ behind) → Stands trace (number + 1) behind
-stands-later trace number entry behind cube e h = record {
+traces-later : (trace : ℕ → List Entry) (number : ℕ) (entry : Entry) (behind : List Entry) (cube : CubeGrant) → grant_by entry ≡ Some cube
+    → AreTraces trace number (entry ∷ behind) → AreTraces trace (number + 1) behind
+traces-later trace number entry behind cube e h = record {
   at = λ k. let same : number + 1 + k ≡ number + (k + 1) = omega arith in
       ap trace same ∙ h.at (k + 1) ∙ ap found_trace (grant-later (grant_by entry) behind (from_grant behind) cube k e);
 }
 
-stands-here : (trace : ℕ → List Entry) (number : ℕ) (entry : Entry) (behind : List Entry) (cube : CubeGrant) → grant_by entry ≡ Some cube
-    → Stands trace number (entry ∷ behind) → trace number ≡ trace_behind cube behind
-stands-here trace number entry behind cube e h =
+traces-here : (trace : ℕ → List Entry) (number : ℕ) (entry : Entry) (behind : List Entry) (cube : CubeGrant) → grant_by entry ≡ Some cube
+    → AreTraces trace number (entry ∷ behind) → trace number ≡ trace_behind cube behind
+traces-here trace number entry behind cube e h =
     let same : number ≡ number + 0 = omega arith in
     ap trace same ∙ h.at 0 ∙ ap found_trace (grant-here (grant_by entry) behind (from_grant behind) cube e)
 
 -- one entry more in front
 by_grant : (script : Script) (kept : Record) (trace : ℕ → List Entry) (entry : Entry) (behind : List Entry) (number : ℕ) (grant : Option CubeGrant)
     → grant_by entry ≡ grant
-    → ((next : ℕ) → Stands trace next behind → flat_map (text_by script kept trace) (enumerate_from next (grants_of behind)) ≡ sections_text script kept next behind)
-    → Stands trace number (entry ∷ behind)
+    → ((next : ℕ) → AreTraces trace next behind → flat_map (text_by script kept trace) (enumerate_from next (grants_of behind)) ≡ sections_text script kept next behind)
+    → AreTraces trace number (entry ∷ behind)
     → flat_map (text_by script kept trace) (enumerate_from number (grants_of (entry ∷ behind))) ≡ sections_text script kept number (entry ∷ behind)
-by_grant script kept trace entry behind number None e later h = rw e (later number (stands-pass trace number entry behind e h))
+by_grant script kept trace entry behind number None e later h = rw e (later number (traces-pass trace number entry behind e h))
 by_grant script kept trace entry behind number (Some cube) e later h =
     let texts = flat_map (text_by script kept trace) (enumerate_from (number + 1) (grants_of behind)) in
     rw e
-    (ap (λ t. (cube_line kept number cube ++ flat_map (entry_line script) t) ++ texts) (stands-here trace number entry behind cube e h)
-    ∙ ap (λ more. (cube_line kept number cube ++ flat_map (entry_line script) (trace_behind cube behind)) ++ more) (later (number + 1) (stands-later trace number entry behind cube e h)))
+    (ap (λ t. (cube_line kept number cube ++ flat_map (entry_line script) t) ++ texts) (traces-here trace number entry behind cube e h)
+    ∙ ap (λ more. (cube_line kept number cube ++ flat_map (entry_line script) (trace_behind cube behind)) ++ more) (later (number + 1) (traces-later trace number entry behind cube e h)))
 
-by_number : (script : Script) (kept : Record) (trace : ℕ → List Entry) (history : List Entry) (number : ℕ) → Stands trace number history
+by_number : (script : Script) (kept : Record) (trace : ℕ → List Entry) (history : List Entry) (number : ℕ) → AreTraces trace number history
     → flat_map (text_by script kept trace) (enumerate_from number (grants_of history)) ≡ sections_text script kept number history
 by_number script kept trace [] number h = refl
 by_number script kept trace (entry ∷ behind) number h =

@@ -10,8 +10,8 @@ use Rattle.ce_script.specs.EntryText.{entry_line}
 use Rattle.ce_script.specs.Texts.{cube_line}
 
 -- the grant of a cube, under this number
-abbrev pub numbered : ℕ → CubeGrant → Grant
-numbered number cube = record { number = number; user = cube.user; dim = cube.dim; sub = cube.sub }
+abbrev pub numbered_grant : ℕ → CubeGrant → Grant
+numbered_grant number cube = record { number = number; user = cube.user; dim = cube.dim; sub = cube.sub }
 
 -- the cube of a grant
 abbrev pub cube_of : Grant → CubeGrant
@@ -26,7 +26,7 @@ section_text script kept grant behind =
 abbrev pub section_then : Script → Record → ℕ → Option CubeGrant → List Entry → (ℕ → List ℕ) → List ℕ
 section_then script kept number None behind later = later number
 section_then script kept number (Some cube) behind later =
-    section_text script kept (numbered number cube) behind ++ later (number + 1)
+    section_text script kept (numbered_grant number cube) behind ++ later (number + 1)
 
 -- the sections of the cubes that a part of the history grants, numbered from here on
 abbrev pub sections_text : Script → Record → ℕ → List Entry → List ℕ

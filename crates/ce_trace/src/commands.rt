@@ -2,7 +2,7 @@
 ghost use Rattle.std.specs.Prelude.{◌≡◌, ◌∷◌, ◌++◌, OnOk, decimal};
 ghost use Rattle.ce_script.specs.TextParts.{words};
 ghost use Rattle.ce_script.specs.CommandText.{command_words, place_words};
-ghost use Rattle.ce_trace.specs.Spaced.{spaced};
+ghost use Rattle.ce_trace.specs.Spaced.{spaced_words};
 
 use crate::digits::{push_data, push_number};
 use crate::names::image_name;
@@ -55,7 +55,7 @@ fn push_counted(text: &mut Vec<u8>, verb: &[u8], count: u32) -> Result<(), Alloc
 /// A command with a place.
 fn push_placed(text: &mut Vec<u8>, verb: &[u8], place: Place) -> Result<(), AllocError>
     ensures { OnOk result
-        (text.new.items ≡ text.old.items ++ (verb.now ++ spaced (place_words place))) }
+        (text.new.items ≡ text.old.items ++ (verb.now ++ spaced_words (place_words place))) }
 {
     push(text, verb)?;
     push_place_words(text, place)

@@ -1,16 +1,18 @@
 //! The lines of a cube's trace.
 ghost use Rattle.std.specs.Prelude.{◌≡◌, [], ◌∷◌, ◌++◌, OnOk, None, codes, decimal, map, ◌==◌, if◌then◌else◌};
 ghost use Rattle.ce_model.specs.Renaming.{block_inward, entry_inward, place_inward, targets_renamed, what_renamed};
-ghost use Rattle.ce_script.specs.TextParts.{image_name, place_text, words};
-ghost use Rattle.ce_script.specs.EntryText.{actor_words, entry_line, found_text, given_words, kill_found_text, target_text, targets_text, what_words};
-ghost use Rattle.ce_trace.specs.Spaced.{spaced};
+ghost use Rattle.ce_script.specs.TextParts.{bytes_text, image_name, place_text, words};
+ghost use Rattle.ce_script.specs.EntryText.{actor_words, entry_line, found_text, given_words, kill_found_text, number_text, target_text, targets_text, what_words};
+ghost use Rattle.ce_trace.specs.Spaced.{spaced_words};
 
 use crate::digits::{push_data, push_number, push_some_number};
 use crate::inward::{block_inward, place_inward, relative};
 use crate::names::image_name;
 use crate::places::{push_block, push_place};
 use crate::words::{push, push_line_feed, push_word};
-use ce_model::{BlockId, Bytes, Entry, Found, Given, HOST, KillFound, Place, Subcube, What};
+use ce_model::{
+    BlockId, Bytes, Entry, HOST, KillFound, LookResult, Place, Subcube, TakeResult, What,
+};
 use ce_script::Script;
 use std::alloc::AllocError;
 
@@ -47,62 +49,34 @@ fn push_what(
     sub: Subcube,
     what: &What,
 ) -> Result<(), AllocError>
-    ensures { OnOk result (text.new.items ≡ text.old.items ++ spaced (what_words script.now
+    ensures { OnOk result (text.new.items ≡ text.old.items ++ spaced_words (what_words script.now
         (what_renamed (place_inward sub) (block_inward sub) what.now))) }
 {
     match what {
         What::Getcube { .. } | What::Peek | What::Drain | What::Freecube => Ok(()),
-        What::Arm { count } => {
-            push(text, b" arm")?;
-            push_number(text, u64::from(*count))
-        }
+        What::Arm { count } => push_by(text, b" arm", *count),
         What::Look { found } => push_look(text, *found),
-        What::HostTake { number } => {
-            push(text, b" get")?;
-            push_some_number(text, *number)
-        }
+        What::HostTake { number } => push_get(text, *number),
         What::Send {
             pid,
             first,
             to,
             bytes,
-        } => {
-            push_by(text, b" send", *pid)?;
-            push_number(text, *first)?;
-            push_targets(text, sub, to.as_slice())?;
-            push_data(text, bytes.as_slice())
-        }
+        } => push_send(text, sub, *pid, *first, to.as_slice(), bytes.as_slice()),
         What::Spawn {
             pid,
             image,
             to,
             fresh,
-        } => {
-            push_by(text, b" spawn", *pid)?;
-            push_word(text, image_name(script, *image))?;
-            push_place_word(text, place_inward(sub, *to))?;
-            push_fresh(text, *fresh)
-        }
-        What::Kill { pid, to, found } => {
-            push_by(text, b" kill", *pid)?;
-            push_place_word(text, place_inward(sub, *to))?;
-            push_kill_found(text, *found)
-        }
-        What::Note { pid, word } => {
-            push_by(text, b" note", *pid)?;
-            push_number(text, u64::from(*word))
-        }
+        } => push_spawn(text, script, *pid, *image, place_inward(sub, *to), *fresh),
+        What::Kill { pid, to, found } => push_kill(text, *pid, place_inward(sub, *to), *found),
+        What::Note { pid, word } => push_note(text, *pid, *word),
         What::Take {
             asking,
             dead,
             poller,
             given,
-        } => {
-            push_by(text, b" take", *asking)?;
-            push_number(text, u64::from(*dead))?;
-            push_some_number(text, poller.map(u64::from))?;
-            push_given(text, script, *given)
-        }
+        } => push_take(text, script, *asking, *dead, *poller, *given),
     }
 }
 
@@ -124,15 +98,102 @@ fn push_place_word(text: &mut Vec<u8>, place: Place) -> Result<(), AllocError>
 }
 
 /// What a look found.
-fn push_look(text: &mut Vec<u8>, found: Found) -> Result<(), AllocError>
+fn push_look(text: &mut Vec<u8>, found: LookResult) -> Result<(), AllocError>
     ensures { OnOk result (text.new.items
-        ≡ text.old.items ++ spaced (codes "look" ∷ found_text found ∷ [])) }
+        ≡ text.old.items ++ spaced_words (codes "look" ∷ found_text found ∷ [])) }
 {
     match found {
-        Found::Quiet => push(text, b" look quiet"),
-        Found::Spent => push(text, b" look spent"),
-        Found::Busy => push(text, b" look busy"),
+        LookResult::Quiet => push(text, b" look quiet"),
+        LookResult::Spent => push(text, b" look spent"),
+        LookResult::Busy => push(text, b" look busy"),
     }
+}
+
+/// What the host took.
+fn push_get(text: &mut Vec<u8>, number: Option<u64>) -> Result<(), AllocError>
+    ensures { OnOk result (text.new.items
+        ≡ text.old.items ++ spaced_words (codes "get" ∷ number_text number ∷ [])) }
+{
+    push(text, b" get")?;
+    push_some_number(text, number)
+}
+
+/// What a process sent.
+fn push_send(
+    text: &mut Vec<u8>,
+    sub: Subcube,
+    pid: u32,
+    first: u64,
+    to: &[(Place, BlockId)],
+    bytes: &[u8],
+) -> Result<(), AllocError>
+    ensures { OnOk result (text.new.items
+        ≡ text.old.items ++ spaced_words (codes "send" ∷ decimal pid ∷ decimal first
+        ∷ targets_text (targets_renamed (place_inward sub) (block_inward sub) to.now)
+        ∷ bytes_text bytes.now ∷ [])) }
+{
+    push_by(text, b" send", pid)?;
+    push_number(text, first)?;
+    push_targets(text, sub, to)?;
+    push_data(text, bytes)
+}
+
+/// What a process had started.
+fn push_spawn(
+    text: &mut Vec<u8>,
+    script: &Script,
+    pid: u32,
+    image: u32,
+    to: Place,
+    fresh: bool,
+) -> Result<(), AllocError>
+    ensures { OnOk result (text.new.items
+        ≡ text.old.items ++ spaced_words (codes "spawn" ∷ decimal pid ∷ image_name script.now image
+        ∷ place_text to ∷ (if fresh then codes "ok" else codes "used") ∷ [])) }
+{
+    push_by(text, b" spawn", pid)?;
+    push_word(text, image_name(script, image))?;
+    push_place_word(text, to)?;
+    push_fresh(text, fresh)
+}
+
+/// What a process asked to end.
+fn push_kill(text: &mut Vec<u8>, pid: u32, to: Place, found: KillFound) -> Result<(), AllocError>
+    ensures { OnOk result (text.new.items
+        ≡ text.old.items ++ spaced_words (codes "kill" ∷ decimal pid ∷ place_text to
+        ∷ kill_found_text found ∷ [])) }
+{
+    push_by(text, b" kill", pid)?;
+    push_place_word(text, to)?;
+    push_kill_found(text, found)
+}
+
+/// What a process left in the trace.
+fn push_note(text: &mut Vec<u8>, pid: u32, word: u32) -> Result<(), AllocError>
+    ensures { OnOk result (text.new.items
+        ≡ text.old.items ++ spaced_words (codes "note" ∷ decimal pid ∷ decimal word ∷ [])) }
+{
+    push_by(text, b" note", pid)?;
+    push_number(text, u64::from(word))
+}
+
+/// What a node asked with, and what it is given.
+fn push_take(
+    text: &mut Vec<u8>,
+    script: &Script,
+    asking: u32,
+    dead: u32,
+    poller: Option<u32>,
+    given: TakeResult,
+) -> Result<(), AllocError>
+    ensures { OnOk result (text.new.items
+        ≡ text.old.items ++ spaced_words (codes "take" ∷ decimal asking ∷ decimal dead
+        ∷ number_text poller ∷ given_words script.now given)) }
+{
+    push_by(text, b" take", asking)?;
+    push_number(text, u64::from(dead))?;
+    push_some_number(text, poller.map(u64::from))?;
+    push_given(text, script, given)
 }
 
 /// Whether a process was started, with a space before the word.
@@ -189,22 +250,22 @@ fn push_target(
 }
 
 /// What a node is given, with a space before each word.
-fn push_given(text: &mut Vec<u8>, script: &Script, given: Given) -> Result<(), AllocError>
+fn push_given(text: &mut Vec<u8>, script: &Script, given: TakeResult) -> Result<(), AllocError>
     ensures { OnOk result (text.new.items
-        ≡ text.old.items ++ spaced (given_words script.now given)) }
+        ≡ text.old.items ++ spaced_words (given_words script.now given)) }
 {
     match given {
-        Given::Start { pid, image } => {
+        TakeResult::Start { pid, image } => {
             push_by(text, b" start", pid)?;
             push_word(text, image_name(script, image))
         }
-        Given::Mail { pid, number } => {
+        TakeResult::Mail { pid, number } => {
             push_by(text, b" mail", pid)?;
             push_number(text, number)
         }
-        Given::Kill { pid } => push_by(text, b" kill", pid),
-        Given::Poll { pid } => push_by(text, b" poll", pid),
-        Given::Idle => push(text, b" idle"),
-        Given::Spent => push(text, b" spent"),
+        TakeResult::Kill { pid } => push_by(text, b" kill", pid),
+        TakeResult::Poll { pid } => push_by(text, b" poll", pid),
+        TakeResult::Idle => push(text, b" idle"),
+        TakeResult::Spent => push(text, b" spent"),
     }
 }

@@ -2,14 +2,14 @@
 ghost use Rattle.std.specs.Prelude.{◌≡◌, IfSome, is_some, option_map};
 ghost use Rattle.ce_model.specs.Answers.{call_of};
 ghost use Rattle.ce_model.specs.Views.{grant_by, is_drain};
-ghost use Rattle.ce_trace.specs.Sections.{numbered};
+ghost use Rattle.ce_trace.specs.Sections.{numbered_grant};
 
 use ce_daemon::Grant;
 use ce_model::{Entry, What};
 
 /// The cube that an entry grants, under this number.
 pub(crate) fn grant_by(entry: &Entry, number: u64) -> Option<Grant>
-    ensures cube { result ≡ option_map (numbered number) (grant_by entry.now) }
+    ensures cube { result ≡ option_map (numbered_grant number) (grant_by entry.now) }
     ensures user { IfSome result (λ grant. grant.user ≡ entry.now.user) }
 {
     match entry.what {

@@ -3,7 +3,7 @@ ghost use Rattle.std.specs.Prelude.{◌≡◌, ◌++◌, OnOk, codes, decimal, �
 ghost use Rattle.ce_model.specs.Limits.{host_home};
 ghost use Rattle.ce_script.specs.TextParts.{block_text, place_text, subcube_words};
 ghost use Rattle.ce_script.specs.CommandText.{place_words};
-ghost use Rattle.ce_trace.specs.Spaced.{spaced};
+ghost use Rattle.ce_trace.specs.Spaced.{spaced_words};
 
 use crate::digits::{push_decimal, push_number};
 use crate::words::push;
@@ -45,7 +45,7 @@ fn push_home(text: &mut Vec<u8>, home: u32) -> Result<(), AllocError>
 
 /// A node and a process id, as a user writes them, with a space before each.
 pub(crate) fn push_place_words(text: &mut Vec<u8>, place: Place) -> Result<(), AllocError>
-    ensures { OnOk result (text.new.items ≡ text.old.items ++ spaced (place_words place)) }
+    ensures { OnOk result (text.new.items ≡ text.old.items ++ spaced_words (place_words place)) }
 {
     push_number(text, u64::from(place.node))?;
     push_number(text, u64::from(place.pid))
@@ -53,7 +53,7 @@ pub(crate) fn push_place_words(text: &mut Vec<u8>, place: Place) -> Result<(), A
 
 /// A subcube, with a space before each word.
 pub(crate) fn push_subcube(text: &mut Vec<u8>, sub: Subcube) -> Result<(), AllocError>
-    ensures { OnOk result (text.new.items ≡ text.old.items ++ spaced (subcube_words sub)) }
+    ensures { OnOk result (text.new.items ≡ text.old.items ++ spaced_words (subcube_words sub)) }
 {
     push(text, b" mask")?;
     push_number(text, u64::from(sub.mask))?;

@@ -2,14 +2,14 @@
 ghost use Rattle.std.specs.Prelude.{◌≡◌, [], ◌∷◌, ◌++◌, OnOk, codes, decimal, flat_map};
 ghost use Rattle.ce_script.specs.TextParts.{bytes_text, place_text, subcube_words, words};
 ghost use Rattle.ce_script.specs.CommandText.{grant_text, peeked_text, reply_text};
-ghost use Rattle.ce_trace.specs.Spaced.{spaced};
+ghost use Rattle.ce_trace.specs.Spaced.{spaced_words};
 
 use crate::digits::{push_data, push_number};
 use crate::names::user_name;
 use crate::places::{push_place, push_subcube};
 use crate::stops::push_status;
 use crate::words::push;
-use ce_daemon::{Grant, Peeked};
+use ce_daemon::{Grant, PeekResult};
 use ce_host::Answer;
 use ce_model::{Bytes, Place};
 use ce_script::Record;
@@ -62,7 +62,7 @@ fn push_message(text: &mut Vec<u8>, from: Place, bytes: &Bytes) -> Result<(), Al
 }
 
 /// How many nodes are free, and which cubes are held.
-fn push_peeked(text: &mut Vec<u8>, kept: &Record, found: &Peeked) -> Result<(), AllocError>
+fn push_peeked(text: &mut Vec<u8>, kept: &Record, found: &PeekResult) -> Result<(), AllocError>
     ensures { OnOk result
         (text.new.items ≡ text.old.items ++ peeked_text kept.now found.now) }
 {
@@ -95,7 +95,7 @@ fn push_grant(text: &mut Vec<u8>, kept: &Record, grant: &Grant) -> Result<(), Al
 /// The dimension of a cube and its subcube, with a space before each word.
 pub(crate) fn push_extent(text: &mut Vec<u8>, grant: &Grant) -> Result<(), AllocError>
     ensures { OnOk result (text.new.items ≡ text.old.items
-        ++ spaced (codes "dim" ∷ decimal grant.now.dim ∷ subcube_words grant.now.sub)) }
+        ++ spaced_words (codes "dim" ∷ decimal grant.now.dim ∷ subcube_words grant.now.sub)) }
 {
     push(text, b" dim")?;
     push_number(text, u64::from(grant.dim))?;

@@ -4,7 +4,7 @@ ghost use Rattle.ce_model.specs.Views.{grants_of, trace_behind};
 ghost use Rattle.ce_script.specs.EntryText.{entry_line};
 ghost use Rattle.ce_script.specs.Texts.{cube_line};
 ghost use Rattle.ce_trace.specs.Links.{last_of, links_of, IsOwn};
-ghost use Rattle.ce_trace.specs.Sections.{cube_of, section_text, sections_text};
+ghost use Rattle.ce_trace.specs.Sections.{cube_of, sections_text};
 
 use crate::digits::push_number;
 use crate::entries::push_entry;
@@ -33,34 +33,15 @@ pub(crate) fn push_sections(
     for (at, entry) in history.iter().enumerate() {
         if let Some(grant) = grant_by(entry, number) {
             let next = links[history.len() - at - 1];
-            push_section(text, script, kept, history, links, &grant, next)?;
+            push_head(text, kept, &grant)?;
+            push_trace(text, script, history, links, &grant, next)?;
             number += 1;
         }
     }
     Ok(())
 }
 
-/// The section of a cube: whose it is and which nodes it is, and its trace. From the next entry of its user on the
-/// history has `next` entries.
-fn push_section(
-    text: &mut Vec<u8>,
-    script: &Script,
-    kept: &Record,
-    history: &[Entry],
-    links: &[usize],
-    grant: &Grant,
-    next: usize,
-) -> Result<(), AllocError>
-    requires linked { links.now ≡ links_of history.now }
-    requires own { IsOwn history.now grant.now.user next }
-    ensures { OnOk result (text.new.items ≡ text.old.items
-        ++ section_text script.now kept.now grant.now (last_of next history.now)) }
-{
-    push_head(text, kept, grant)?;
-    push_trace(text, script, history, links, grant, next)
-}
-
-/// The head of a cube's section.
+/// The head of a cube's section: whose it is and which nodes it is.
 fn push_head(text: &mut Vec<u8>, kept: &Record, grant: &Grant) -> Result<(), AllocError>
     ensures { OnOk result (text.new.items
         ≡ text.old.items ++ cube_line kept.now grant.now.number (cube_of grant.now)) }

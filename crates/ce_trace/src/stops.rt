@@ -2,7 +2,7 @@
 ghost use Rattle.std.specs.Prelude.{◌≡◌, ◌∷◌, ◌++◌, OnOk, decimal};
 ghost use Rattle.ce_script.specs.TextParts.{word_text, words};
 ghost use Rattle.ce_script.specs.CommandText.{status_words, stop_words};
-ghost use Rattle.ce_trace.specs.Spaced.{spaced};
+ghost use Rattle.ce_trace.specs.Spaced.{spaced_words};
 
 use crate::digits::{push_address, push_number};
 use crate::words::push;
@@ -11,7 +11,7 @@ use std::alloc::AllocError;
 
 /// Why a process stopped, with a space before each word.
 fn push_stop(text: &mut Vec<u8>, cause: Stop) -> Result<(), AllocError>
-    ensures { OnOk result (text.new.items ≡ text.old.items ++ spaced (stop_words cause)) }
+    ensures { OnOk result (text.new.items ≡ text.old.items ++ spaced_words (stop_words cause)) }
 {
     match cause {
         Stop::Exited(code) => push_numbered(text, b" exited", code),
@@ -52,7 +52,7 @@ fn push_at(text: &mut Vec<u8>, cause: &[u8], address: u32) -> Result<(), AllocEr
 /// An instruction word that is no instruction, and where it stood.
 fn push_illegal(text: &mut Vec<u8>, pc: u32, word: u32) -> Result<(), AllocError>
     ensures { OnOk result
-        (text.new.items ≡ text.old.items ++ spaced (stop_words (Stop.Illegal pc word))) }
+        (text.new.items ≡ text.old.items ++ spaced_words (stop_words (Stop.Illegal pc word))) }
 {
     push_at(text, b" illegal", pc)?;
     push_address(text, word)

@@ -7,11 +7,11 @@ use crate::entries::push_entry;
 use crate::replies::push_reply;
 use crate::stops::push_status;
 use crate::words::push_line_feed;
-use ce_daemon::{Grant, Grants, Peeked};
+use ce_daemon::{Grant, Grants, PeekResult};
 use ce_host::{Answer, Command};
 use ce_model::{
-    BlockId, Bytes, Entry, Found, Given, HOST, HOST_HOME, KillFound, NoMemory, Place, Status, Stop,
-    Subcube, Targets, What,
+    BlockId, Bytes, Entry, HOST, HOST_HOME, KillFound, LookResult, NoMemory, Place, Status, Stop,
+    Subcube, TakeResult, Targets, What,
 };
 use ce_script::{Name, Named, Record, Script, UserRecord};
 use rv_image::Image;
@@ -29,7 +29,7 @@ const IDLE: What = What::Take {
     asking: 0,
     dead: 0,
     poller: None,
-    given: Given::Idle,
+    given: TakeResult::Idle,
 };
 
 fn name(alloc: Global, text: &str) -> Result<Name, NoMemory>
@@ -106,7 +106,7 @@ fn started(pid: u32, to: Place, fresh: bool) -> What {
     }
 }
 
-fn given(asking: u32, dead: u32, poller: Option<u32>, given: Given) -> What {
+fn given(asking: u32, dead: u32, poller: Option<u32>, given: TakeResult) -> What {
     What::Take {
         asking,
         dead,
@@ -115,7 +115,7 @@ fn given(asking: u32, dead: u32, poller: Option<u32>, given: Given) -> What {
     }
 }
 
-fn look(found: Found) -> Entry {
+fn look(found: LookResult) -> Entry {
     of_host(0, What::Look { found })
 }
 
@@ -159,15 +159,15 @@ fn done_of_hello(alloc: Global) -> Result<Vec<(Command, Answer)>, AllocError> {
 }
 
 fn history_of_hello(alloc: Global) -> Result<Vec<Entry>, AllocError> {
-    let start = Given::Start { pid: 0, image: 0 };
+    let start = TakeResult::Start { pid: 0, image: 0 };
     Ok(vec![in alloc;
         granted(0),
         of_host(0, started(0, place(0, 0), true)),
         of_host(0, What::Arm { count: 10 }),
         of_node(0, 0, given(0, 0, None, start)),
         of_node(0, 0, What::Note { pid: 0, word: 42 }),
-        of_node(0, 0, given(0, 1, None, Given::Idle)),
-        look(Found::Quiet),
+        of_node(0, 0, given(0, 1, None, TakeResult::Idle)),
+        look(LookResult::Quiet),
     ]?)
 }
 
@@ -265,8 +265,8 @@ fn kill(found: KillFound) -> Entry {
 
 fn host_entries(alloc: Global) -> Result<Vec<Entry>, AllocError> {
     Ok(vec![in alloc;
-        look(Found::Spent),
-        look(Found::Busy),
+        look(LookResult::Spent),
+        look(LookResult::Busy),
         get(Some(12)),
         get(None),
         kill(KillFound::Killed),
@@ -288,16 +288,16 @@ fn node_entries(alloc: Global) -> Result<Vec<Entry>, NoMemory> {
 }
 
 /// A take of relative node 0 with all masks, and with the process that asked longest ago.
-fn take(row: Given) -> Entry {
+fn take(row: TakeResult) -> Entry {
     of_node(0, 2, given(5, 250, Some(3), row))
 }
 
 fn takes(alloc: Global) -> Result<Vec<Entry>, AllocError> {
     Ok(vec![in alloc;
-        take(Given::Mail { pid: 1, number: 99 }),
-        take(Given::Kill { pid: 6 }),
-        take(Given::Poll { pid: 3 }),
-        take(Given::Spent),
+        take(TakeResult::Mail { pid: 1, number: 99 }),
+        take(TakeResult::Kill { pid: 6 }),
+        take(TakeResult::Poll { pid: 3 }),
+        take(TakeResult::Spent),
     ]?)
 }
 
@@ -429,7 +429,7 @@ fn peeked(alloc: Global) -> Result<Answer, AllocError> {
             sub: WHOLE
         },
     ]?;
-    Ok(Answer::Peeked(Peeked {
+    Ok(Answer::Peeked(PeekResult {
         free: 3,
         grants: Grants::from_vec(grants),
     }))

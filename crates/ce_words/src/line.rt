@@ -49,10 +49,12 @@ pub fn read_line(alloc: Global, words: &[String]) -> Result<Line, LineError>
 
 /// What the command finds in the words.
 fn read_matches<'a>(alloc: Global, words: &'a [String]) -> Result<ArgMatches<'a>, LineError>
-    ensures faultless { IfOk result (λ _. fault_of program (map string_bytes words.entry.now) ≡ []) }
+    ensures faultless { IfOk result
+        (λ _. fault_of program (map string_bytes words.entry.now) ≡ []) }
     ensures rows { IfOk result (λ matches. rows_of (found_of matches)
         ≡ rows (map string_bytes words.entry.now)) }
-    ensures refused { IsErrOf result Refused → fault_of program (map string_bytes words.entry.now) ≢ [] }
+    ensures refused { IsErrOf result Refused
+        → fault_of program (map string_bytes words.entry.now) ≢ [] }
 {
     let Ok(command) = program(alloc) else {
         return Err(LineError::Memory(NoMemory));

@@ -4,8 +4,9 @@ use Rattle.rv_model.specs.Image.{ImageParts}
 use Rattle.ce_model.specs.declared.entry.Entry.{Entry}
 use Rattle.ce_model.specs.Limits.{greatest_dim, process_count, home_blocks, host_home}
 use Rattle.ce_model.specs.Lists.{EachAfter}
+use Rattle.ce_model.specs.Literals.{machine, place, block, aa}
 use Rattle.ce_model.specs.Node.{Call, takes, sends, spawns, arms}
-use Rattle.ce_model.specs.Trace.{sent_to, taken_by, waiting, spawned, killed, mark, armed, dispatched, parcels, standing}
+use Rattle.ce_model.specs.Trace.{sent_to, taken_by, waiting_items, spawned_ids, killed_ids, mark, allowed_dispatches, made_dispatches, parcels, standing}
 use Rattle.ce_model.specs.Answers.{answer, call_of}
 use Rattle.ce_model.specs.Saying.{says}
 use Rattle.ce_model.specs.Cube.{Cube, CubeState, opening, node_numbers, state, hoststore, next_entry, IsNext, IsAlone, asked_in}
@@ -13,7 +14,7 @@ use Rattle.ce_model.specs.Subcubes.{extract, relative, deposit, subcubes, first_
 use Rattle.ce_model.specs.Views.{view}
 use Rattle.ce_model.specs.Machine.{getcube, drain, freecube, in_cube}
 use Rattle.ce_model.proofs.AloneByEntries.{call_of-answer, is_made, alone_by_entries, entries_of_alone}
-use Rattle.ce_wrong.specs.Histories.{IsAnswered, machine, place, block, mail_left, started_where_mail_was, mail_of_before, DrainLeavesMail, rank_added, start_astray, nothing_found, RankAddedToBase}
+use Rattle.ce_wrong.specs.Histories.{IsAnswered, mail_left, started_where_mail_was, mail_of_before, DrainLeavesMail, rank_added, start_astray, nothing_found, RankAddedToBase}
 
 -- ---- an entry that is its actor's next one has the cube's answer
 
@@ -33,7 +34,7 @@ unfolding extract relative deposit subcubes first_free answer greatest_dim
 mail_is_made image = (
   record { request = getcube 0; answer = refl },
   (
-    record { request = in_cube (sends 0 ((place 0 0, block 256 0) ∷ []) (0xAA ∷ [])); answer = refl },
+    record { request = in_cube (sends 0 ((place 0 0, block 256 0) ∷ []) aa); answer = refl },
     (
       record { request = drain; answer = refl },
       (
@@ -57,7 +58,7 @@ mail_is_made image = (
 )
 
 mail_is_not_alone : (image : ImageParts) → IsAlone (record { user = 1; dim = 0; images = image ∷ [] }) (view (started_where_mail_was ++ mail_of_before ∷ []) 1) → ⊥
-unfolding view extract relative sent_to taken_by waiting spawned killed mark armed dispatched parcels answer greatest_dim host_home
+unfolding view extract relative sent_to taken_by waiting_items spawned_ids killed_ids mark allowed_dispatches made_dispatches parcels answer greatest_dim host_home
 mail_is_not_alone image alone =
     let cube : Cube = record { user = 1; dim = 0; images = image ∷ [] } in
     let each = entries_of_alone cube (opening cube) (view (started_where_mail_was ++ mail_of_before ∷ []) 1) alone in
@@ -66,7 +67,7 @@ mail_is_not_alone image alone =
 
 -- the start is the cube's own, and a fresh node asks for work
 start_is_alone : (image : ImageParts) → IsAlone (record { user = 1; dim = 0; images = image ∷ [] }) (view started_where_mail_was 1)
-unfolding view extract relative next_entry state hoststore says sent_to taken_by waiting spawned killed mark armed dispatched parcels answer greatest_dim process_count home_blocks host_home
+unfolding view extract relative next_entry state hoststore says sent_to taken_by waiting_items spawned_ids killed_ids mark allowed_dispatches made_dispatches parcels answer greatest_dim process_count home_blocks host_home
 start_is_alone image =
     let cube : Cube = record { user = 1; dim = 0; images = image ∷ [] } in
     alone_by_entries cube (opening cube) (view started_where_mail_was 1) (refl, (refl, (refl, tt)))
@@ -105,7 +106,7 @@ start_is_made image = (
 )
 
 start_is_not_alone : (image : ImageParts) → IsAlone (record { user = 1; dim = 1; images = image ∷ [] }) (view (start_astray ++ nothing_found ∷ []) 3) → ⊥
-unfolding view extract relative sent_to taken_by waiting spawned killed mark armed dispatched parcels answer greatest_dim host_home
+unfolding view extract relative sent_to taken_by waiting_items spawned_ids killed_ids mark allowed_dispatches made_dispatches parcels answer greatest_dim host_home
 start_is_not_alone image alone =
     let cube : Cube = record { user = 1; dim = 1; images = image ∷ [] } in
     let each = entries_of_alone cube (opening cube) (view (start_astray ++ nothing_found ∷ []) 3) alone in
@@ -114,7 +115,7 @@ start_is_not_alone image alone =
 
 -- what the host does is the cube's own
 host_is_alone : (image : ImageParts) → IsAlone (record { user = 1; dim = 1; images = image ∷ [] }) (view start_astray 3)
-unfolding view extract relative next_entry state hoststore says sent_to taken_by waiting spawned killed mark armed dispatched parcels answer greatest_dim process_count home_blocks host_home
+unfolding view extract relative next_entry state hoststore says sent_to taken_by waiting_items spawned_ids killed_ids mark allowed_dispatches made_dispatches parcels answer greatest_dim process_count home_blocks host_home
 host_is_alone image =
     let cube : Cube = record { user = 1; dim = 1; images = image ∷ [] } in
     alone_by_entries cube (opening cube) (view start_astray 3) (refl, (refl, tt))

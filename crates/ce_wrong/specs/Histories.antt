@@ -3,20 +3,20 @@ use Rattle.std.specs.Prelude.{◌≡◌, ℕ, ◌+◌, ◌==◌, if◌then◌els
 use Rattle.rv_model.specs.Image.{ImageParts}
 use Rattle.ce_model.specs.declared.topology.TheConstants.{HOST}
 use Rattle.ce_model.specs.declared.topology.Place.{Place}
-use Rattle.ce_model.specs.declared.topology.BlockId.{BlockId}
 use Rattle.ce_model.specs.declared.topology.Subcube.{Subcube}
 use Rattle.ce_model.specs.declared.entry.Entry.{Entry}
 use Rattle.ce_model.specs.declared.entry.What.{What}
 use Rattle.ce_model.specs.declared.entry.What.TheVariants.{Getcube, Drain, Freecube, Arm, Send, Spawn, Take}
-use Rattle.ce_model.specs.declared.entry.Given.TheVariants.{Start, Mail, Idle}
+use Rattle.ce_model.specs.declared.entry.TakeResult.TheVariants.{Start, Mail, Idle}
 use Rattle.ce_model.specs.Lists.{EachAfter}
+use Rattle.ce_model.specs.Literals.{machine, of_actor, of_host, sub_at, place, block, aa}
 use Rattle.ce_model.specs.Node.{Call}
 use Rattle.ce_model.specs.Trace.{blank_record}
 use Rattle.ce_model.specs.Answers.{answer, call_of}
 use Rattle.ce_model.specs.Cube.{IsAlone}
 use Rattle.ce_model.specs.Renaming.{call_renamed}
 use Rattle.ce_model.specs.Views.{from_grant, view}
-use Rattle.ce_model.specs.Machine.{MachineParts, MachineState, machine_opening, held_by, is_held_by, nodes_of, standing_of, with_cube, changed_by, changed_by_call, changed_by_host, Request, in_cube, answered, cube_of}
+use Rattle.ce_model.specs.Machine.{MachineParts, MachineState, machine_opening, held_by, is_held_by, nodes_of, standing_of, with_cube, changed_by, changed_by_call, changed_by_host, Request, in_cube, what_of_request, cube_of}
 
 -- ---- what a machine does, and how it is refuted
 
@@ -38,27 +38,6 @@ IsRefutedBy rules parts history entry number =
     × IsSomeAnd (from_grant history number) (λ found. IsAlone (cube_of parts.images found.0) (view history number)
     × (IsAlone (cube_of parts.images found.0) (view (history ++ entry ∷ []) number) → ⊥))
 
--- ---- words of the histories
-
--- a machine of one image
-abbrev pub machine : ℕ → ℕ → ImageParts → MachineParts
-machine dim users image = record { dim = dim; users = users; images = image ∷ [] }
-
-abbrev pub of_host : ℕ → What → Entry
-of_host user what = record { user = user; actor = HOST; what = what }
-
-abbrev pub of_node : ℕ → ℕ → What → Entry
-of_node user node what = record { user = user; actor = node; what = what }
-
-abbrev pub sub_at : ℕ → ℕ → Subcube
-sub_at mask base = record { mask = mask; base = base }
-
-abbrev pub place : ℕ → ℕ → Place
-place node pid = record { node = node; pid = pid }
-
-abbrev pub block : ℕ → ℕ → BlockId
-block home index = record { home = home; index = index }
-
 -- ---- a drain that leaves the messages
 
 -- a drain and the giving back of a cube leave what waits at its nodes, for the next owner of the nodes
@@ -76,7 +55,7 @@ mail_left_by_call None entry state = mail_left_by_host entry.user entry.what sta
 abbrev pub mail_left : Rules
 mail_left = record {
   changed = λ state entry. mail_left_by_call (call_of entry.what) entry state;
-  answers = answered;
+  answers = what_of_request;
 }
 
 -- the first user sends aa to process 0, drains its cube and gives it back; the second user has the same node, and starts process 0
@@ -84,18 +63,18 @@ mail_left = record {
 abbrev pub started_where_mail_was : List Entry
 started_where_mail_was =
     of_host 0 (Getcube 0 (Some (sub_at 0 0)))
-    ∷ of_host 0 (Send 0 0 ((place 0 0, block 256 0) ∷ []) (0xAA ∷ []))
+    ∷ of_host 0 (Send 0 0 ((place 0 0, block 256 0) ∷ []) aa)
     ∷ of_host 0 Drain
     ∷ of_host 0 Freecube
     ∷ of_host 1 (Getcube 0 (Some (sub_at 0 0)))
     ∷ of_host 1 (Spawn 0 0 (place 0 0) true)
     ∷ of_host 1 (Arm 10)
-    ∷ of_node 1 0 (Take 0 0 None (Start 0 0))
+    ∷ of_actor 1 0 (Take 0 0 None (Start 0 0))
     ∷ []
 
 -- the second user's process is given aa
 abbrev pub mail_of_before : Entry
-mail_of_before = of_node 1 0 (Take 1 0 None (Mail 0 0))
+mail_of_before = of_actor 1 0 (Take 1 0 None (Mail 0 0))
 
 -- a drain that leaves the messages is refuted by the view of the second grant
 abbrev pub DrainLeavesMail : Type 0
@@ -114,7 +93,7 @@ place_added sub to = record { node = added_to_base sub to.node; pid = to.pid }
 abbrev pub added_answers : MachineParts → MachineState → ℕ → ℕ → Request → Option What
 added_answers parts state user actor (in_cube call) =
     option_map (λ cube. answer (nodes_of cube.grant) (standing_of state cube) actor (call_renamed (place_added cube.grant.sub) (λ id. id) call)) (held_by state user)
-added_answers parts state user actor other = answered parts state user actor other
+added_answers parts state user actor other = what_of_request parts state user actor other
 
 abbrev pub rank_added : Rules
 rank_added = record { changed = changed_by; answers = added_answers }
@@ -135,7 +114,7 @@ start_astray =
 
 -- node 3 finds nothing
 abbrev pub nothing_found : Entry
-nothing_found = of_node 1 3 (Take 0 0 None Idle)
+nothing_found = of_actor 1 3 (Take 0 0 None Idle)
 
 -- a node's number that is added to the base is refuted by the view of the fourth grant
 abbrev pub RankAddedToBase : Type 0

@@ -4,8 +4,8 @@ use Rattle.ce_model.specs.declared.entry.What.{What}
 use Rattle.ce_model.specs.declared.entry.What.TheVariants as entry
 use Rattle.ce_model.specs.declared.entry.KillFound.{KillFound}
 use Rattle.ce_model.specs.declared.entry.KillFound.TheVariants as found
-use Rattle.ce_model.specs.declared.entry.Given.{Given}
-use Rattle.ce_model.specs.declared.entry.Given.TheVariants as given
+use Rattle.ce_model.specs.declared.entry.TakeResult.{TakeResult}
+use Rattle.ce_model.specs.declared.entry.TakeResult.TheVariants as given
 use Rattle.ce_model.specs.Parcels.{Item}
 use Rattle.ce_model.specs.Node.{Call, takes, sends, spawns, kills, notes}
 use Rattle.ce_model.specs.Hearing as model
@@ -13,8 +13,8 @@ use Rattle.ce_model.specs.Cube.{parcel_numbered}
 use Rattle.rk_mail.specs.declared.parcel.Parcel.{Parcel}
 use Rattle.rk_mail.specs.declared.talk.Say.{Say}
 use Rattle.rk_mail.specs.declared.talk.Say.TheVariants as say
-use Rattle.rk_mail.specs.declared.talk.Heard.{Heard}
-use Rattle.rk_mail.specs.declared.talk.Heard.TheVariants.{Start, Mail, Kill, Poll, Idle, Spent, Posted, Spawned, Used, Killed, Unused, Already, Noted}
+use Rattle.rk_mail.specs.declared.talk.Hearing.{Hearing}
+use Rattle.rk_mail.specs.declared.talk.Hearing.TheVariants.{Start, Mail, Kill, Poll, Idle, Spent, Posted, Spawned, Used, Killed, Unused, Already, Noted}
 use Rattle.rk_mail.specs.Items.{parcel_of}
 use Rattle.rk_mail.specs.Targets.{bytes_of, targets_of}
 
@@ -27,7 +27,7 @@ call_said (say.Kill pid to) = kills pid to
 call_said (say.Note pid word) = notes pid word
 
 -- what a node hears
-abbrev pub heard_as : Heard → model.Heard
+abbrev pub heard_as : Hearing → model.Hearing
 heard_as (Start pid image) = model.start_of pid image
 heard_as (Mail parcel) = model.mail_of (parcel_of parcel)
 heard_as (Kill pid) = model.kill_of pid
@@ -45,7 +45,7 @@ heard_as Noted = model.nothing
 -- ---- which answers a call can have
 
 -- an answer to a Take
-abbrev pub is_of_take : Heard → Bool
+abbrev pub is_of_take : Hearing → Bool
 is_of_take (Start pid image) = true
 is_of_take (Mail parcel) = true
 is_of_take (Kill pid) = true
@@ -55,7 +55,7 @@ is_of_take Spent = true
 is_of_take other = false
 
 -- the answer is of the kind of the call; a message's batch comes back empty
-abbrev pub IsAnswerTo : Call → Heard → Type 0
+abbrev pub IsAnswerTo : Call → Hearing → Type 0
 IsAnswerTo (takes asking dead poller) heard = IsTrue (is_of_take heard)
 IsAnswerTo (sends pid to bytes) heard = heard ≡ Posted []
 IsAnswerTo (spawns pid image to) heard = (heard ≡ Spawned) ⊎ (heard ≡ Used)
@@ -66,7 +66,7 @@ IsAnswerTo other heard = ⊥
 -- ---- the answer that an entry has
 
 -- a node that is given this hears so; a parcel is the one of its number among the items that waited
-abbrev pub IsGiven : List Item → Given → Heard → Type 0
+abbrev pub IsGiven : List Item → TakeResult → Hearing → Type 0
 IsGiven items (given.Start pid image) heard = heard ≡ Start pid image
 IsGiven items (given.Mail pid number) heard = (parcel : Parcel) × (heard ≡ Mail parcel) × (parcel_numbered number items ≡ Some (parcel_of parcel))
 IsGiven items (given.Kill pid) heard = heard ≡ Kill pid
@@ -74,13 +74,13 @@ IsGiven items (given.Poll pid) heard = heard ≡ Poll pid
 IsGiven items given.Idle heard = heard ≡ Idle
 IsGiven items given.Spent heard = heard ≡ Spent
 
-abbrev pub heard_of_kill : KillFound → Heard
+abbrev pub heard_of_kill : KillFound → Hearing
 heard_of_kill found.Killed = Killed
 heard_of_kill found.Unused = Unused
 heard_of_kill found.Already = Already
 
 -- who made this entry, with these items waiting for it, hears so
-abbrev pub IsHeardIn : List Item → What → Heard → Type 0
+abbrev pub IsHeardIn : List Item → What → Hearing → Type 0
 IsHeardIn items (entry.Take asking dead poller given) heard = IsGiven items given heard
 IsHeardIn items (entry.Send pid first to bytes) heard = heard ≡ Posted []
 IsHeardIn items (entry.Spawn pid image to fresh) heard = heard ≡ (if fresh then Spawned else Used)

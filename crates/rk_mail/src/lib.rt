@@ -9,7 +9,7 @@ mod talk;
 pub use batch::Batch;
 pub use mailbox::Mailbox;
 pub use parcel::{Item, Parcel};
-pub use talk::{Heard, Say};
+pub use talk::{Hearing, Say};
 
 #[cfg(test)]
 mod tests;

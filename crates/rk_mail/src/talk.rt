@@ -47,7 +47,7 @@ pub enum Say {
 
 /// What a node hears in answer.
 #[derive(Drop)]
-pub enum Heard {
+pub enum Hearing {
     /// To a Take: a process starts.
     Start {
         /// Its process id.

@@ -11,17 +11,17 @@ use Rattle.ce_model.specs.declared.process.Status.TheVariants.{Unborn, Running, 
 use Rattle.ce_model.specs.Limits.{process_count}
 use Rattle.ce_model.specs.Blocks.{Block, put}
 use Rattle.ce_model.specs.Parcels.{is_member}
-use Rattle.ce_model.specs.Process.{Process, unborn, is_receiving, is_stopped}
+use Rattle.ce_model.specs.Process.{Process, unborn_process, is_receiving, is_stopped}
 use Rattle.ce_model.specs.Node.{Turn, Node, Call, takes, sends, spawns, kills, notes, arms, looks, takes_mail, process_at, blocks_of, ids_of}
 use Rattle.ce_model.specs.Kernel.{with_store}
 use Rattle.ce_model.specs.Hearing as model
 use Rattle.ce_model.specs.Sound.{is_unborn, is_polling, IsSoundTurn}
 use Rattle.ce_solo.proofs.Counting.{hit, hit-le, same_from_hit, count, count-nil, count-one, count-cons, rising-put}
 use Rattle.ce_solo.proofs.Nodes.{polls, IsWell}
-use Rattle.ce_solo.proofs.Hears.{Hears, mail-hears, nothing-hears, kill-hears, poll-hears, told-hears, receiving_is, start-begins}
+use Rattle.ce_solo.proofs.Hears.{HasHeardAnswer, mail-hears, nothing-hears, kill-hears, poll-hears, told-hears, receiving_is, start-begins}
 use Rattle.ce_solo.proofs.HandedOver.{member-of}
-use Rattle.rk_mail.specs.declared.talk.Heard.{Heard}
-use Rattle.rk_mail.specs.declared.talk.Heard.TheVariants.{Start, Mail, Kill, Poll, Idle, Spent, Posted, Spawned, Used, Killed, Unused, Already, Noted}
+use Rattle.rk_mail.specs.declared.talk.Hearing.{Hearing}
+use Rattle.rk_mail.specs.declared.talk.Hearing.TheVariants.{Start, Mail, Kill, Poll, Idle, Spent, Posted, Spawned, Used, Killed, Unused, Already, Noted}
 use Rattle.rk_mail.specs.Items.{parcel_of}
 use Rattle.rk_mail.specs.Talk.{heard_as, is_of_take, IsAnswerTo}
 use Rattle.rk_node.specs.declared.node.Node as code
@@ -76,7 +76,7 @@ within-by : (turn : Option Turn) (node : Node) (pid : ℕ) (test : Status → Bo
 within-by turn node pid test well not_unborn holds =
     elim (cases_lt pid process_count) [
       | inl within ↦ within
-      | inr past ↦ (let none : process_at node pid ≡ unborn = get_or_past node.processes pid unborn (omega (arith, well.process_ids)) in
+      | inr past ↦ (let none : process_at node pid ≡ unborn_process = get_or_past node.processes pid unborn_process (omega (arith, well.process_ids)) in
           absurd (both_ways _ (ap (λ (p : Process). test p.status) none ∙ not_unborn) holds))
     ]
 
@@ -117,7 +117,7 @@ born_status (Stopped cause) h = refl
 -- ---- what was said
 
 -- only a Take is answered by something to do, and it is said without a turn
-pub take-idle : (box : Box) (call : Call) (heard : Heard) → HasSaid box call → IsAnswerTo call heard → is_of_take heard ≡ true → box.node.turn ≡ None
+pub take-idle : (box : Box) (call : Call) (heard : Hearing) → HasSaid box call → IsAnswerTo call heard → is_of_take heard ≡ true → box.node.turn ≡ None
 take-idle box (takes asking dead poller) heard said answer h = said.1
 take-idle box (sends pid to bytes) heard said answer h = absurd (both_ways _ (ap is_of_take answer) h)
 take-idle box (spawns pid image to) heard said answer h =
@@ -132,7 +132,7 @@ take-idle box (arms n) heard said answer h = absurd answer
 take-idle box looks heard said answer h = absurd answer
 take-idle box takes_mail heard said answer h = absurd answer
 
-take-keeps : (heard : Heard) (batch : Option (List (Place × Block))) → is_of_take heard ≡ true → batch_after heard batch ≡ batch
+take-keeps : (heard : Hearing) (batch : Option (List (Place × Block))) → is_of_take heard ≡ true → batch_after heard batch ≡ batch
 take-keeps (Start pid image) batch h = refl
 take-keeps (Mail parcel) batch h = refl
 take-keeps (Kill pid) batch h = refl
@@ -148,7 +148,7 @@ take-keeps Already batch h = refl
 take-keeps Noted batch h = refl
 
 -- the spare batch is here and empty once the answer was heard
-pub heard-batch : (box : Box) (call : Call) (heard : Heard) (batch : Option (List (Place × Block))) → HasSaid box call → IsAnswerTo call heard → HasBatch box.out batch
+pub heard-batch : (box : Box) (call : Call) (heard : Hearing) (batch : Option (List (Place × Block))) → HasSaid box call → IsAnswerTo call heard → HasBatch box.out batch
     → batch_after heard batch ≡ Some []
 heard-batch box (takes asking dead poller) heard batch said answer has =
     let here : batch ≡ Some [] = subst (λ o. HasBatch o batch) said.0 has in take-keeps heard batch answer ∙ here
@@ -175,7 +175,7 @@ pub record IsSoundly (node : Node) : Type 0 where
   pub well : IsWell node.turn node
   pub sound : IfSome node.turn IsSoundTurn
 
-soundly : (node node' : Node) (come : List BlockId) → Hears node node' come → IsSoundly node'
+soundly : (node node' : Node) (come : List BlockId) → HasHeardAnswer node node' come → IsSoundly node'
 soundly node node' come hears = record { well = hears.became.well; sound = hears.turn }
 
 module _ (images : List ImageParts) (box : Box) (well : IsWell box.node.turn box.node) (sound : IfSome box.node.turn IsSoundTurn) where
@@ -183,7 +183,7 @@ module _ (images : List ImageParts) (box : Box) (well : IsWell box.node.turn box
   well-idle : box.node.turn ≡ None → IsWell None box.node
   well-idle none = subst (λ turn. IsWell turn box.node) none well
 
-  pub work-of : (heard : Heard) → IsAbleToHear images box heard → IsWorkOf images box.node heard
+  pub work-of : (heard : Hearing) → IsAbleToHear images box heard → IsWorkOf images box.node heard
   work-of (Start pid image) can = can.work
   work-of (Mail parcel) can = (
     take-idle box can.call (Mail parcel) can.said can.answer refl,
@@ -202,7 +202,7 @@ module _ (images : List ImageParts) (box : Box) (well : IsWell box.node.turn box
   work-of Already can = tt
   work-of Noted can = tt
 
-  pub hears-soundly : (heard : Heard) → IsAbleToHear images box heard → IsSoundly (model.hears images box.node (heard_as heard))
+  pub hears-soundly : (heard : Hearing) → IsAbleToHear images box heard → IsSoundly (model.hears images box.node (heard_as heard))
   hears-soundly (Start pid image) can =
       let none = take-idle box can.call (Start pid image) can.said can.answer refl in
       let begins = start-begins images box.node pid image (well-idle none) can.work.0 (ap is_unborn can.work.1) in
@@ -228,7 +228,7 @@ module _ (images : List ImageParts) (box : Box) (well : IsWell box.node.turn box
   hears-soundly Noted can = soundly box.node _ _ (nothing-hears images box.node well sound)
 
 -- there is room for what the node is given
-pub room-for : (images : List ImageParts) (box : Box) (node : code.Node) (heard : Heard) → box.node ≡ node_of node → box.room ≡ node.room → IsStocked node
+pub room-for : (images : List ImageParts) (box : Box) (node : code.Node) (heard : Hearing) → box.node ≡ node_of node → box.room ≡ node.room → IsStocked node
     → IsWork images box heard → HasRoomFor heard node
 room-for images box node (Mail parcel) same room s work =
     omega (arith, work.room, room, ap (λ (n : Node). length (blocks_of n)) same, count-blocks node s)

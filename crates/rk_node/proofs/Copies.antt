@@ -11,7 +11,7 @@ use Rattle.ce_model.specs.Blocks.{Block}
 use Rattle.ce_model.specs.Space.{Space, result_map, and_then, place_at, places_at}
 use Rattle.ce_model.specs.Process.{Process, argument}
 use Rattle.ce_model.specs.Node as model
-use Rattle.ce_model.specs.Kernel.{returns, reading, sends_copies, xmsend_block}
+use Rattle.ce_model.specs.Kernel.{returns, read_or_stop, sends_copies, xmsend_block}
 use Rattle.rk_mail.specs.Targets.{bytes_of, targets_of, with_bytes}
 
 -- ---- places that are read
@@ -104,9 +104,9 @@ count-more targets target n i was = omega (arith, length-append targets (target 
 
 -- ---- a call that sends to several places
 
-pub for_some : {X : Type 0} (o : Option X) (P Q : X → Type 0) → ((x : X) → P x → Q x) → IfSome o P → IfSome o Q
-for_some None P Q each p = tt
-for_some (Some x) P Q each p = each x p
+pub for_some : {X : Type 0} (o : Option X) (P Q : X → Type 0) → IfSome o P → ((x : X) → P x → Q x) → IfSome o Q
+for_some None P Q p each = tt
+for_some (Some x) P Q p each = each x p
 
 pub for_each : {X : Type 0} (o : Option X) (P : X → Type 0) → ((x : X) → P x) → IfSome o P
 for_each None P each = tt
@@ -118,10 +118,10 @@ too_many node turn p found h = rw (lt-ltb greatest_targets (argument p 1) h) ref
 
 pub places-read : (node : model.Node) (turn : model.Turn) (p : Process) (found : ℕ × Block) (r : Result (List Place) Stop) (count at : ℕ)
     → count ≡ argument p 1 → at ≡ argument p 2 → count ≤ greatest_targets → places_at p.space at count ≡ r
-    → xmsend_block node turn p found ≡ reading node turn p r (sends_copies node turn p found)
+    → xmsend_block node turn p found ≡ read_or_stop node turn p r (sends_copies node turn p found)
 places-read node turn p found r count at same same' few read =
     rw (le-ltb greatest_targets (argument p 1) (omega arith)) (
-    ap (λ r. reading node turn p r (sends_copies node turn p found))
+    ap (λ r. read_or_stop node turn p r (sends_copies node turn p found))
     (ap (λ k. places_at p.space k (argument p 1)) (sym same') ∙ ap (places_at p.space at) (sym same) ∙ read)
     )
 

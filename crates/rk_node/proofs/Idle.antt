@@ -1,7 +1,6 @@
 -- The ids of the processes that pass a test, gathered from the last process on.
-use Rattle.std.proofs.Common.{◌≡◌, ℕ, ◌+◌, ◌*◌, ◌^◌, ◌<◌, ◌≤◌, Bool, true, false, if◌then◌else◌, List, [], ◌∷◌, length, drop, slice_index_or, refl, ap, ◌∙◌, arith, length-drop}
+use Rattle.std.proofs.Common.{◌≡◌, ℕ, ◌+◌, ◌*◌, ◌^◌, ◌<◌, ◌≤◌, Bool, true, false, if◌then◌else◌, List, [], ◌∷◌, length, drop, refl, ap, ◌∙◌, arith, length-drop}
 use Rattle.std.proofs.Math.Nat.{pow-le-pow_right, pow-suc}
-use Rattle.std.proofs.lemmas.List.{drop_more}
 use mir.Val.{bool_byte}
 use Rattle.ce_model.specs.declared.process.Status.{Status}
 use Rattle.ce_model.specs.Node.{ids_of}
@@ -14,7 +13,7 @@ abbrev pub ids_in : (Status → Bool) → List Own → ℕ
 ids_in test [] = 0
 ids_in test (own ∷ owns) = (if test own.status then 1 else 0) + 2 * ids_in test owns
 
-pub ids_of-own : (test : Status → Bool) (owns : List Own) (mappings : List Mapping) (pid : ℕ) → ids_in test owns ≡ ids_of test (processes_from mappings pid owns)
+ids_of-own : (test : Status → Bool) (owns : List Own) (mappings : List Mapping) (pid : ℕ) → ids_in test owns ≡ ids_of test (processes_from mappings pid owns)
 ids_of-own test [] mappings pid = refl
 ids_of-own test (own ∷ owns) mappings pid = ap (λ n. (if test own.status then 1 else 0) + 2 * n) (ids_of-own test owns mappings (pid + 1))
 
@@ -22,7 +21,7 @@ bit-le : (b : Bool) → (if b then 1 else 0) ≤ 1
 bit-le true = omega arith
 bit-le false = omega arith
 
-pub ids_in-less : (test : Status → Bool) (owns : List Own) → ids_in test owns < 2 ^ length owns
+ids_in-less : (test : Status → Bool) (owns : List Own) → ids_in test owns < 2 ^ length owns
 ids_in-less test [] = omega arith
 ids_in-less test (own ∷ owns) = omega (arith, ids_in-less test owns, bit-le (test own.status), pow-suc 2 (length owns))
 
@@ -36,13 +35,16 @@ ids_behind test owns i few h =
     let most = power-le (length (drop i owns)) 31 (omega (arith, length-drop i owns)) in
     omega (arith, below, most)
 
-pub ids-more : (test : Status → Bool) (owns : List Own) (i : ℕ) (d : Own) → i < length owns
-    → ids_in test (drop i owns) ≡ (if test (slice_index_or owns i d).status then 1 else 0) + 2 * ids_in test (drop (i + 1) owns)
-ids-more test owns i d h = ap (ids_in test) (drop_more owns i d h)
-
 -- all of them, once the loop is through
-pub ids-all : (test : Status → Bool) (owns : List Own) (i ids : ℕ) → i ≡ 0 → ids ≡ ids_in test (drop i owns) → ids ≡ ids_in test owns
-ids-all test owns i ids none e = e ∙ ap (λ k. ids_in test (drop k owns)) none
+ids-through : (test : Status → Bool) (owns : List Own) (i ids : ℕ) → i ≡ 0 → ids ≡ ids_in test (drop i owns) → ids ≡ ids_in test owns
+ids-through test owns i ids none e = e ∙ ap (λ k. ids_in test (drop k owns)) none
+
+pub ids-all : (test : Status → Bool) (owns : List Own) (i ids : ℕ) → i ≡ 0 → ids ≡ ids_in test (drop i owns)
+    → (mappings : List Mapping) (pid : ℕ) → ids ≡ ids_of test (processes_from mappings pid owns)
+ids-all test owns i ids none e mappings pid = ids-through test owns i ids none e ∙ ids_of-own test owns mappings pid
+
+pub ids-less : (test : Status → Bool) (owns : List Own) (i ids : ℕ) → i ≡ 0 → ids ≡ ids_in test (drop i owns) → ids < 2 ^ length owns
+ids-less test owns i ids none e = omega (arith, ids-through test owns i ids none e, ids_in-less test owns)
 
 pub bit_of : (b : Bool) → bool_byte b ≤ 1
 bit_of true = omega arith

@@ -7,9 +7,9 @@ use Rattle.rv_model.specs.declared.stop.Stop.TheVariants.{NotABlock, Gone}
 use Rattle.ce_model.specs.declared.topology.BlockId.{BlockId}
 use Rattle.ce_model.specs.Blocks.{Block}
 use Rattle.ce_model.specs.Space.{Space, mapped_ids, window_of, is_window_start, named_in, block_named}
-use Rattle.ce_model.specs.Process.{Process, unborn, argument, with_answer}
+use Rattle.ce_model.specs.Process.{Process, unborn_process, argument, with_answer}
 use Rattle.ce_model.specs.Node as model
-use Rattle.ce_model.specs.Kernel.{Did, goes_on, returns, stops, reading, with_store}
+use Rattle.ce_model.specs.Kernel.{CallOutcome, goes_on, returns, stops, read_or_stop, with_store}
 use Rattle.xm_owner.specs.Holdings.{Mapping, held_at}
 use Rattle.ce_solo.proofs.Counting.{hit-self, count, count-append}
 use Rattle.ce_solo.proofs.Windows.{count-unmapped}
@@ -17,7 +17,7 @@ use Rattle.ce_solo.proofs.Nodes.{IsWell}
 use Rattle.rk_process.specs.Seen.{Own, place_of, unborn_own}
 use Rattle.rk_process.proofs.Found.{slice_get-windows_of}
 use Rattle.rk_node.specs.declared.node.Node.{Node}
-use Rattle.rk_node.specs.declared.turn.Did as code
+use Rattle.rk_node.specs.declared.turn.CallEnd as code
 use Rattle.rk_node.specs.Standing.{node_of, processes_of}
 use Rattle.rk_node.specs.Stocked.{IsOnce, AreWithin}
 use Rattle.rk_node.specs.Moves.{IsNamed}
@@ -28,10 +28,11 @@ use Rattle.rk_node.proofs.Processes.{process_of-at, process-read, used-read}
 use Rattle.rk_node.proofs.Stops.{changed-twice}
 
 -- a call that does the same as another
-pub made-as : (word word' : model.Node → model.Turn → Process → Did) (before after : Node) (turn turn' : model.Turn) (outcome : code.Did)
-    → word' (node_of before) turn (model.process_at (node_of before) turn.pid) ≡ word (node_of before) turn (model.process_at (node_of before) turn.pid)
-    → HasMade word before after turn turn' outcome → HasMade word' before after turn turn' outcome
-made-as word word' before after turn turn' outcome same made = record { did = made.did ∙ sym same; stocked = made.stocked; batch = made.batch; room = made.room }
+pub made-as : {word word' : model.Node → model.Turn → Process → CallOutcome} {before after : Node} {turn now turn' : model.Turn} {outcome : code.CallEnd}
+    → HasMade word before after turn turn' outcome
+    → word' (node_of before) now (model.process_at (node_of before) now.pid) ≡ word (node_of before) turn (model.process_at (node_of before) turn.pid)
+    → HasMade word' before after now turn' outcome
+made-as made same = record { did = made.did ∙ sym same; stocked = made.stocked; batch = made.batch; room = made.room }
 
 -- an answer to a process that was changed
 pub returns-after : (node b : model.Node) (turn : model.Turn) (q : Process) (store : List BlockId) (value : ℕ) → turn.pid < length node.processes
@@ -64,14 +65,14 @@ not_start p e = elim (cases_Bool (is_window_start p)) [
   | inr f ↦ f
 ]
 
-pub named-reading : (node : model.Node) (turn : model.Turn) (p : Process) (a : ℕ) (r : Result (ℕ × Block) Stop) (onward : ℕ × Block → Did)
-    → a ≡ argument p 0 → block_named p.space a ≡ r → reading node turn p (block_named p.space (argument p 0)) onward ≡ reading node turn p r onward
+pub named-reading : (node : model.Node) (turn : model.Turn) (p : Process) (a : ℕ) (r : Result (ℕ × Block) Stop) (onward : ℕ × Block → CallOutcome)
+    → a ≡ argument p 0 → block_named p.space a ≡ r → read_or_stop node turn p (block_named p.space (argument p 0)) onward ≡ read_or_stop node turn p r onward
 named-reading node turn p a r onward same named =
-    ap (λ a. reading node turn p (block_named p.space a) onward) (sym same) ∙ ap (λ r. reading node turn p r onward) named
+    ap (λ a. read_or_stop node turn p (block_named p.space a) onward) (sym same) ∙ ap (λ r. read_or_stop node turn p r onward) named
 
 -- a block that is held is at its window
 pub window-held : (m : List Mapping) (owns : List Own) (pid k : ℕ) (block : Block) → pid < length owns → AreWithin owns (map place_of m)
-    → held_at m pid k ≡ Some block → slice_get (slice_index_or (processes_of m owns) pid unborn).space.windows k ≡ Some (Some block)
+    → held_at m pid k ≡ Some block → slice_get (slice_index_or (processes_of m owns) pid unborn_process).space.windows k ≡ Some (Some block)
 window-held m owns pid k block h within held =
     ap (λ (p : Process). slice_get p.space.windows k) (process_of-at m owns pid h)
     ∙ slice_get-windows_of m pid (slice_index_or owns pid unborn_own).used k (used-held owns m pid k block within held) ∙ ap Some held
@@ -91,45 +92,33 @@ store-apart node pid k block once h at =
 pub well-once : (turn : Option model.Turn) (node : model.Node) → IsWell turn node → IsOnce node
 well-once turn node well = record { once = well.once }
 
-pub is_held : {X : Type 0} (o : Option X) (x : X) → o ≡ Some x → IsSome o
-is_held o x e = ap is_some e
+pub is_held : {X : Type 0} {o : Option X} {x : X} → o ≡ Some x → IsSome o
+is_held e = ap is_some e
 
 at-some : {X : Type 0} (o : Option X) (x : X) (P : X → Type 0) → o ≡ Some x → IfSome o P → P x
 at-some None x P e p = absurd (cc)
 at-some (Some y) x P e p = let same : y ≡ x = cc in subst P same p
 
--- what a call makes with the block that is held
-pub made-at : (word : ℕ × Block → model.Node → model.Turn → Process → Did) (o : Option Block) (window : ℕ) (block : Block) (before after : Node) (turn turn' : model.Turn) (outcome : code.Did)
-    → o ≡ Some block → IfSome o (λ b. HasMade (word (window, b)) before after turn turn' outcome) → HasMade (word (window, block)) before after turn turn' outcome
-made-at word o window block before after turn turn' outcome e made = at-some o block (λ b. HasMade (word (window, b)) before after turn turn' outcome) e made
-
 -- a call that names a block, which is there
-pub made-named : (inner : model.Node → model.Turn → Process → ℕ × Block → Did) (before after : Node) (turn : model.Turn) (outcome : code.Did) (a window : ℕ) (block : Block)
-    → a ≡ argument (model.process_at (node_of before) turn.pid) 0 → block_named (model.process_at (node_of before) turn.pid).space a ≡ Ok (window, block)
-    → HasMade (λ node turn p. inner node turn p (window, block)) before after turn turn outcome
-    → HasMade (λ node turn p. reading node turn p (block_named p.space (argument p 0)) (inner node turn p)) before after turn turn outcome
-made-named inner before after turn outcome a window block same named made =
-    let p = model.process_at (node_of before) turn.pid in
-    record {
-      did = made.did ∙ sym (named-reading (node_of before) turn p a (Ok (window, block)) (inner (node_of before) turn p) same named);
-      stocked = made.stocked;
-      batch = made.batch;
-      room = made.room;
-    }
+pub made-named : (inner : model.Node → model.Turn → Process → ℕ × Block → CallOutcome) {before after : Node} {turn : model.Turn} {outcome : code.CallEnd} {a window : ℕ} {block : Block} {held : Option Block}
+    → a ≡ argument (model.process_at (node_of before) turn.pid) 0 → held ≡ Some block → block_named (model.process_at (node_of before) turn.pid).space a ≡ Ok (window, block)
+    → IfSome held (λ block. HasMade (λ node turn p. inner node turn p (window, block)) before after turn turn outcome)
+    → HasMade (λ node turn p. read_or_stop node turn p (block_named p.space (argument p 0)) (inner node turn p)) before after turn turn outcome
+made-named inner {before = before} {after = after} {turn = turn} {outcome = outcome} {window = window} {block = block} {held = held} same there named made =
+    let n = node_of before in
+    let p = model.process_at n turn.pid in
+    made-as (at-some held block (λ block. HasMade (λ node turn p. inner node turn p (window, block)) before after turn turn outcome) there made)
+    (named-reading n turn p _ _ (inner n turn p) same named)
 
 -- a call that names none
-pub made-refused : (inner : model.Node → model.Turn → Process → ℕ × Block → Did) (before after : Node) (turn : model.Turn) (outcome : code.Did) (a : ℕ) (cause : Stop)
+pub made-refused : (inner : model.Node → model.Turn → Process → ℕ × Block → CallOutcome) {before after : Node} {turn : model.Turn} {outcome : code.CallEnd} {a : ℕ} {cause : Stop}
     → a ≡ argument (model.process_at (node_of before) turn.pid) 0 → block_named (model.process_at (node_of before) turn.pid).space a ≡ Err cause
     → HasMade (λ node turn p. stops node turn p cause) before after turn turn outcome
-    → HasMade (λ node turn p. reading node turn p (block_named p.space (argument p 0)) (inner node turn p)) before after turn turn outcome
-made-refused inner before after turn outcome a cause same named made =
-    let p = model.process_at (node_of before) turn.pid in
-    record {
-      did = made.did ∙ sym (named-reading (node_of before) turn p a (Err cause) (inner (node_of before) turn p) same named);
-      stocked = made.stocked;
-      batch = made.batch;
-      room = made.room;
-    }
+    → HasMade (λ node turn p. read_or_stop node turn p (block_named p.space (argument p 0)) (inner node turn p)) before after turn turn outcome
+made-refused inner {before = before} {turn = turn} same named made =
+    let n = node_of before in
+    let p = model.process_at n turn.pid in
+    made-as made (named-reading n turn p _ _ (inner n turn p) same named)
 
 -- the block at a window that holds one, or none
 pub named_here : (held : ℕ → Option Block) (at : Option (Option Block)) (window a : ℕ) (block : Block) → held window ≡ Some block → at ≡ Some (held window)
@@ -142,11 +131,11 @@ gone_here held at window a h there = ap (λ o. named_in o a) (there ∙ ap Some 
 
 -- what the list of a process's windows has for one
 pub at-window : (m : List Mapping) (owns : List Own) (pid : ℕ) (own : Own) (k : ℕ) → pid < length owns → own ≡ slice_index_or owns pid own → k < own.used
-    → slice_get (slice_index_or (processes_of m owns) pid unborn).space.windows k ≡ Some (held_at m pid k)
+    → slice_get (slice_index_or (processes_of m owns) pid unborn_process).space.windows k ≡ Some (held_at m pid k)
 at-window m owns pid own k h read less =
     ap (λ (p : Process). slice_get p.space.windows k) (process-read m owns pid own h read) ∙ slice_get-windows_of m pid own.used k less
 
 pub past-windows : (m : List Mapping) (owns : List Own) (pid : ℕ) (own : Own) (k : ℕ) → pid < length owns → own ≡ slice_index_or owns pid own → own.used ≤ k
-    → slice_get (slice_index_or (processes_of m owns) pid unborn).space.windows k ≡ None
+    → slice_get (slice_index_or (processes_of m owns) pid unborn_process).space.windows k ≡ None
 past-windows m owns pid own k h read more =
-    slice_get_past (slice_index_or (processes_of m owns) pid unborn).space.windows k (omega (arith, used-read m owns pid own h read))
+    slice_get_past (slice_index_or (processes_of m owns) pid unborn_process).space.windows k (omega (arith, used-read m owns pid own h read))

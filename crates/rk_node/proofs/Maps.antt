@@ -1,5 +1,5 @@
 -- What each change of the map of a node leaves of its order and of its length.
-use Rattle.std.proofs.Common.{◌≡◌, ℕ, suc, ◌+◌, Bool, true, false, ◌==◌, List, [], ◌∷◌, length, map, filter, Some, None, arith, refl, ap, inl, inr}
+use Rattle.std.proofs.Common.{◌≡◌, ℕ, suc, ◌+◌, Bool, true, false, ◌==◌, List, [], ◌∷◌, length, map, filter, Some, None, arith, refl, ap, ◌∙◌, inl, inr}
 use Rattle.std.specs.List.{AllByRecursion}
 use Rattle.std.proofs.lemmas.Bool.{cases_Bool}
 use Rattle.std.proofs.lemmas.Bool.Decides.{nat_tests}
@@ -83,7 +83,7 @@ length-without pid w block (x ∷ xs) rising held = elim (cases_Bool (is_at pid 
   | inr f ↦ rw f (ap suc (length-without pid w block xs rising.1 (rw f at held)))
 ]
 
-pub length-without_process : (pid : ℕ) (m : List Mapping) → length (without_process pid m) + length (blocks_of pid m) ≡ length m
+length-without_process : (pid : ℕ) (m : List Mapping) → length (without_process pid m) + length (blocks_of pid m) ≡ length m
 length-without_process pid [] = refl
 length-without_process pid (x ∷ xs) =
     let rest = length-without_process pid xs in
@@ -91,3 +91,7 @@ length-without_process pid (x ∷ xs) =
       | inl t ↦ rw t (omega (arith, rest))
       | inr f ↦ rw f (omega (arith, rest))
     ]
+
+-- a map that the blocks of a process have left
+pub length-drained : (pid : ℕ) (before after : List Mapping) → after ≡ without_process pid before → length after + length (blocks_of pid before) ≡ length before
+length-drained pid before after left = ap (λ (m : List Mapping). length m + length (blocks_of pid before)) left ∙ length-without_process pid before

@@ -7,10 +7,10 @@ use Rattle.ce_model.specs.declared.topology.BlockId.{BlockId}
 use Rattle.ce_model.specs.Blocks.{Block, put, put_all}
 use Rattle.ce_model.specs.Space.{mapped_ids}
 use Rattle.ce_model.specs.Limits.{process_count}
-use Rattle.ce_model.specs.Process.{Process, unborn}
+use Rattle.ce_model.specs.Process.{Process, unborn_process}
 use Rattle.ce_model.specs.Node.{Node, process_at, with_process}
 use Rattle.ce_solo.proofs.Counting.{hit-self, count, count-cons, count-append, count-put_all}
-use Rattle.xm_block.specs.Stores.{Kept, ids_of, AreApart}
+use Rattle.xm_block.specs.Stores.{KeptBlock, ids_of, AreApart}
 use Rattle.xm_owner.specs.Holdings.{Mapping, without_process}
 use Rattle.rk_process.specs.Seen.{Own, place_of, unborn_own}
 use Rattle.rk_node.specs.Stocked.{used_by, AreWithin}
@@ -23,18 +23,18 @@ put_all-append [] next store = refl
 put_all-append (id ∷ first) next store = put_all-append first next (put id store)
 
 -- names that are apart from a store, as the code's calls ask for it
-pub apart-blocks : (blocks : List Block) (ids : List BlockId) (store : Kept) → ids ≡ ids_of blocks → AreApartFrom ids store → AreApart blocks store.blocks
+pub apart-blocks : (blocks : List Block) (ids : List BlockId) (store : KeptBlock) → ids ≡ ids_of blocks → AreApartFrom ids store → AreApart blocks store.blocks
 apart-blocks blocks ids store same apart =
     pairs_apart (ids_of blocks ++ ids_of store.blocks) (subst (λ ids. (id : BlockId) → count id (ids ++ ids_of store.blocks) ≤ 1) same apart.apart)
 
 -- the first of names that are apart from a store
-pub apart-first : (first next : List BlockId) (store : Kept) → AreApartFrom (first ++ next) store → AreApartFrom first store
+pub apart-first : (first next : List BlockId) (store : KeptBlock) → AreApartFrom (first ++ next) store → AreApartFrom first store
 apart-first first next store apart = record {
   apart = λ id. omega (arith, apart.apart id, count-append id (first ++ next) (ids_of store.blocks), count-append id first next, count-append id first (ids_of store.blocks));
 }
 
 -- and the others, once the first are in the store
-pub apart-next : (first next : List BlockId) (store store' : Kept) → ids_of store'.blocks ≡ put_all first (ids_of store.blocks)
+pub apart-next : (first next : List BlockId) (store store' : KeptBlock) → ids_of store'.blocks ≡ put_all first (ids_of store.blocks)
     → AreApartFrom (first ++ next) store → AreApartFrom next store'
 apart-next first next store store' moved apart = record {
   apart = λ id. omega (
@@ -54,29 +54,29 @@ apart-next first next store store' moved apart = record {
 abbrev pub reset_first : ℕ → List Process → List Process
 reset_first zero ps = ps
 reset_first (suc k) [] = []
-reset_first (suc k) (p ∷ ps) = unborn ∷ reset_first k ps
+reset_first (suc k) (p ∷ ps) = unborn_process ∷ reset_first k ps
 
-pub reset-read : (k : ℕ) (ps : List Process) → slice_index_or (reset_first k ps) k unborn ≡ slice_index_or ps k unborn
+pub reset-read : (k : ℕ) (ps : List Process) → slice_index_or (reset_first k ps) k unborn_process ≡ slice_index_or ps k unborn_process
 reset-read zero ps = refl
 reset-read (suc k) [] = refl
 reset-read (suc k) (p ∷ ps) = reset-read k ps
 
-pub reset-next : (k : ℕ) (ps : List Process) → k < length ps → slice_set (reset_first k ps) k unborn ≡ reset_first (suc k) ps
+pub reset-next : (k : ℕ) (ps : List Process) → k < length ps → slice_set (reset_first k ps) k unborn_process ≡ reset_first (suc k) ps
 reset-next k [] h = absurd (omega arith)
 reset-next zero (p ∷ ps) h = refl
-reset-next (suc k) (p ∷ ps) h = ap (λ qs. unborn ∷ qs) (reset-next k ps (omega arith))
+reset-next (suc k) (p ∷ ps) h = ap (λ qs. unborn_process ∷ qs) (reset-next k ps (omega arith))
 
-pub reset-all : (k : ℕ) (ps : List Process) → k ≡ length ps → reset_first k ps ≡ replicate k unborn
+pub reset-all : (k : ℕ) (ps : List Process) → k ≡ length ps → reset_first k ps ≡ replicate k unborn_process
 reset-all zero [] h = refl
 reset-all zero (p ∷ ps) h = absurd (omega arith)
 reset-all (suc k) [] h = absurd (omega arith)
-reset-all (suc k) (p ∷ ps) h = ap (λ qs. unborn ∷ qs) (reset-all k ps (omega arith))
+reset-all (suc k) (p ∷ ps) h = ap (λ qs. unborn_process ∷ qs) (reset-all k ps (omega arith))
 
 -- the names of the blocks of the processes from an id on
 abbrev pub ids_from : ℕ → List Process → List BlockId
 ids_from k ps = flat_map (λ p. mapped_ids p.space) (drop k ps)
 
-pub ids-next : (k : ℕ) (ps : List Process) → k < length ps → ids_from k ps ≡ mapped_ids (slice_index_or ps k unborn).space ++ ids_from (suc k) ps
+pub ids-next : (k : ℕ) (ps : List Process) → k < length ps → ids_from k ps ≡ mapped_ids (slice_index_or ps k unborn_process).space ++ ids_from (suc k) ps
 ids-next k [] h = absurd (omega arith)
 ids-next zero (p ∷ ps) h = refl
 ids-next (suc k) (p ∷ ps) h = ids-next k ps (omega arith)
@@ -87,7 +87,7 @@ ids-past zero (p ∷ ps) h = absurd (omega arith)
 ids-past (suc k) [] h = refl
 ids-past (suc k) (p ∷ ps) h = ids-past k ps (omega arith)
 
-pub ids-unborn : (n : ℕ) → flat_map (λ (p : Process). mapped_ids p.space) (replicate n unborn) ≡ []
+pub ids-unborn : (n : ℕ) → flat_map (λ (p : Process). mapped_ids p.space) (replicate n unborn_process) ≡ []
 ids-unborn zero = refl
 ids-unborn (suc n) = ids-unborn n
 
@@ -103,7 +103,7 @@ within-reset owns pid own (x ∷ xs) within = elim (cases_Bool (x.pid == pid)) [
 ]
 
 -- a name that is apart from a store isn't in it
-pub not_stored : (id : BlockId) (ids : List BlockId) (store : Kept) → AreApartFrom (id ∷ ids) store → ¬ (Contains (ids_of store.blocks) id)
+pub not_stored : (id : BlockId) (ids : List BlockId) (store : KeptBlock) → AreApartFrom (id ∷ ids) store → ¬ (Contains (ids_of store.blocks) id)
 not_stored id ids store apart =
     not_contained id (ids_of store.blocks)
     (omega (arith, apart.apart id, count-append id (id ∷ ids) (ids_of store.blocks), count-cons id id ids, hit-self id))
@@ -115,18 +115,18 @@ pub ids-split : (n now : Node) (k : ℕ) → now ≡ record n { processes = rese
     → ids_from k n.processes ≡ ids_in k now ++ ids_from (k + 1) n.processes
 ids-split n now k same h =
     let next : suc k ≡ k + 1 = omega arith in
-    let own : slice_index_or n.processes k unborn ≡ process_at now k = sym (ap (λ (m : Node). process_at m k) same ∙ reset-read k n.processes) in
+    let own : slice_index_or n.processes k unborn_process ≡ process_at now k = sym (ap (λ (m : Node). process_at m k) same ∙ reset-read k n.processes) in
     ids-next k n.processes h ∙ ap (λ (p : Process). mapped_ids p.space ++ ids_from (suc k) n.processes) own ∙ ap (λ j. ids_in k now ++ ids_from j n.processes) next
 
-pub node-next : (n now after : Node) (k : ℕ) → now ≡ record n { processes = reset_first k n.processes; store = [] } → after ≡ with_process now k unborn → k < length n.processes
+pub node-next : (n now after : Node) (k : ℕ) → now ≡ record n { processes = reset_first k n.processes; store = [] } → after ≡ with_process now k unborn_process → k < length n.processes
     → after ≡ record n { processes = reset_first (k + 1) n.processes; store = [] }
 node-next n now after k same changed h =
     let next : suc k ≡ k + 1 = omega arith in
-    changed ∙ ap (λ (m : Node). with_process m k unborn) same
+    changed ∙ ap (λ (m : Node). with_process m k unborn_process) same
     ∙ ap (λ ps. record n { processes = ps; store = [] }) (reset-next k n.processes h ∙ ap (λ j. reset_first j n.processes) next)
 
 pub node-scrubbed : (n now : Node) (k : ℕ) → now ≡ record n { processes = reset_first k n.processes; store = [] } → k ≡ process_count → length n.processes ≡ process_count
     → record now { polling = []; turn = None } ≡ scrubbed_node n
 node-scrubbed n now k same all long =
     ap (λ (m : Node). record m { polling = []; turn = None }) same
-    ∙ ap (λ ps. record (scrubbed_node n) { processes = ps }) (reset-all k n.processes (omega (arith, all, long)) ∙ ap (λ j. replicate j unborn) all)
+    ∙ ap (λ ps. record (scrubbed_node n) { processes = ps }) (reset-all k n.processes (omega (arith, all, long)) ∙ ap (λ j. replicate j unborn_process) all)

@@ -1,5 +1,5 @@
 -- Names of blocks: how often each stands in a node, as the code's calls ask for it.
-use Rattle.std.proofs.Common.{◌≡◌, ℕ, zero, suc, ◌+◌, ◌<◌, ◌≤◌, ◌≢◌, List, [], ◌∷◌, ◌++◌, length, map, flat_map, slice_index_or, refl, ap, sym, ◌∙◌, arith}
+use Rattle.std.proofs.Common.{◌≡◌, ℕ, zero, suc, ◌+◌, ◌<◌, ◌≤◌, ◌≢◌, List, [], ◌∷◌, ◌++◌, length, flat_map, refl, ap, sym, ◌∙◌, arith}
 use Rattle.std.specs.List.{Contains, All, AllPairs}
 use Rattle.std.proofs.lemmas.Bool.{cond_both}
 use Rattle.std.proofs.lemmas.List.{length-map}
@@ -11,11 +11,13 @@ use Rattle.xm_block.specs.Stores.{ids_of, with_block, with_blocks}
 use Rattle.xm_block.proofs.Names.{apart-none, apart-more, ids_of-with_block}
 use Rattle.ce_solo.proofs.Counting.{hit, hit-self, count, count-cons, count-append, count-piece}
 use Rattle.ce_model.specs.Space.{mapped_ids}
-use Rattle.ce_model.specs.Process.{Process, unborn}
-use Rattle.xm_owner.specs.Holdings.{Mapping, blocks_of}
-use Rattle.rk_process.specs.Seen.{Own, place_of}
-use Rattle.rk_node.specs.Standing.{processes_of}
-use Rattle.rk_node.specs.Stocked.{IsOnce, AreRising, AreWithin}
+use Rattle.ce_model.specs.Limits.{process_count}
+use Rattle.ce_model.specs.Process.{Process, unborn_process}
+use Rattle.xm_owner.specs.Holdings.{blocks_of}
+use Rattle.rk_node.specs.declared.node.Node.{Node}
+use Rattle.rk_node.specs.Standing.{node_of}
+use Rattle.rk_node.specs.Stocked.{IsStocked, IsOnce}
+use Rattle.rk_node.specs.Hearings.{ids_in}
 use Rattle.rk_node.proofs.Windows.{ids-held}
 use Rattle.rk_node.proofs.Processes.{process_of-at}
 
@@ -52,7 +54,7 @@ length-with_block block blocks =
     sym (length-ids_of (with_block block blocks)) ∙ ap {B = ℕ} length (ids_of-with_block block blocks) ∙ length-put block.id (ids_of blocks) ∙ ap suc (length-ids_of blocks)
 
 -- several blocks more
-pub ids_of-with_blocks : (blocks stored : List Block) → ids_of (with_blocks blocks stored) ≡ put_all (ids_of blocks) (ids_of stored)
+ids_of-with_blocks : (blocks stored : List Block) → ids_of (with_blocks blocks stored) ≡ put_all (ids_of blocks) (ids_of stored)
 ids_of-with_blocks [] stored = refl
 ids_of-with_blocks (block ∷ blocks) stored =
     ids_of-with_blocks blocks (with_block block stored) ∙ ap (put_all (ids_of blocks)) (ids_of-with_block block stored)
@@ -62,10 +64,17 @@ length-with_blocks [] stored = omega arith
 length-with_blocks (block ∷ blocks) stored = omega (arith, length-with_blocks blocks (with_block block stored), length-with_block block stored)
 
 -- the names of a process's blocks
-pub ids_of-process : (m : List Mapping) (owns : List Own) (pid : ℕ) → pid < length owns → AreRising (map place_of m) → AreWithin owns (map place_of m)
-    → mapped_ids (slice_index_or (processes_of m owns) pid unborn).space ≡ ids_of (blocks_of pid m)
-ids_of-process m owns pid h rising within =
-    ap (λ (p : Process). mapped_ids p.space) (process_of-at m owns pid h) ∙ ids-held owns pid m rising within
+pub ids_of-process : (node : Node) (pid : ℕ) → IsStocked node → pid < process_count → ids_in pid (node_of node) ≡ ids_of (blocks_of pid node.held.mappings)
+ids_of-process node pid s below =
+    ap (λ (p : Process). mapped_ids p.space) (process_of-at node.held.mappings node.processes.items pid (omega (arith, s.processes, below)))
+    ∙ ids-held node.processes.items pid node.held.mappings s.rising s.windows
+
+-- the names in a store that got them all
+pub ids_of-drained : (node : Node) (pid : ℕ) (before after : List Block) → IsStocked node → pid < process_count → after ≡ with_blocks (blocks_of pid node.held.mappings) before
+    → ids_of after ≡ put_all (ids_in pid (node_of node)) (ids_of before)
+ids_of-drained node pid before after s below moved =
+    ap ids_of moved ∙ ids_of-with_blocks (blocks_of pid node.held.mappings) before
+    ∙ ap (λ ids. put_all ids (ids_of before)) (sym (ids_of-process node pid s below))
 
 -- the names of a process's blocks and those of the store stand once each
 pub once-process : (node : model.Node) (pid : ℕ) (ids : List BlockId) → IsOnce node → pid < length node.processes → mapped_ids (model.process_at node pid).space ≡ ids
@@ -77,5 +86,5 @@ once-process node pid ids once h same id =
       count-append id ids node.store,
       ap (count id) same,
       count-append id node.store (flat_map (λ q. mapped_ids q.space) node.processes),
-      count-piece id (λ (q : Process). mapped_ids q.space) node.processes pid unborn h,
+      count-piece id (λ (q : Process). mapped_ids q.space) node.processes pid unborn_process h,
     )

@@ -6,7 +6,7 @@ use Rattle.std.proofs.lemmas.List.{get_or_past}
 use Rattle.std.proofs.lemmas.List.Sums.{sum_by-cons}
 use Rattle.ce_model.specs.Limits.{process_count}
 use Rattle.ce_model.specs.Lists.{without_first}
-use Rattle.ce_model.specs.Process.{Process, unborn}
+use Rattle.ce_model.specs.Process.{Process, unborn_process}
 use Rattle.ce_model.specs.Node.{Turn, Node, without_poller, process_at}
 use Rattle.ce_model.specs.Sound.{is_polling}
 use Rattle.ce_solo.proofs.Nodes.{polls, polls-other, polls-without, IsWell}
@@ -108,4 +108,4 @@ room_to_poll node turn well within none =
     ]
 
     polls_past : (q : ℕ) → process_count ≤ q → polls q node.polling ≡ 0
-    polls_past q h = well.polling q ∙ ap {B = ℕ} (λ (p : Process). if is_polling p.status then 1 else 0) (get_or_past node.processes q unborn (omega (arith, well.process_ids)))
+    polls_past q h = well.polling q ∙ ap {B = ℕ} (λ (p : Process). if is_polling p.status then 1 else 0) (get_or_past node.processes q unborn_process (omega (arith, well.process_ids)))

@@ -4,7 +4,7 @@ use Rattle.std.proofs.lemmas.Bool.{cases_eq, ltb-true, eq-eqb}
 use Rattle.std.proofs.lemmas.List.{get_or_read, get_or-set_same, get_or-set_other}
 use Rattle.ce_model.specs.Limits.{window_count, process_count}
 use Rattle.ce_model.specs.Space.{has_unused_window}
-use Rattle.ce_model.specs.Process.{Process, unborn}
+use Rattle.ce_model.specs.Process.{Process, unborn_process}
 use Rattle.ce_model.specs.Node as model
 use Rattle.ce_model.specs.declared.process.Status.{Status}
 use Rattle.ce_model.specs.Blocks.{Block}
@@ -20,20 +20,23 @@ use Rattle.rk_node.specs.declared.node.Node.{Node}
 use Rattle.rk_node.specs.Standing.{node_of, process_in, processes_from, processes_of}
 use Rattle.rk_node.specs.Stocked.{used_by, AreWithin, IsStocked}
 
-pub length-processes_from : (mappings : List Mapping) (pid : ℕ) (owns : List Own) → length (processes_from mappings pid owns) ≡ length owns
+length-processes_from : (mappings : List Mapping) (pid : ℕ) (owns : List Own) → length (processes_from mappings pid owns) ≡ length owns
 length-processes_from mappings pid [] = refl
 length-processes_from mappings pid (own ∷ owns) = ap suc (length-processes_from mappings (pid + 1) owns)
 
+pub length-processes : (node : Node) → IsStocked node → length (node_of node).processes ≡ process_count
+length-processes node s = length-processes_from node.held.mappings 0 node.processes.items ∙ s.processes
+
 -- the process of an id
 pub process_from : (mappings : List Mapping) (pid : ℕ) (owns : List Own) (k : ℕ) → k < length owns
-    → slice_index_or (processes_from mappings pid owns) k unborn ≡ process_in mappings (pid + k) (slice_index_or owns k unborn_own)
+    → slice_index_or (processes_from mappings pid owns) k unborn_process ≡ process_in mappings (pid + k) (slice_index_or owns k unborn_own)
 process_from mappings pid [] k h = absurd (omega arith)
 process_from mappings pid (own ∷ owns) zero h = ap (λ q. process_in mappings q own) (sym (add-zero pid))
 process_from mappings pid (own ∷ owns) (suc k) h =
     process_from mappings (pid + 1) owns k (omega arith) ∙ ap (λ q. process_in mappings q (slice_index_or owns k unborn_own)) (omega arith)
 
 pub process_of-at : (mappings : List Mapping) (owns : List Own) (pid : ℕ) → pid < length owns
-    → slice_index_or (processes_of mappings owns) pid unborn ≡ process_in mappings pid (slice_index_or owns pid unborn_own)
+    → slice_index_or (processes_of mappings owns) pid unborn_process ≡ process_in mappings pid (slice_index_or owns pid unborn_own)
 process_of-at mappings owns pid h =
     process_from mappings 0 owns pid h ∙ ap {B = Process} (λ q. process_in mappings q (slice_index_or owns pid unborn_own)) (omega arith)
 
@@ -91,7 +94,7 @@ set-same (x ∷ xs) (suc k) d = ap (λ ys. x ∷ ys) (set-same xs k d)
 
 -- a process that was read from the list
 pub process-read : (mappings : List Mapping) (owns : List Own) (pid : ℕ) (own : Own) → pid < length owns → own ≡ slice_index_or owns pid own
-    → slice_index_or (processes_of mappings owns) pid unborn ≡ process_in mappings pid own
+    → slice_index_or (processes_of mappings owns) pid unborn_process ≡ process_in mappings pid own
 process-read mappings owns pid own h read =
     process_of-at mappings owns pid h ∙ ap (process_in mappings pid) (sym (get_or_read owns pid own h read unborn_own))
 
@@ -101,7 +104,7 @@ process-read mappings owns pid own h read =
 pub processes-change : (before after : List Mapping) (owns : List Own) (pid : ℕ) (own own' : Own) (change : Process → Process)
     → pid < length owns → own ≡ slice_index_or owns pid own → IsSameBut pid before after owns
     → process_in after pid own' ≡ change (process_in before pid own)
-    → processes_of after (slice_set owns pid own') ≡ slice_set (processes_of before owns) pid (change (slice_index_or (processes_of before owns) pid unborn))
+    → processes_of after (slice_set owns pid own') ≡ slice_set (processes_of before owns) pid (change (slice_index_or (processes_of before owns) pid unborn_process))
 processes-change before after owns pid own own' change h read same e =
     processes-set before after owns pid own' h same
     ∙ ap (slice_set (processes_of before owns) pid) (e ∙ ap change (sym (process-read before owns pid own h read)))
@@ -153,7 +156,7 @@ node-change node pid own own' change h read same =
 
 -- how many windows the process has used that was read
 pub used-read : (mappings : List Mapping) (owns : List Own) (pid : ℕ) (own : Own) → pid < length owns → own ≡ slice_index_or owns pid own
-    → length (slice_index_or (processes_of mappings owns) pid unborn).space.windows ≡ own.used
+    → length (slice_index_or (processes_of mappings owns) pid unborn_process).space.windows ≡ own.used
 used-read mappings owns pid own h read =
     ap (λ (p : Process). length p.space.windows) (process-read mappings owns pid own h read) ∙ length-windows_of mappings pid own.used
 
@@ -176,7 +179,7 @@ default-free (x ∷ xs) (suc k) d e h = default-free xs k d e (omega arith)
 pub processes-held : (before after : List Mapping) (owns : List Own) (pid : ℕ) (change : Process → Process)
     → pid < length owns → IsSameBut pid before after owns
     → process_in after pid (slice_index_or owns pid unborn_own) ≡ change (process_in before pid (slice_index_or owns pid unborn_own))
-    → processes_of after owns ≡ slice_set (processes_of before owns) pid (change (slice_index_or (processes_of before owns) pid unborn))
+    → processes_of after owns ≡ slice_set (processes_of before owns) pid (change (slice_index_or (processes_of before owns) pid unborn_process))
 processes-held before after owns pid change h same e =
     let own = slice_index_or owns pid unborn_own in
     ap (processes_of after) (sym (set-same owns pid unborn_own))
@@ -184,9 +187,9 @@ processes-held before after owns pid change h same e =
 
 -- a process with a further window
 pub unused-fewer : (mappings : List Mapping) (owns : List Own) (pid : ℕ) (own : Own) → pid < length owns → own ≡ slice_index_or owns pid own
-    → IsTrue (has_unused_window (slice_index_or (processes_of mappings owns) pid unborn).space) → own.used < window_count
+    → IsTrue (has_unused_window (slice_index_or (processes_of mappings owns) pid unborn_process).space) → own.used < window_count
 unused-fewer mappings owns pid own h read unused =
-    let less = ltb-true (length (slice_index_or (processes_of mappings owns) pid unborn).space.windows) window_count unused in
+    let less = ltb-true (length (slice_index_or (processes_of mappings owns) pid unborn_process).space.windows) window_count unused in
     omega (arith, used-read mappings owns pid own h read, less)
 
 pub used_by-set : (owns : List Own) (pid : ℕ) (own : Own) → pid < length owns → used_by (slice_set owns pid own) pid ≡ own.used
@@ -194,7 +197,7 @@ used_by-set owns pid own h = ap (λ (o : Own). o.used) (get_or-set_same owns pid
 
 -- the process that was put into the list
 pub process-put : (m : List Mapping) (owns : List Own) (pid : ℕ) (own : Own) → pid < length owns
-    → slice_index_or (processes_of m (slice_set owns pid own)) pid unborn ≡ process_in m pid own
+    → slice_index_or (processes_of m (slice_set owns pid own)) pid unborn_process ≡ process_in m pid own
 process-put m owns pid own h =
     process_of-at m (slice_set owns pid own) pid (omega (arith, length-set owns pid own)) ∙ ap (process_in m pid) (get_or-set_same owns pid own unborn_own h)
 

@@ -1,5 +1,5 @@
 -- A turn by whole runs: up to a kernel call or a stop, the node changes in one process alone.
-use Rattle.std.proofs.Common.{◌≡◌, ℕ, zero, suc, ◌+◌, ◌-◌, ◌^◌, ◌<◌, ◌≤◌, Bool, true, false, not, ◌||◌, ◌==◌, nat_lt, if◌then◌else◌, List, [], ◌∷◌, ◌++◌, length, take, drop, zip, replicate, slice_get, Option, Some, None, Result, Ok, Err, refl, ap, ◌∙◌, subst, arith, length-set}
+use Rattle.std.proofs.Common.{◌≡◌, ℕ, zero, suc, ◌^◌, ◌<◌, ◌≤◌, Bool, true, false, not, ◌||◌, nat_lt, if◌then◌else◌, List, [], ◌∷◌, ◌++◌, length, take, drop, zip, replicate, Option, Some, None, IfSome, Result, Ok, Err, refl, ap, ◌∙◌, arith, length-set}
 use Rattle.std.specs.List.{AllByRecursion, list_all}
 use Rattle.std.proofs.lemmas.List.{get_or-set_same}
 use Rattle.rv_model.specs.declared.stop.Stop.{Stop}
@@ -11,16 +11,17 @@ use Rattle.ce_model.specs.declared.topology.Place.{Place}
 use Rattle.ce_model.specs.declared.topology.BlockId.{BlockId}
 use Rattle.ce_model.specs.Limits.{block_room, greatest_targets, turn_calls}
 use Rattle.ce_model.specs.Blocks.{Block, put}
-use Rattle.ce_model.specs.Space.{Space, process_access, window_start, has_unused_window, mapped, block_named, places_at}
-use Rattle.ce_model.specs.Process.{Process, argument, call_number, with_answer, moved, unborn, Reached, at_call, at_stop, led_to, reached}
+use Rattle.ce_model.specs.Space.{Space, process_access, window_start, has_unused_window, mapped_space, block_named, places_at}
+use Rattle.ce_model.specs.Process.{Process, argument, call_number, with_answer, moved_process, unborn_process, TurnEnd, at_call, at_stop, led_to, turn_end}
 use Rattle.ce_model.specs.Node.{Turn, Node, is_place, process_at, with_process, with_stopped, Call, sends, spawns, kills, notes}
-use Rattle.ce_model.specs.Kernel.{Did, goes_on, leaves, turn_ends, returns, stops, says_call, reading, waits, with_space, gives_up, with_store, maps_least, xmalloc, frees, xfree, xlength, is_target, place_named, sends_block, xsend, sends_copies, xmsend_block, xmsend, xrecv, xrecvb, spawn, ckill, KernelCall, kernel_calls, kernel_call, kernel_does, kernel}
+use Rattle.ce_model.specs.Kernel.{CallOutcome, goes_on, leaves, turn_ends, returns, stops, says_call, read_or_stop, waits, with_space, gives_up, with_store, maps_least, xmalloc, frees, xfree, xlength, is_target, place_named, sends_block, xsend, sends_copies, xmsend_block, xmsend, xrecv, xrecvb, spawn, ckill, KernelCall, kernel_calls, kernel_call, kernel_does, kernel}
 use Rattle.ce_model.specs.Saying.{Saying, asks, after_call, after_instruction, instruction, runs}
 use Rattle.ce_model.specs.Sound.{IsSoundTurn}
 use Rattle.ce_solo.proofs.Windows.{IsSameHeld, same_held}
 use Rattle.ce_solo.proofs.Instructions.{IsLed, exec-led}
-use Rattle.ce_solo.proofs.Nodes.{IsWell}
-use Rattle.ce_solo.proofs.Words.{InTurn, goes-done, in_turn-windows}
+use Rattle.ce_solo.proofs.Nodes.{IsWell, well-turn}
+use Rattle.ce_solo.proofs.Words.{IsInItsTurn, goes-done, in_turn-windows}
+use Rattle.ce_solo.proofs.Calls.{call_numbered, one_call_more}
 use Rattle.rk_node.proofs.Processes.{set-twice}
 
 -- ---- the process of a turn is given apart from its node's place for it
@@ -48,22 +49,22 @@ module _ (q : Process) where
   waits-apart : (node : Node) (turn : Turn) (p : Process) (status : Status) (polling : List ℕ) → waits (other node turn.pid) turn p status polling ≡ waits node turn p status polling
   waits-apart node turn p status polling = ap (λ (n : Node). turn_ends (record n { polling = polling; turn = None })) (with_process-apart node turn.pid (record p { status = status }))
 
-  reading-apart : {X : Type 0} (node : Node) (turn : Turn) (p : Process) (r : Result X Stop) (f g : X → Did) → ((x : X) → f x ≡ g x)
-      → reading (other node turn.pid) turn p r f ≡ reading node turn p r g
+  reading-apart : {X : Type 0} (node : Node) (turn : Turn) (p : Process) (r : Result X Stop) (f g : X → CallOutcome) → ((x : X) → f x ≡ g x)
+      → read_or_stop (other node turn.pid) turn p r f ≡ read_or_stop node turn p r g
   reading-apart node turn p (Ok x) f g same = same x
   reading-apart node turn p (Err cause) f g same = stops-apart node turn p cause
 
-  either : (b : Bool) (a a' c c' : Did) → a ≡ a' → c ≡ c' → (if b then a else c) ≡ (if b then a' else c')
+  either : (b : Bool) (a a' c c' : CallOutcome) → a ≡ a' → c ≡ c' → (if b then a else c) ≡ (if b then a' else c')
   either true a a' c c' first next = first
   either false a a' c c' first next = next
 
   maps_least-apart : (node : Node) (turn : Turn) (p : Process) (len : ℕ) (store : List BlockId) → maps_least (other node turn.pid) turn p len store ≡ maps_least node turn p len store
   maps_least-apart node turn p len [] = returns-apart node turn p 0
   maps_least-apart node turn p len (id ∷ store) =
-      returns-apart (with_store store node) turn (with_space p (mapped (record { id = id; bytes = replicate len 0 }) p.space)) (window_start (length p.space.windows))
+      returns-apart (with_store store node) turn (with_space p (mapped_space (record { id = id; bytes = replicate len 0 }) p.space)) (window_start (length p.space.windows))
 
   -- a call that doesn't look at that place
-  abbrev IsApart : (Node → Turn → Process → Did) → Type 0
+  abbrev IsApart : (Node → Turn → Process → CallOutcome) → Type 0
   IsApart does = (node : Node) (turn : Turn) (p : Process) → does (other node turn.pid) turn p ≡ does node turn p
 
   xmalloc-apart : IsApart xmalloc
@@ -159,56 +160,44 @@ module _ (q : Process) where
     ),
   )
 
-  all-get : {X : Type 0} (P : X → Type 0) (xs : List X) (k : ℕ) (x : X) → AllByRecursion P xs → slice_get xs k ≡ Some x → P x
-  all-get P [] k x all e = absurd (cc)
-  all-get P (y ∷ ys) zero x all e = let same : y ≡ x = cc in subst P same all.0
-  all-get P (y ∷ ys) (suc k) x all e = all-get P ys k x all.1 e
-
-  call_apart : (number : ℕ) (call : KernelCall) → kernel_call number ≡ Some call → IsApart call.does
-  call_apart number call e = all-get (λ (call : KernelCall). IsApart call.does) kernel_calls (number - 1) call all_apart (seen (number == 0) e)
-    where
-      seen : (b : Bool) → (if b then None else slice_get kernel_calls (number - 1)) ≡ Some call → slice_get kernel_calls (number - 1) ≡ Some call
-      seen true e = absurd (cc)
-      seen false e = e
-
-  does-apart : (node : Node) (turn : Turn) (p : Process) (found : Option KernelCall) → ((call : KernelCall) → found ≡ Some call → IsApart call.does)
+  does-apart : (node : Node) (turn : Turn) (p : Process) (found : Option KernelCall) → IfSome found (λ call. IsApart call.does)
       → kernel_does found (other node turn.pid) turn p ≡ kernel_does found node turn p
   does-apart node turn p None each = stops-apart node turn p (NoCall (call_number p))
   does-apart node turn p (Some call) each =
       either call.is_counted _ _ _ _
-      (either (nat_lt turn.calls turn_calls) _ _ _ _ (each call refl node (record turn { calls = turn.calls + 1 }) p) (stops-apart node turn p TurnSpent))
-      (each call refl node turn p)
+      (either (nat_lt turn.calls turn_calls) _ _ _ _ (each node (one_call_more turn) p) (stops-apart node turn p TurnSpent))
+      (each node turn p)
 
   pub kernel-apart : (node : Node) (turn : Turn) (p : Process) → kernel (with_process node turn.pid q) turn p ≡ kernel node turn p
   unfolding kernel
-  kernel-apart node turn p = does-apart node turn p (kernel_call (call_number p)) (call_apart (call_number p))
+  kernel-apart node turn p = does-apart node turn p (kernel_call (call_number p)) (call_numbered (λ call. IsApart call.does) (call_number p) all_apart)
 
 -- ---- whole runs
 
 -- what the node says whose process came to this
-abbrev pub came_to : Node → Turn → Reached → Saying
+abbrev pub came_to : Node → Turn → TurnEnd → Saying
 came_to node turn (at_call left p) = after_call (runs left) (kernel node (record turn { left = left }) p)
 came_to node turn (at_stop left p cause) = asks (with_stopped node turn.pid p cause)
 
-came_to-apart : (q : Process) (node : Node) (turn : Turn) (r : Reached) → came_to (with_process node turn.pid q) turn r ≡ came_to node turn r
+came_to-apart : (q : Process) (node : Node) (turn : Turn) (r : TurnEnd) → came_to (with_process node turn.pid q) turn r ≡ came_to node turn r
 came_to-apart q node turn (at_call left p) = ap (after_call (runs left)) (kernel-apart q node (record turn { left = left }) p)
 came_to-apart q node turn (at_stop left p cause) = ap asks (with_stopped-apart q node turn.pid p cause)
 
 runs-led : (n : ℕ) (node : Node) (turn : Turn) (outcome : Outcome Space) → turn.pid < length node.processes
-    → ((node' : Node) → turn.pid < length node'.processes → runs n node' turn ≡ came_to node' turn (reached n (process_at node' turn.pid)))
-    → after_instruction (runs n) n node turn (process_at node turn.pid) outcome ≡ came_to node turn (led_to (reached n) n (process_at node turn.pid) outcome)
+    → ((node' : Node) → turn.pid < length node'.processes → runs n node' turn ≡ came_to node' turn (turn_end n (process_at node' turn.pid)))
+    → after_instruction (runs n) n node turn (process_at node turn.pid) outcome ≡ came_to node turn (led_to (turn_end n) n (process_at node turn.pid) outcome)
 runs-led n node turn (went regs pc space) h each =
-    let p = moved (process_at node turn.pid) regs pc space in
+    let p = moved_process (process_at node turn.pid) regs pc space in
     let node' = with_process node turn.pid p in
     each node' (omega (arith, length-set node.processes turn.pid p))
-    ∙ ap (λ q. came_to node' turn (reached n q)) (get_or-set_same node.processes turn.pid p unborn h)
-    ∙ came_to-apart p node turn (reached n p)
+    ∙ ap (λ q. came_to node' turn (turn_end n q)) (get_or-set_same node.processes turn.pid p unborn_process h)
+    ∙ came_to-apart p node turn (turn_end n p)
 runs-led n node turn (called regs pc space) h each = refl
 runs-led n node turn (stopped cause) h each = refl
 
 -- a turn is a run to the next kernel call, and that call
-pub runs-reached : (n : ℕ) (node : Node) (turn : Turn) → turn.pid < length node.processes → runs n node turn ≡ came_to node turn (reached n (process_at node turn.pid))
-unfolding runs reached
+pub runs-reached : (n : ℕ) (node : Node) (turn : Turn) → turn.pid < length node.processes → runs n node turn ≡ came_to node turn (turn_end n (process_at node turn.pid))
+unfolding runs turn_end
 runs-reached zero node turn h = refl
 runs-reached (suc n) node turn h = runs-led n node turn (instruction (process_at node turn.pid)) h (λ node' h'. runs-reached n node' turn h')
 
@@ -220,9 +209,9 @@ pub record IsKept (before after : Process) : Type 0 where
   pub regs : length after.regs ≡ length before.regs
   pub status : after.status ≡ before.status
 
-abbrev pub KeptBy : ℕ → Process → Reached → Type 0
-KeptBy n p (at_call left p') = IsKept p p' × (left < n)
-KeptBy n p (at_stop left p' cause) = IsKept p p' × (left ≤ n)
+abbrev pub IsKeptBy : ℕ → Process → TurnEnd → Type 0
+IsKeptBy n p (at_call left p') = IsKept p p' × (left < n)
+IsKeptBy n p (at_stop left p' cause) = IsKept p p' × (left ≤ n)
 
 kept_same : (p : Process) → IsKept p p
 kept_same p = record { held = same_held p.space; regs = refl; status = refl }
@@ -234,19 +223,19 @@ kept_then a b d first next = record {
   status = next.status ∙ first.status;
 }
 
-kept_on : (n : ℕ) (p q : Process) (r : Reached) → IsKept p q → KeptBy n q r → KeptBy (suc n) p r
+kept_on : (n : ℕ) (p q : Process) (r : TurnEnd) → IsKept p q → IsKeptBy n q r → IsKeptBy (suc n) p r
 kept_on n p q (at_call left p') first next = (kept_then p q p' first next.0, let less = next.1 in omega (arith, less))
 kept_on n p q (at_stop left p' cause) first next = (kept_then p q p' first next.0, let less = next.1 in omega (arith, less))
 
-led-kept : (n : ℕ) (p : Process) (outcome : Outcome Space) → IsLed p.regs p.space outcome → ((q : Process) → KeptBy n q (reached n q))
-    → KeptBy (suc n) p (led_to (reached n) n p outcome)
+led-kept : (n : ℕ) (p : Process) (outcome : Outcome Space) → IsLed p.regs p.space outcome → ((q : Process) → IsKeptBy n q (turn_end n q))
+    → IsKeptBy (suc n) p (led_to (turn_end n) n p outcome)
 led-kept n p (went regs pc space) led each =
-    kept_on n p (moved p regs pc space) (reached n (moved p regs pc space)) (record { held = led.1; regs = led.0; status = refl }) (each (moved p regs pc space))
+    kept_on n p (moved_process p regs pc space) (turn_end n (moved_process p regs pc space)) (record { held = led.1; regs = led.0; status = refl }) (each (moved_process p regs pc space))
 led-kept n p (called regs pc space) led each = (record { held = led.1; regs = led.0; status = refl }, omega arith)
 led-kept n p (stopped cause) led each = (kept_same p, omega arith)
 
-pub reached-kept : (n : ℕ) (p : Process) → KeptBy n p (reached n p)
-unfolding reached
+pub reached-kept : (n : ℕ) (p : Process) → IsKeptBy n p (turn_end n p)
+unfolding turn_end
 reached-kept zero p = (kept_same p, omega arith)
 reached-kept (suc n) p = led-kept n p (exec process_access p.regs p.pc p.space) (exec-led p.regs p.pc p.space) (λ q. reached-kept n q)
 
@@ -255,15 +244,8 @@ pub well-after : (node : Node) (turn : Turn) (left : ℕ) (p : Process) → IsWe
     → IsWell (Some (record turn { left = left })) (with_process node turn.pid p)
 well-after node turn left p well sound less kept =
     let turn' : Turn = record turn { left = left } in
-    let c : InTurn node turn' p = record {
-      well = record {
-        process_ids = well.process_ids;
-        processes = λ q h. let was = well.processes q h in
-            record { registers = was.registers; windows = was.windows; unborn_used = was.unborn_used; stopped_holds = was.stopped_holds; running = was.running };
-        polling = well.polling;
-        store = well.store;
-        once = well.once;
-      };
+    let c : IsInItsTurn node turn' p = record {
+      well = well-turn node turn left turn.calls well;
       sound = record { pid = sound.pid; left = omega (arith, sound.left, less); calls = sound.calls };
       registers = kept.regs ∙ (well.processes turn.pid sound.pid).registers;
       held = kept.held;

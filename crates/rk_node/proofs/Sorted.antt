@@ -8,7 +8,7 @@ use Rattle.ce_model.specs.declared.topology.BlockId.{BlockId}
 use Rattle.ce_model.specs.Limits.{process_count, home_blocks}
 use Rattle.ce_model.specs.Blocks.{precedes, blocks_of_home}
 use Rattle.ce_model.specs.Space.{mapped_ids}
-use Rattle.ce_model.specs.Process.{Process, unborn, register_count}
+use Rattle.ce_model.specs.Process.{Process, unborn_process, register_count}
 use Rattle.ce_model.specs.Node.{Node, process_at, blocks_of}
 use Rattle.ce_model.specs.Sound.{is_polling, IsRising}
 use Rattle.ce_solo.proofs.Counting.{hit, hit-le, same_from_hit, count, count-nil, count-cons}
@@ -59,16 +59,16 @@ rising-home home = rising-from home 0 home_blocks
 
 -- no process of the node was started, its blocks are in its store, whose names rise, and nothing is under way
 pub record IsIdle (node : Node) : Type 0 where
-  pub processes : node.processes ≡ replicate process_count unborn
+  pub processes : node.processes ≡ replicate process_count unborn_process
   pub polling : node.polling ≡ []
   pub store : IsRising node.store
 
-idle-process : (node : Node) (pid : ℕ) → IsIdle node → process_at node pid ≡ unborn
+idle-process : (node : Node) (pid : ℕ) → IsIdle node → process_at node pid ≡ unborn_process
 idle-process node pid idle =
-    ap (λ ps. slice_index_or ps pid unborn) idle.processes
-    ∙ elim (cases_lt pid process_count) as (λ _. slice_index_or (replicate process_count unborn) pid unborn ≡ unborn) [
-      | inl within ↦ get_or-replicate process_count pid unborn unborn within
-      | inr past ↦ get_or_past (replicate process_count unborn) pid unborn (omega (arith, past, length-replicate process_count unborn))
+    ap (λ ps. slice_index_or ps pid unborn_process) idle.processes
+    ∙ elim (cases_lt pid process_count) as (λ _. slice_index_or (replicate process_count unborn_process) pid unborn_process ≡ unborn_process) [
+      | inl within ↦ get_or-replicate process_count pid unborn_process unborn_process within
+      | inr past ↦ get_or_past (replicate process_count unborn_process) pid unborn_process (omega (arith, past, length-replicate process_count unborn_process))
     ]
 
 pub idle-blocks : (node : Node) → IsIdle node → blocks_of node ≡ node.store
@@ -76,7 +76,7 @@ idle-blocks node idle =
     ap (λ ps. node.store ++ flat_map (λ (p : Process). mapped_ids p.space) ps) idle.processes
     ∙ ap (λ ids. node.store ++ ids) (ids-unborn process_count) ∙ append-nil node.store
 
-well_unborn : (pid : ℕ) → IsWellProcess None pid unborn
+well_unborn : (pid : ℕ) → IsWellProcess None pid unborn_process
 well_unborn pid = record {
   registers = length-replicate {A = ℕ} register_count 0;
   windows = omega arith;
@@ -87,7 +87,7 @@ well_unborn pid = record {
 
 pub idle-well : (node : Node) → IsIdle node → IsWell None node
 idle-well node idle = record {
-  process_ids = ap {B = ℕ} length idle.processes ∙ length-replicate process_count unborn;
+  process_ids = ap {B = ℕ} length idle.processes ∙ length-replicate process_count unborn_process;
   processes = λ pid within. subst (IsWellProcess None pid) (sym (idle-process node pid idle)) (well_unborn pid);
   polling = λ pid. ap (polls pid) idle.polling ∙ sym (ap {B = ℕ} (λ (p : Process). if is_polling p.status then 1 else 0) (idle-process node pid idle));
   store = idle.store;

@@ -3,8 +3,8 @@ use Rattle.std.proofs.Common.{◌≡◌, ℕ, ◌<◌, List, length, slice_set, 
 use Rattle.std.proofs.lemmas.List.{get_or-set_same}
 use Rattle.rv_model.specs.declared.stop.Stop.{Stop}
 use Rattle.ce_model.specs.declared.process.Status.TheVariants.{Stopped}
-use Rattle.ce_model.specs.Space.{emptied}
-use Rattle.ce_model.specs.Process.{Process, unborn}
+use Rattle.ce_model.specs.Space.{emptied_space}
+use Rattle.ce_model.specs.Process.{Process, unborn_process}
 use Rattle.ce_model.specs.Node.{Node, process_at, with_process, without_poller, with_stopped}
 use Rattle.ce_model.specs.Kernel.{with_space}
 use Rattle.rk_node.specs.Moves.{with_status, released_node}
@@ -12,9 +12,9 @@ use Rattle.rk_node.proofs.Processes.{set-twice}
 
 -- a process that changes and changes again
 pub changed-twice : (ps : List Process) (pid : ℕ) (p : Process) (change : Process → Process) → pid < length ps
-    → slice_set (slice_set ps pid p) pid (change (slice_index_or (slice_set ps pid p) pid unborn)) ≡ slice_set ps pid (change p)
+    → slice_set (slice_set ps pid p) pid (change (slice_index_or (slice_set ps pid p) pid unborn_process)) ≡ slice_set ps pid (change p)
 changed-twice ps pid p change h =
-    set-twice ps pid p (change (slice_index_or (slice_set ps pid p) pid unborn)) ∙ ap (λ q. slice_set ps pid (change q)) (get_or-set_same ps pid p unborn h)
+    set-twice ps pid p (change (slice_index_or (slice_set ps pid p) pid unborn_process)) ∙ ap (λ q. slice_set ps pid (change q)) (get_or-set_same ps pid p unborn_process h)
 
 pub stopped-steps : (node a b d : Node) (pid : ℕ) (cause : Stop) → pid < length node.processes → a ≡ released_node pid node
     → b ≡ with_process a pid (with_status (Stopped cause) (process_at a pid)) → d ≡ record b { polling = without_poller pid b.polling }
@@ -25,4 +25,4 @@ stopped-steps node a b d pid cause h first next last =
     ∙ ap (λ (n : Node). record n { polling = without_poller pid n.polling; turn = None }) next
     ∙ ap (λ (n : Node). record (with_process n pid (with_status (Stopped cause) (process_at n pid))) { polling = without_poller pid n.polling; turn = None }) first
     ∙ ap (λ ps. record (with_stopped node pid p cause) { processes = ps })
-    (changed-twice node.processes pid (with_space p (emptied p.space)) (with_status (Stopped cause)) h)
+    (changed-twice node.processes pid (with_space p (emptied_space p.space)) (with_status (Stopped cause)) h)

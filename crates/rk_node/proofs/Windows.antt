@@ -110,21 +110,18 @@ used-held owns (mapping ∷ mappings) pid w block within held = elim (cases_Bool
 -- ---- the names of the blocks of a process
 
 -- the mappings of a process are of windows from one on, and below another
-abbrev Between : ℕ → ℕ → ℕ → List Mapping → Type 0
-Between pid a n mappings = AllByRecursion (λ (mapping : Mapping). mapping.pid ≡ pid → (a ≤ mapping.window) × (mapping.window < a + n)) mappings
-
-abbrev Rises : List Mapping → Type 0
-Rises mappings = AreRising (map place_of mappings)
+abbrev AreBetween : ℕ → ℕ → ℕ → List Mapping → Type 0
+AreBetween pid a n mappings = AllByRecursion (λ (mapping : Mapping). mapping.pid ≡ pid → (a ≤ mapping.window) × (mapping.window < a + n)) mappings
 
 abbrev ids_between : ℕ → ℕ → ℕ → List Mapping → List BlockId
 ids_between pid a n mappings = ids_at (map (held_at mappings pid) (range_with_len a n))
 
 -- the claim for a run of windows
-abbrev SameIds : ℕ → ℕ → Type 0
-SameIds pid n = (a : ℕ) (mappings : List Mapping) → Rises mappings → Between pid a n mappings → ids_between pid a n mappings ≡ ids_of (blocks_of pid mappings)
+abbrev HasSameIds : ℕ → ℕ → Type 0
+HasSameIds pid n = (a : ℕ) (mappings : List Mapping) → AreRising (map place_of mappings) → AreBetween pid a n mappings → ids_between pid a n mappings ≡ ids_of (blocks_of pid mappings)
 
 behind : (pid a n : ℕ) (mapping : Mapping) (mappings : List Mapping) → mapping.pid ≡ pid → AllByRecursion (λ other. is_place_before (place_of mapping) other ≡ true) (map place_of mappings)
-    → Between pid a (suc n) mappings → a ≤ mapping.window → Between pid (a + 1) n mappings
+    → AreBetween pid a (suc n) mappings → a ≤ mapping.window → AreBetween pid (a + 1) n mappings
 behind pid a n mapping [] own before within low = tt
 behind pid a n mapping (other ∷ mappings) own before within low = (
   λ same. let at = within.0 same in
@@ -132,14 +129,14 @@ behind pid a n mapping (other ∷ mappings) own before within low = (
   behind pid a n mapping mappings own before.1 within.1 low,
 )
 
-vacant-below : (pid a n w : ℕ) (mappings : List Mapping) → Between pid a n mappings → w < a → held_at mappings pid w ≡ None
+vacant-below : (pid a n w : ℕ) (mappings : List Mapping) → AreBetween pid a n mappings → w < a → held_at mappings pid w ≡ None
 vacant-below pid a n w [] within low = refl
 vacant-below pid a n w (mapping ∷ mappings) within low = elim (cases_Bool (is_at pid w mapping)) [
   | inl t ↦ (let parts = at-parts pid w mapping t in let at = within.0 parts.0 in absurd (omega (arith, parts.1)))
   | inr f ↦ rw f (vacant-below pid a n w mappings within.1 low)
 ]
 
-none_between : (pid a : ℕ) (mappings : List Mapping) → Between pid a 0 mappings → blocks_of pid mappings ≡ []
+none_between : (pid a : ℕ) (mappings : List Mapping) → AreBetween pid a 0 mappings → blocks_of pid mappings ≡ []
 none_between pid a [] within = refl
 none_between pid a (mapping ∷ mappings) within = elim (cases_Bool (mapping.pid == pid)) [
   | inl t ↦ (let at = within.0 (eqb-true mapping.pid pid t) in absurd (omega arith))
@@ -152,7 +149,7 @@ other-front pid a n mapping mappings f =
     ap ids_at (map-same (held_at mappings pid) (held_at (mapping ∷ mappings) pid) a n (λ w low high.
     let apart : is_at pid w mapping ≡ false = grind (arith, nat_tests) in rw apart refl))
 
-more_ids : (pid n : ℕ) → SameIds pid n → SameIds pid (suc n)
+more_ids : (pid n : ℕ) → HasSameIds pid n → HasSameIds pid (suc n)
 more_ids pid n fewer a [] rise within = fewer (a + 1) [] tt tt
 more_ids pid n fewer a (mapping ∷ mappings) rise within = elim (cases_Bool (mapping.pid == pid)) [
   | inr f ↦ other-front pid a (suc n) mapping mappings f ∙ more_ids pid n fewer a mappings rise.1 within.1 ∙ rw f refl
@@ -167,17 +164,17 @@ more_ids pid n fewer a (mapping ∷ mappings) rise within = elim (cases_Bool (ma
             ap (λ x. ids_at (x ∷ map (held_at (mapping ∷ mappings) pid) (range_with_len (a + 1) n))) first
             ∙ ap (λ xs. mapping.block.id ∷ ids_at xs) others ∙ ap (λ ids. mapping.block.id ∷ ids) (fewer (a + 1) mappings rise.1 rest) ∙ rw t refl)
         | inr later ↦ (let up : a < mapping.window = grind (arith, nat_tests, at) in
-            let within' : Between pid (a + 1) n (mapping ∷ mappings) = (λ same. (omega arith, omega (arith, at)), rest) in
+            let within' : AreBetween pid (a + 1) n (mapping ∷ mappings) = (λ same. (omega arith, omega (arith, at)), rest) in
             let first : held_at (mapping ∷ mappings) pid a ≡ None = vacant-below pid (a + 1) n a (mapping ∷ mappings) within' (omega arith) in
             ap (λ x. ids_at (x ∷ map (held_at (mapping ∷ mappings) pid) (range_with_len (a + 1) n))) first ∙ fewer (a + 1) (mapping ∷ mappings) rise within')
       ])
 ]
 
-same_ids : (pid n : ℕ) → SameIds pid n
+same_ids : (pid n : ℕ) → HasSameIds pid n
 same_ids pid zero = λ a mappings rise within. sym (ap ids_of (none_between pid a mappings within))
 same_ids pid (suc n) = more_ids pid n (same_ids pid n)
 
-between-used : (owns : List Own) (pid : ℕ) (mappings : List Mapping) → AreWithin owns (map place_of mappings) → Between pid 0 (used_by owns pid) mappings
+between-used : (owns : List Own) (pid : ℕ) (mappings : List Mapping) → AreWithin owns (map place_of mappings) → AreBetween pid 0 (used_by owns pid) mappings
 between-used owns pid [] within = tt
 between-used owns pid (mapping ∷ mappings) within = (
   λ same. let used : used_by owns mapping.pid ≡ used_by owns pid = ap (used_by owns) same in (omega arith, omega (arith, within.0)),

@@ -6,8 +6,8 @@ use Rattle.ce_model.specs.Limits.{process_count}
 use Rattle.ce_model.specs.Parcels.{Parcel, mail, is_eligible}
 use Rattle.ce_model.specs.Process.{is_receiving, is_stopped}
 use Rattle.ce_model.specs.Node.{Call, takes, take_of, ids_of, process_at, blocks_of}
-use Rattle.rk_mail.specs.declared.talk.Heard.{Heard}
-use Rattle.rk_mail.specs.declared.talk.Heard.TheVariants.{Start, Mail, Kill, Poll}
+use Rattle.rk_mail.specs.declared.talk.Hearing.{Hearing}
+use Rattle.rk_mail.specs.declared.talk.Hearing.TheVariants.{Start, Mail, Kill, Poll}
 use Rattle.rk_mail.specs.Items.{parcel_of}
 use Rattle.rk_mail.specs.Talk.{IsAnswerTo}
 use Rattle.rk_node.specs.declared.out.Out.TheVariants.{Nothing}
@@ -27,7 +27,7 @@ pub record IsForBox (box : Box) (parcel : Parcel) : Type 0 where
 
 -- what is asked for is the node's: the start of a process that wasn't started, of an image of the list, a parcel for it, the end
 -- of a process that was started, or a poll of the one that polls longest
-abbrev pub IsWork : List ImageParts → Box → Heard → Type 0
+abbrev pub IsWork : List ImageParts → Box → Hearing → Type 0
 IsWork images box (Start pid image) = (pid < process_count) × ((process_at box.node pid).status ≡ Unborn) × (image < length images)
 IsWork images box (Mail parcel) = IsForBox box (parcel_of parcel)
 IsWork images box (Kill pid) = (pid < process_count) × ¬ ((process_at box.node pid).status ≡ Unborn)
@@ -35,7 +35,7 @@ IsWork images box (Poll pid) = slice_get box.node.polling 0 ≡ Some pid
 IsWork images box other = Unit {0}
 
 -- the box can hear this answer: it is one to the call that it has said, and its work is the node's
-pub record IsAbleToHear (images : List ImageParts) (box : Box) (heard : Heard) : Type 0 where
+pub record IsAbleToHear (images : List ImageParts) (box : Box) (heard : Hearing) : Type 0 where
   pub call : Call
   pub said : HasSaid box call
   pub answer : IsAnswerTo call heard

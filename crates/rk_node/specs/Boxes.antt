@@ -2,7 +2,7 @@
 use Rattle.std.specs.Prelude.{◌≡◌, ℕ, ◌<◌, ◌≤◌, [], length, replicate, None}
 use Rattle.ce_model.specs.Limits.{process_count, greatest_blocks}
 use Rattle.ce_model.specs.Blocks.{blocks_of_home}
-use Rattle.ce_model.specs.Process.{unborn}
+use Rattle.ce_model.specs.Process.{unborn_process}
 use Rattle.ce_model.specs.Node.{Node, fresh, blocks_of}
 use Rattle.rk_node.specs.declared.out.Out.{Out}
 use Rattle.rk_node.specs.declared.out.Out.TheVariants.{Nothing}
@@ -25,7 +25,7 @@ pub record IsClean (box : Box) : Type 0 where
 
 -- the node of a box that is emptied: no block is there, no process was started, none polls, and there is no turn
 abbrev pub scrubbed_node : Node → Node
-scrubbed_node node = record node { processes = replicate process_count unborn; store = []; polling = []; turn = None }
+scrubbed_node node = record node { processes = replicate process_count unborn_process; store = []; polling = []; turn = None }
 
 -- the box has room for a block more
 abbrev pub HasRoomFor : Box → Type 0

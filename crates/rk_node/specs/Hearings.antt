@@ -9,14 +9,14 @@ use Rattle.ce_model.specs.Blocks.{Block}
 use Rattle.ce_model.specs.Space.{mapped_ids}
 use Rattle.ce_model.specs.Node as model
 use Rattle.ce_solo.proofs.Counting.{count}
-use Rattle.xm_block.specs.Stores.{Kept, ids_of}
-use Rattle.rk_mail.specs.declared.talk.Heard.{Heard}
-use Rattle.rk_mail.specs.declared.talk.Heard.TheVariants.{Start, Mail, Kill, Poll, Posted}
+use Rattle.xm_block.specs.Stores.{KeptBlock, ids_of}
+use Rattle.rk_mail.specs.declared.talk.Hearing.{Hearing}
+use Rattle.rk_mail.specs.declared.talk.Hearing.TheVariants.{Start, Mail, Kill, Poll, Posted}
 use Rattle.rk_node.specs.declared.node.Node.{Node}
 use Rattle.rk_node.specs.Stocked.{HasRoom}
 
 -- what the node can be asked to do
-abbrev pub IsWorkOf : List ImageParts → model.Node → Heard → Type 0
+abbrev pub IsWorkOf : List ImageParts → model.Node → Hearing → Type 0
 IsWorkOf images node (Start pid image) = (pid < process_count) × ((model.process_at node pid).status ≡ Unborn) × (image < length images)
 IsWorkOf images node (Mail parcel) =
     (node.turn ≡ None) × (parcel.to.pid < process_count) × (count parcel.block.id (model.blocks_of node) ≡ 0)
@@ -25,12 +25,12 @@ IsWorkOf images node (Poll pid) = pid < process_count
 IsWorkOf images node other = Unit {0}
 
 -- there is room for a parcel's block
-abbrev pub HasRoomFor : Heard → Node → Type 0
+abbrev pub HasRoomFor : Hearing → Node → Type 0
 HasRoomFor (Mail parcel) node = HasRoom node
 HasRoomFor other node = Unit {0}
 
 -- the spare batch comes back with the answer to a message
-abbrev pub batch_after : Heard → Option (List (Place × Block)) → Option (List (Place × Block))
+abbrev pub batch_after : Hearing → Option (List (Place × Block)) → Option (List (Place × Block))
 batch_after (Posted batch) before = Some batch
 batch_after other before = before
 
@@ -39,5 +39,5 @@ abbrev pub ids_in : ℕ → model.Node → List BlockId
 ids_in pid node = mapped_ids (model.process_at node pid).space
 
 -- no two of these names and of those in a store are the same
-pub record AreApartFrom (ids : List BlockId) (store : Kept) : Type 0 where
+pub record AreApartFrom (ids : List BlockId) (store : KeptBlock) : Type 0 where
   pub apart : (id : BlockId) → count id (ids ++ ids_of store.blocks) ≤ 1

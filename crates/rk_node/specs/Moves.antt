@@ -4,10 +4,10 @@ use Rattle.rv_model.specs.declared.stop.Stop.{Stop}
 use Rattle.rv_model.specs.declared.stop.Stop.TheVariants.{Exited}
 use Rattle.ce_model.specs.declared.process.Status.{Status}
 use Rattle.ce_model.specs.Blocks.{Block, put_all}
-use Rattle.ce_model.specs.Space.{mapped, emptied, mapped_ids}
+use Rattle.ce_model.specs.Space.{mapped_space, emptied_space, mapped_ids}
 use Rattle.ce_model.specs.Process.{Process, argument}
 use Rattle.ce_model.specs.Node as model
-use Rattle.ce_model.specs.Kernel.{Did, returns, says_call, stops, with_space}
+use Rattle.ce_model.specs.Kernel.{CallOutcome, returns, says_call, stops, with_space}
 use Rattle.rk_node.specs.declared.node.Node.{Node}
 use Rattle.rk_node.specs.Boxes.{fresh_at}
 use Rattle.rk_node.specs.Standing.{node_of}
@@ -19,12 +19,12 @@ with_status status p = record p { status = status }
 
 -- the block is mapped at the next window of the process
 abbrev pub with_mapped : Block → Process → Process
-with_mapped block p = with_space p (mapped block p.space)
+with_mapped block p = with_space p (mapped_space block p.space)
 
 -- the blocks of a process are in the store
 abbrev pub released_node : ℕ → model.Node → model.Node
 released_node pid node = record node {
-  processes = slice_set node.processes pid (with_space (model.process_at node pid) (emptied (model.process_at node pid).space));
+  processes = slice_set node.processes pid (with_space (model.process_at node pid) (emptied_space (model.process_at node pid).space));
   store = put_all (mapped_ids (model.process_at node pid).space) node.store;
 }
 
@@ -42,19 +42,19 @@ pub record IsNew (home room : ℕ) (node : Node) : Type 0 where
 
 -- ---- calls that a line tells
 
-abbrev pub mynode : model.Node → model.Turn → Process → Did
+abbrev pub mynode : model.Node → model.Turn → Process → CallOutcome
 mynode node turn p = returns node turn p node.number
 
-abbrev pub mypid : model.Node → model.Turn → Process → Did
+abbrev pub mypid : model.Node → model.Turn → Process → CallOutcome
 mypid node turn p = returns node turn p turn.pid
 
-abbrev pub nnodes : model.Node → model.Turn → Process → Did
+abbrev pub nnodes : model.Node → model.Turn → Process → CallOutcome
 nnodes node turn p = returns node turn p (2 ^ node.dim)
 
-abbrev pub exit : model.Node → model.Turn → Process → Did
+abbrev pub exit : model.Node → model.Turn → Process → CallOutcome
 exit node turn p = stops node turn p (Exited (argument p 0))
 
-abbrev pub note : model.Node → model.Turn → Process → Did
+abbrev pub note : model.Node → model.Turn → Process → CallOutcome
 note node turn p = says_call node turn p (model.notes turn.pid (argument p 0))
 
 -- the numbers of the calls that a turn's limit counts

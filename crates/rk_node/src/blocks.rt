@@ -10,7 +10,7 @@ ghost use Rattle.rk_node.specs.Moves.{with_mapped, IsNamed};
 ghost use Rattle.rk_node.specs.Wording.{HasMade};
 
 use crate::node::Node;
-use crate::turn::{Did, Turn};
+use crate::turn::{CallEnd, Turn};
 use ce_model::{BLOCK_ROOM, Stop, WINDOW_BASE, WINDOW_COUNT, WINDOW_SIZE};
 use xm_block::Block;
 
@@ -96,7 +96,7 @@ impl Node {
     }
 
     /// The call returns at once.
-    pub fn returns(&mut self, turn: Turn, value: u32) -> Did
+    pub fn returns(&mut self, turn: Turn, value: u32) -> CallEnd
         requires stocked { IsStocked self.old }
         requires pid { turn.pid < process_count }
         requires batch { self.old.batch ≡ Some [] }
@@ -104,22 +104,22 @@ impl Node {
             self.old self.new (turn_of turn) (turn_of turn) result }
     {
         self.answer(turn.pid, value);
-        Did::GoesOn
+        CallEnd::GoesOn
     }
 
     /// The process of the turn stops.
-    pub fn stops(&mut self, turn: Turn, cause: Stop) -> Did
+    pub fn stops(&mut self, turn: Turn, cause: Stop) -> CallEnd
         requires { IsInTurn self.old (turn_of turn) }
         ensures { HasMade (λ node turn p. stops node turn p cause)
             self.old self.new (turn_of turn) (turn_of turn) result }
     {
         self.stop(turn.pid, cause);
-        Did::TurnEnds
+        CallEnd::TurnEnds
     }
 
     /// xmalloc: the store's least block is mapped at the next window, with so many zero bytes; where that can't be, the answer
     /// is 0.
-    pub fn xmalloc(&mut self, turn: Turn) -> Did
+    pub fn xmalloc(&mut self, turn: Turn) -> CallEnd
         requires { IsInTurn self.old (turn_of turn) }
         ensures { HasMade xmalloc self.old self.new (turn_of turn) (turn_of turn) result }
     {
@@ -143,7 +143,7 @@ impl Node {
     }
 
     /// The store's least block is mapped at the next window; where the store is empty, the answer is 0.
-    fn maps_least(&mut self, turn: Turn, length: u32) -> Did
+    fn maps_least(&mut self, turn: Turn, length: u32) -> CallEnd
         requires ready { IsInTurn self.old (turn_of turn) }
         requires length { length ≤ block_room }
         requires unused { IsTrue
@@ -162,7 +162,7 @@ impl Node {
     }
 
     /// xfree: the block goes to the store.
-    pub fn xfree(&mut self, turn: Turn) -> Did
+    pub fn xfree(&mut self, turn: Turn) -> CallEnd
         requires { IsInTurn self.old (turn_of turn) }
         ensures { HasMade xfree self.old self.new (turn_of turn) (turn_of turn) result }
     {
@@ -173,7 +173,7 @@ impl Node {
     }
 
     /// The block at a window goes to the store, and the answer is 0.
-    pub fn frees(&mut self, turn: Turn, window: u32) -> Did
+    pub fn frees(&mut self, turn: Turn, window: u32) -> CallEnd
         requires ready { IsInTurn self.old (turn_of turn) }
         requires held { IsSome (held_at self.old.held.mappings turn.pid window) }
         ensures { IfSome (held_at self.old.held.mappings turn.pid window)
@@ -186,7 +186,7 @@ impl Node {
     }
 
     /// xlength: the block's length.
-    pub fn xlength(&mut self, turn: Turn) -> Did
+    pub fn xlength(&mut self, turn: Turn) -> CallEnd
         requires { IsInTurn self.old (turn_of turn) }
         ensures { HasMade xlength self.old self.new (turn_of turn) (turn_of turn) result }
     {

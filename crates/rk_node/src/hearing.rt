@@ -1,7 +1,7 @@
 ghost use Rattle.std.specs.Prelude.{◌≡◌, ◌<◌, [], Some, None};
 ghost use Rattle.ce_model.specs.declared.process.Status.{Status};
 ghost use Rattle.ce_model.specs.Limits.{process_count};
-ghost use Rattle.ce_model.specs.Process.{started};
+ghost use Rattle.ce_model.specs.Process.{started_process};
 ghost use Rattle.ce_model.specs.Node.{process_at, blocks_of};
 ghost use Rattle.ce_model.specs.Hearing.{mail_of, kill_of, told, begins, begins_with, gets, hears};
 ghost use Rattle.ce_solo.proofs.Counting.{count};
@@ -15,12 +15,12 @@ use crate::node::Node;
 use crate::saying::{is_receiving, is_stopped};
 use crate::turn::Turn;
 use ce_model::{Status, Stop, TURN_INSTRUCTIONS};
-use rk_mail::{Batch, Heard, Parcel};
+use rk_mail::{Batch, Hearing, Parcel};
 use rv_image::Image;
 
 impl Node {
     /// What the node becomes by the answer to its call.
-    pub fn hears(&mut self, images: &[Image], heard: Heard)
+    pub fn hears(&mut self, images: &[Image], heard: Hearing)
         requires ready { IsHearing self.old }
         requires work { IsWorkOf images.now (node_of self.old) heard }
         requires room { HasRoomFor heard self.old }
@@ -30,19 +30,19 @@ impl Node {
         ensures room { self.new.room ≡ self.old.room }
     {
         match heard {
-            Heard::Start { pid, image } => self.starts(pid, &images[image as usize]),
-            Heard::Mail(parcel) => self.has_mail(parcel),
-            Heard::Kill { pid } => self.is_killed(pid),
-            Heard::Poll { pid } => self.begins_with(pid, 0),
-            Heard::Idle => {}
-            Heard::Spent => {}
-            Heard::Noted => {}
-            Heard::Posted(batch) => self.regains(batch),
-            Heard::Spawned => self.tells(0),
-            Heard::Killed => self.tells(0),
-            Heard::Used => self.tells(2),
-            Heard::Unused => self.tells(2),
-            Heard::Already => self.tells(3),
+            Hearing::Start { pid, image } => self.starts(pid, &images[image as usize]),
+            Hearing::Mail(parcel) => self.has_mail(parcel),
+            Hearing::Kill { pid } => self.is_killed(pid),
+            Hearing::Poll { pid } => self.begins_with(pid, 0),
+            Hearing::Idle => {}
+            Hearing::Spent => {}
+            Hearing::Noted => {}
+            Hearing::Posted(batch) => self.regains(batch),
+            Hearing::Spawned => self.tells(0),
+            Hearing::Killed => self.tells(0),
+            Hearing::Used => self.tells(2),
+            Hearing::Unused => self.tells(2),
+            Hearing::Already => self.tells(3),
         }
     }
 
@@ -85,7 +85,8 @@ impl Node {
         requires pid { pid < process_count }
         requires unborn { (process_at (node_of self.old) pid).status ≡ Status.Unborn }
         requires unused { (process_at (node_of self.old) pid).space.windows ≡ [] }
-        ensures node { node_of self.new ≡ begins (node_of self.old) pid (started image.now) }
+        ensures node { node_of self.new
+            ≡ begins (node_of self.old) pid (started_process image.now) }
         ensures stocked { IsStocked self.new }
         ensures batch { self.new.batch ≡ self.old.batch }
         ensures room { self.new.room ≡ self.old.room }

@@ -6,14 +6,15 @@ ghost use Rattle.rk_node.specs.Wording.{HasMade};
 ghost use Rattle.rk_node.specs.Moves.{mynode, mypid, nnodes, exit, is_counted_at};
 
 use crate::node::Node;
-use crate::turn::{Did, Turn};
+use crate::turn::{CallEnd, Turn};
 use ce_model::{Stop, TURN_CALLS};
 
 impl Node {
     /// The call that the turn's process has made.
-    pub fn kernel(&mut self, turn: &mut Turn) -> Did
+    pub fn kernel(&mut self, turn: &mut Turn) -> CallEnd
         requires { IsInTurn self.old (turn_of turn.old) }
-        ensures made { HasMade kernel self.old self.new (turn_of turn.old) (turn_of turn.new) result }
+        ensures made { HasMade kernel self.old self.new (turn_of turn.old) (turn_of turn.new)
+            result }
         ensures left { turn.new.left ≡ turn.old.left }
     {
         let number = self.argument(turn.pid, 7);
@@ -33,7 +34,7 @@ impl Node {
     }
 
     /// A call that counts, whatever it answers: the one past the turn's limit isn't made.
-    fn counted(&mut self, number: u32, turn: &mut Turn) -> Did
+    fn counted(&mut self, number: u32, turn: &mut Turn) -> CallEnd
         requires ready { IsInTurn self.old (turn_of turn.old) }
         requires counted { IsTrue (is_counted_at number) }
         ensures made { HasMade (kernel_does (kernel_call number))
@@ -54,7 +55,7 @@ impl Node {
     }
 
     /// mynode: the node's number in its cube.
-    fn mynode(&mut self, turn: Turn) -> Did
+    fn mynode(&mut self, turn: Turn) -> CallEnd
         requires { IsInTurn self.old (turn_of turn) }
         ensures { HasMade mynode self.old self.new (turn_of turn) (turn_of turn) result }
     {
@@ -62,7 +63,7 @@ impl Node {
     }
 
     /// mypid: the process's id.
-    fn mypid(&mut self, turn: Turn) -> Did
+    fn mypid(&mut self, turn: Turn) -> CallEnd
         requires { IsInTurn self.old (turn_of turn) }
         ensures { HasMade mypid self.old self.new (turn_of turn) (turn_of turn) result }
     {
@@ -70,7 +71,7 @@ impl Node {
     }
 
     /// nnodes: how many nodes the cube has.
-    fn nnodes(&mut self, turn: Turn) -> Did
+    fn nnodes(&mut self, turn: Turn) -> CallEnd
         requires { IsInTurn self.old (turn_of turn) }
         ensures { HasMade nnodes self.old self.new (turn_of turn) (turn_of turn) result }
     {
@@ -78,7 +79,7 @@ impl Node {
     }
 
     /// exit: the process stops.
-    fn exit(&mut self, turn: Turn) -> Did
+    fn exit(&mut self, turn: Turn) -> CallEnd
         requires { IsInTurn self.old (turn_of turn) }
         ensures { HasMade exit self.old self.new (turn_of turn) (turn_of turn) result }
     {

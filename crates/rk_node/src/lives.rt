@@ -5,12 +5,12 @@ ghost use Rattle.rk_node.specs.Wording.{HasMade};
 ghost use Rattle.rk_node.specs.Moves.{note};
 
 use crate::node::Node;
-use crate::turn::{Did, Turn};
+use crate::turn::{CallEnd, Turn};
 use rk_mail::Say;
 
 impl Node {
     /// spawn: an image is to be started as a process at a place.
-    pub fn spawn(&mut self, turn: Turn) -> Did
+    pub fn spawn(&mut self, turn: Turn) -> CallEnd
         requires { IsInTurn self.old (turn_of turn) }
         ensures { HasMade spawn self.old self.new (turn_of turn) (turn_of turn) result }
     {
@@ -33,7 +33,7 @@ impl Node {
     }
 
     /// ckill: the process at a place is to be ended.
-    pub fn ckill(&mut self, turn: Turn) -> Did
+    pub fn ckill(&mut self, turn: Turn) -> CallEnd
         requires { IsInTurn self.old (turn_of turn) }
         ensures { HasMade ckill self.old self.new (turn_of turn) (turn_of turn) result }
     {
@@ -45,7 +45,7 @@ impl Node {
     }
 
     /// note: the word goes into the trace.
-    pub fn note(&mut self, turn: Turn) -> Did
+    pub fn note(&mut self, turn: Turn) -> CallEnd
         requires { IsInTurn self.old (turn_of turn) }
         ensures { HasMade note self.old self.new (turn_of turn) (turn_of turn) result }
     {

@@ -11,7 +11,7 @@ ghost use Rattle.rk_node.specs.Stocked.{IsStocked, IsInTurn};
 ghost use Rattle.rk_node.specs.Wording.{HasMade};
 
 use crate::node::Node;
-use crate::turn::{Did, Turn};
+use crate::turn::{CallEnd, Turn};
 use ce_model::{GREATEST_TARGETS, HOST, PROCESS_COUNT, Place, Status, Stop};
 use rk_mail::{Batch, Say};
 
@@ -59,12 +59,12 @@ impl Node {
     }
 
     /// The call of the turn's process leaves the node.
-    pub fn says_call(&mut self, turn: Turn, say: Say) -> Did
-        ensures result { result ≡ Did.Leaves say }
+    pub fn says_call(&mut self, turn: Turn, say: Say) -> CallEnd
+        ensures result { result ≡ CallEnd.Leaves say }
         ensures after { self.new ≡ record self.old { turn = Some turn } }
     {
         self.turn = Some(turn);
-        Did::Leaves(say)
+        CallEnd::Leaves(say)
     }
 
     /// Takes the spare batch.
@@ -80,7 +80,7 @@ impl Node {
     }
 
     /// xsend: the block leaves the process, for one place.
-    pub fn xsend(&mut self, turn: Turn) -> Did
+    pub fn xsend(&mut self, turn: Turn) -> CallEnd
         requires { IsInTurn self.old (turn_of turn) }
         ensures { HasMade xsend self.old self.new (turn_of turn) (turn_of turn) result }
     {
@@ -91,7 +91,7 @@ impl Node {
     }
 
     /// Sends the block at a window to the place that the call names, if it is one.
-    fn sends_block(&mut self, turn: Turn, window: u32) -> Did
+    fn sends_block(&mut self, turn: Turn, window: u32) -> CallEnd
         requires ready { IsInTurn self.old (turn_of turn) }
         requires held { IsSome (held_at self.old.held.mappings turn.pid window) }
         ensures { IfSome (held_at self.old.held.mappings turn.pid window)
@@ -115,7 +115,7 @@ impl Node {
     }
 
     /// xmsend: the block leaves the process for several places, each further one of which gets a copy.
-    pub fn xmsend(&mut self, turn: Turn) -> Did
+    pub fn xmsend(&mut self, turn: Turn) -> CallEnd
         requires { IsInTurn self.old (turn_of turn) }
         ensures { HasMade xmsend self.old self.new (turn_of turn) (turn_of turn) result }
     {
@@ -126,7 +126,7 @@ impl Node {
     }
 
     /// Reads the whole list of places, and sends the block at a window to them.
-    fn xmsend_block(&mut self, turn: Turn, window: u32) -> Did
+    fn xmsend_block(&mut self, turn: Turn, window: u32) -> CallEnd
         requires ready { IsInTurn self.old (turn_of turn) }
         requires held { IsSome (held_at self.old.held.mappings turn.pid window) }
         ensures { IfSome (held_at self.old.held.mappings turn.pid window)
@@ -190,7 +190,7 @@ impl Node {
 
     /// Sends the block at a window to these places: the first gets the block, each further one a copy in the store's least
     /// block.
-    fn sends_copies(&mut self, turn: Turn, window: u32, places: &[Place]) -> Did
+    fn sends_copies(&mut self, turn: Turn, window: u32, places: &[Place]) -> CallEnd
         requires ready { IsInTurn self.old (turn_of turn) }
         requires held { IsSome (held_at self.old.held.mappings turn.pid window) }
         requires few { length places.now ≤ greatest_targets }
@@ -252,23 +252,23 @@ impl Node {
     }
 
     /// xrecv: the process polls, behind those that poll already, and its turn is over.
-    pub fn xrecv(&mut self, turn: Turn) -> Did
+    pub fn xrecv(&mut self, turn: Turn) -> CallEnd
         requires { IsInTurn self.old (turn_of turn) }
         ensures { HasMade xrecv self.old self.new (turn_of turn) (turn_of turn) result }
     {
         self.set_status(turn.pid, Status::Polling);
         self.polling.push_back_reserved(turn.pid);
         self.turn = None;
-        Did::TurnEnds
+        CallEnd::TurnEnds
     }
 
     /// xrecvb: the process waits for a message, and its turn is over.
-    pub fn xrecvb(&mut self, turn: Turn) -> Did
+    pub fn xrecvb(&mut self, turn: Turn) -> CallEnd
         requires { IsInTurn self.old (turn_of turn) }
         ensures { HasMade xrecvb self.old self.new (turn_of turn) (turn_of turn) result }
     {
         self.set_status(turn.pid, Status::Asking);
         self.turn = None;
-        Did::TurnEnds
+        CallEnd::TurnEnds
     }
 }

@@ -18,7 +18,7 @@ use rk_process::Process;
 use std::alloc::Global;
 use std::collections::VecDeque;
 use xm_block::{Block, Store};
-use xm_owner::Held;
+use xm_owner::HeldBlocks;
 
 /// The register of a kernel call's first argument.
 const A0: u32 = 10;
@@ -34,7 +34,7 @@ pub(crate) struct Node {
     pub dim: u32,
     pub images: u32,
     pub processes: Vec<Process>,
-    pub held: Held,
+    pub held: HeldBlocks,
     pub store: Store,
     pub polling: VecDeque<u32>,
     pub turn: Option<Turn>,
@@ -54,7 +54,7 @@ impl Node {
             dim: 0,
             images: 0,
             processes: unborn_processes(alloc)?,
-            held: Held::new(alloc, room)?,
+            held: HeldBlocks::new(alloc, room)?,
             store: Store::of_home(alloc, home, room)?,
             polling: VecDeque::with_capacity(alloc, PROCESS_COUNT as usize)?,
             turn: None,

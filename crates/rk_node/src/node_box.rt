@@ -17,7 +17,7 @@ use crate::node::Node;
 use crate::out::{Out, out_by};
 use ce_daemon::Homed;
 use ce_model::{NoMemory, Status};
-use rk_mail::{Heard, Say};
+use rk_mail::{Hearing, Say};
 use rv_image::Image;
 use std::alloc::Global;
 use std::marker::Model;
@@ -94,7 +94,7 @@ impl NodeBox {
     }
 
     /// Hears the answer to the call that it said. The list has as many images as `enter` was told.
-    pub fn hears(&mut self, images: &[Image], heard: Heard)
+    pub fn hears(&mut self, images: &[Image], heard: Hearing)
         requires images { length images.now ≡ self.old.node.images }
         requires heard { IsAbleToHear images.now self.old heard }
         ensures node { self.new.node ≡ hears images.now self.old.node (heard_as heard) }

@@ -1,5 +1,5 @@
 ghost use Rattle.std.specs.Prelude.{◌≡◌, ℕ, ◌^◌, ◌<◌, ◌≤◌, List, length, Some, []};
-ghost use Rattle.ce_model.specs.Process.{reached, is_receiving, is_stopped};
+ghost use Rattle.ce_model.specs.Process.{turn_end, is_receiving, is_stopped};
 ghost use Rattle.ce_model.specs.Node.{process_at, with_process, ids_of, take_of};
 ghost use Rattle.ce_model.specs.Saying.{runs, says};
 ghost use Rattle.rk_mail.specs.Talk.{call_said};
@@ -10,10 +10,10 @@ ghost use Rattle.rk_node.specs.Stocked.{IsStocked, IsInTurn, IsHearing};
 ghost use Rattle.rk_node.specs.Wording.{HasBatch, out_by, out_of, out_after, said_as, said_by, HasGoneOnIn};
 
 use crate::node::Node;
-use crate::turn::{Did, Turn};
+use crate::turn::{CallEnd, Turn};
 use ce_model::Status;
 use rk_mail::Say;
-use rk_process::{Paused, Process};
+use rk_process::{Pause, Process};
 
 impl Node {
     /// Runs the current turn to the next call that leaves the node; where there is none any longer, the node asks for work.
@@ -60,15 +60,15 @@ impl Node {
         let mut turn = begun;
         loop {
             match self.runs_on(&mut turn) {
-                Did::GoesOn => {}
-                Did::Leaves(say) => return Some(say),
-                Did::TurnEnds => return None,
+                CallEnd::GoesOn => {}
+                CallEnd::Leaves(say) => return Some(say),
+                CallEnd::TurnEnds => return None,
             }
         }
     }
 
     /// Runs the process of the turn to its next call of the kernel, and makes the call.
-    fn runs_on(&mut self, turn: &mut Turn) -> Did
+    fn runs_on(&mut self, turn: &mut Turn) -> CallEnd
         requires { IsInTurn self.old (turn_of turn.old) }
         ensures said { said_by result (node_of self.new) (turn_of turn.new)
             ≡ runs turn.old.left (node_of self.old) (turn_of turn.old) }
@@ -78,15 +78,15 @@ impl Node {
         ensures goes_on { HasGoneOnIn result self.new (turn_of turn.new) turn.old.left }
     {
         match self.runs_process(turn) {
-            Paused::Call => self.kernel(turn),
-            Paused::Stopped(cause) => self.stops(*turn, cause),
+            Pause::Call => self.kernel(turn),
+            Pause::Stopped(cause) => self.stops(*turn, cause),
         }
     }
 
     /// Runs the process of the turn to its next call of the kernel, or to its stop.
-    fn runs_process(&mut self, turn: &mut Turn) -> Paused
+    fn runs_process(&mut self, turn: &mut Turn) -> Pause
         requires { IsInTurn self.old (turn_of turn.old) }
-        ensures reached { reached turn.old.left (process_at (node_of self.old) turn.old.pid)
+        ensures reached { turn_end turn.old.left (process_at (node_of self.old) turn.old.pid)
             ≡ reached_at result turn.new.left (process_at (node_of self.new) turn.old.pid) }
         ensures node { node_of self.new ≡ with_process (node_of self.old) turn.old.pid
             (process_at (node_of self.new) turn.old.pid) }
@@ -105,44 +105,34 @@ impl Node {
         requires { IsStocked self.now }
         ensures { call_said result ≡ take_of (node_of self.now) }
     {
+        let (asking, dead) = asking_and_dead(self.processes.as_slice());
         Say::Take {
-            asking: asking_ids(self.processes.as_slice()),
-            dead: dead_ids(self.processes.as_slice()),
+            asking,
+            dead,
             poller: self.polling.front().copied(),
         }
     }
 }
 
-/// The ids of the processes that wait for a message, one bit each.
-fn asking_ids(processes: &[Process]) -> u32
+/// The ids of the processes that wait for a message, and those of the ones that have stopped, one bit each.
+fn asking_and_dead(processes: &[Process]) -> (u32, u32)
     requires { length processes.now ≤ 31 }
-    ensures ids { (mappings : List Mapping) (pid : ℕ)
-        → result ≡ ids_of is_receiving (processes_from mappings pid processes.now) }
-    ensures within { result < 2 ^ length processes.now }
+    ensures asking { (mappings : List Mapping) (pid : ℕ)
+        → result.0 ≡ ids_of is_receiving (processes_from mappings pid processes.now) }
+    ensures dead { (mappings : List Mapping) (pid : ℕ)
+        → result.1 ≡ ids_of is_stopped (processes_from mappings pid processes.now) }
+    ensures within { (result.0 < 2 ^ length processes.now) × (result.1 < 2 ^ length processes.now) }
 {
-    let mut ids = 0;
+    let mut asking = 0;
+    let mut dead = 0;
     let mut index = processes.len();
     while index > 0 {
         index -= 1;
-        ids = 2 * ids + u32::from(is_receiving(processes[index].status()));
+        let status = processes[index].status();
+        asking = 2 * asking + u32::from(is_receiving(status));
+        dead = 2 * dead + u32::from(is_stopped(status));
     }
-    ids
-}
-
-/// The ids of the processes that have stopped, one bit each.
-fn dead_ids(processes: &[Process]) -> u32
-    requires { length processes.now ≤ 31 }
-    ensures ids { (mappings : List Mapping) (pid : ℕ)
-        → result ≡ ids_of is_stopped (processes_from mappings pid processes.now) }
-    ensures within { result < 2 ^ length processes.now }
-{
-    let mut ids = 0;
-    let mut index = processes.len();
-    while index > 0 {
-        index -= 1;
-        ids = 2 * ids + u32::from(is_stopped(processes[index].status()));
-    }
-    ids
+    (asking, dead)
 }
 
 /// It waits for a message.

@@ -1,7 +1,7 @@
 ghost use Rattle.std.specs.Prelude.{◌≡◌, ◌+◌, ◌<◌, ◌≤◌, length, []};
 ghost use Rattle.ce_model.specs.Limits.{process_count};
 ghost use Rattle.ce_model.specs.Blocks.{put_all};
-ghost use Rattle.ce_model.specs.Process.{unborn};
+ghost use Rattle.ce_model.specs.Process.{unborn_process};
 ghost use Rattle.ce_model.specs.Node.{with_process, blocks_of};
 ghost use Rattle.ce_model.specs.Kernel.{with_store};
 ghost use Rattle.xm_block.specs.Stores.{ids_of};
@@ -60,7 +60,7 @@ impl Node {
         requires pid { pid < process_count }
         requires apart { AreApartFrom (ids_in pid (node_of self.old)) out.old }
         requires room { length (ids_in pid (node_of self.old)) ≤ out.old.spare }
-        ensures node { node_of self.new ≡ with_process (node_of self.old) pid unborn }
+        ensures node { node_of self.new ≡ with_process (node_of self.old) pid unborn_process }
         ensures moved { ids_of out.new.blocks
             ≡ put_all (ids_in pid (node_of self.old)) (ids_of out.old.blocks) }
         ensures spare { out.new.spare + length (ids_in pid (node_of self.old)) ≡ out.old.spare }

@@ -6,7 +6,7 @@ ghost use Rattle.rk_node.specs.Boxes.{fresh_at};
 
 use super::*;
 use ce_model::{BlockId, GREATEST_BLOCKS, HOST, Place, Status, Stop};
-use rk_mail::{Batch, Heard, Say};
+use rk_mail::{Batch, Hearing, Say};
 use rv_image::Image;
 use std::alloc::Global;
 use std::test::Fail;
@@ -72,14 +72,14 @@ fn a_box_says_and_hears(rt: HostRuntime) -> Result<(), Fail> {
     let alloc = rt.alloc();
     let images = [gone(alloc)?];
     let mut node = asking(alloc)?;
-    node.hears(&images, Heard::Start { pid: 0, image: 0 });
+    node.hears(&images, Hearing::Start { pid: 0, image: 0 });
     let Say::Send { pid: 0, mut batch } = node.says() else {
         return Err("no message")?;
     };
     let (id, bytes) = sent_to_host(&mut batch).ok_or("no message to the host alone")?;
     assert_eq!(rt; id, BlockId { home: 0, index: 0 });
     assert_eq!(rt; bytes, [7, 0, 0, 0, 0, 0, 0, 0]);
-    node.hears(&images, Heard::Posted(batch));
+    node.hears(&images, Hearing::Posted(batch));
     let Say::Take {
         asking: 0,
         dead: 1,

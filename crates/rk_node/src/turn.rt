@@ -10,7 +10,7 @@ pub(crate) struct Turn {
 
 /// What a kernel call comes to.
 #[derive(Drop)]
-pub(crate) enum Did {
+pub(crate) enum CallEnd {
     /// The turn goes on.
     GoesOn,
     /// The node says this.

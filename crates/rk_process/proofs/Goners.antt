@@ -11,10 +11,10 @@ use Rattle.rv_model.specs.Exec.{Outcome, went, called, stopped, exec}
 use Rattle.ce_model.specs.Limits.{window_base, window_base_lem}
 use Rattle.ce_model.specs.Blocks.{Block}
 use Rattle.ce_model.specs.Space.{Space, Spot, in_private, in_block, spot, spot_in, window_of, offset_of, loaded_at, stored_at, number_in, with_number_in, result_map, process_access}
-use Rattle.ce_model.specs.Process.{Process, Reached, led_to, moved, reached}
+use Rattle.ce_model.specs.Process.{Process, TurnEnd, led_to, moved_process, turn_end}
 use Rattle.rk_process.specs.Windows.{fits}
 use Rattle.rk_process.specs.Lives.{Moment, runs, is_answered, is_mapped, is_unmapped, ends, run_to, after_moment, after_moments, IsGone}
-use Rattle.rk_process.proofs.Keeping.{Leaves, exec-leaves}
+use Rattle.rk_process.proofs.Keeping.{IsLeftWith, exec-leaves}
 use Rattle.rk_process.proofs.Reaching.{reached_by, reached_spent}
 
 same_Ok : {X : Type 0} {x y : X} → ◌≡◌ {A = Result X Stop} (Ok x) (Ok y) → x ≡ y
@@ -77,20 +77,20 @@ stored-by space left a size n k (Ok (in_block j block o)) e h gone =
     (get-set k j space.windows _ gone (λ same. absurd (let bad : ◌≡◌ {A = Option (Option Block)} (Some (Some block)) (Some None) = sym held ∙ ap (slice_get space.windows) same ∙ gone in cc)))
 
 module _ (k : ℕ) where
-  exec-gone : (x : List ℕ) (pc : ℕ) (space : Space) → IsGone k space → Leaves (IsGone k) (exec process_access x pc space)
+  exec-gone : (x : List ℕ) (pc : ℕ) (space : Space) → IsGone k space → IsLeftWith (IsGone k) (exec process_access x pc space)
   exec-gone = exec-leaves process_access (IsGone k) (λ m left a size n e gone. stored-by m left a size n k (spot m a size) refl e gone)
 
-  led-gone : (onward : Process → Reached) (left : ℕ) (p : Process) (outcome : Outcome Space)
-      → ((q : Process) → IsGone k q.space → IsGone k (run_to (onward q)).space) → IsGone k p.space → Leaves (IsGone k) outcome → IsGone k (run_to (led_to onward left p outcome)).space
-  led-gone onward left p (went x pc space) goes gone h = goes (moved p x pc space) h
+  led-gone : (onward : Process → TurnEnd) (left : ℕ) (p : Process) (outcome : Outcome Space)
+      → ((q : Process) → IsGone k q.space → IsGone k (run_to (onward q)).space) → IsGone k p.space → IsLeftWith (IsGone k) outcome → IsGone k (run_to (led_to onward left p outcome)).space
+  led-gone onward left p (went x pc space) goes gone h = goes (moved_process p x pc space) h
   led-gone onward left p (called x pc space) goes gone h = h
   led-gone onward left p (stopped cause) goes gone h = gone
 
-  reached-gone : (left : ℕ) (p : Process) → IsGone k p.space → IsGone k (run_to (reached left p)).space
-  reached-gone zero p gone = subst (λ (r : Reached). IsGone k (run_to r).space) (sym (reached_spent zero p refl)) gone
+  reached-gone : (left : ℕ) (p : Process) → IsGone k p.space → IsGone k (run_to (turn_end left p)).space
+  reached-gone zero p gone = subst (λ (r : TurnEnd). IsGone k (run_to r).space) (sym (reached_spent zero p refl)) gone
   reached-gone (suc left) p gone =
-      subst (λ (r : Reached). IsGone k (run_to r).space) (sym (reached_by (suc left) left p (exec process_access p.regs p.pc p.space) refl refl))
-      (led-gone (reached left) left p (exec process_access p.regs p.pc p.space) (reached-gone left) gone (exec-gone p.regs p.pc p.space gone))
+      subst (λ (r : TurnEnd). IsGone k (run_to r).space) (sym (reached_by (suc left) left p (exec process_access p.regs p.pc p.space) refl refl))
+      (led-gone (turn_end left) left p (exec process_access p.regs p.pc p.space) (reached-gone left) gone (exec-gone p.regs p.pc p.space gone))
 
   moment-gone : (p : Process) (moment : Moment) → IsGone k p.space → IsGone k (after_moment p moment).space
   moment-gone p (runs left) gone = reached-gone left p gone

@@ -5,29 +5,29 @@ use Rattle.std.proofs.lemmas.Bool.{cases_Bool}
 use Rattle.rv_model.specs.declared.stop.Stop.{Stop}
 use Rattle.rv_model.specs.declared.inst.Inst.{Inst}
 use Rattle.rv_model.specs.declared.inst.Inst.TheVariants.{Lui, Auipc, Jal, Jalr, Branch, Load, Store, OpImm, Op, Fence, Ecall, Ebreak}
-use Rattle.rv_model.specs.Exec.{Access, Outcome, went, called, stopped, ◌>>=◌, performed, jumped, exec, is_taken, reg, with_reg, next_pc, offset_by, load_size, store_size, extended}
+use Rattle.rv_model.specs.Exec.{Access, Outcome, went, called, stopped, ◌>>=◌, effect_of, jump_outcome, exec, is_taken, reg, with_reg, next_pc, offset_by, load_size, store_size, loaded_number}
 use Rattle.rv_model.specs.Words.{dec}
 use Rattle.rv_model.specs.declared.stop.Stop.TheVariants.{Illegal}
 
 -- the memory that an instruction leaves, if it leaves one, has a property
-abbrev pub Leaves : {M : Type 0} → (M → Type 0) → Outcome M → Type 0
-Leaves P (went x pc m) = P m
-Leaves P (called x pc m) = P m
-Leaves P (stopped cause) = Unit {0}
+abbrev pub IsLeftWith : {M : Type 0} → (M → Type 0) → Outcome M → Type 0
+IsLeftWith P (went x pc m) = P m
+IsLeftWith P (called x pc m) = P m
+IsLeftWith P (stopped cause) = Unit {0}
 
 module _ {M : Type 0} (A : Access M) (P : M → Type 0) (stores : (m left : M) (a size n : ℕ) → A.stored m a size n ≡ Ok left → P m → P left) where
-  after : {X : Type 0} (r : Result X Stop) (f : X → Outcome M) → ((x : X) → r ≡ Ok x → Leaves P (f x)) → Leaves P (r >>= f)
+  after : {X : Type 0} (r : Result X Stop) (f : X → Outcome M) → ((x : X) → r ≡ Ok x → IsLeftWith P (f x)) → IsLeftWith P (r >>= f)
   after (Ok x) f h = h x refl
   after (Err cause) f h = tt
 
-  jumped-leaves : (pc target : ℕ) (x : List ℕ) (m : M) → P m → Leaves P (jumped pc target x m)
+  jumped-leaves : (pc target : ℕ) (x : List ℕ) (m : M) → P m → IsLeftWith P (jump_outcome pc target x m)
   jumped-leaves pc target x m p = elim (cases_Bool (target % 4 == 0)) [
     | inl t ↦ rw t p
     | inr f ↦ rw f tt
   ]
 
-  performed-leaves : (inst : Inst) (x : List ℕ) (pc : ℕ) (m : M) → P m → Leaves P (performed A inst x pc m)
-  unfolding performed
+  performed-leaves : (inst : Inst) (x : List ℕ) (pc : ℕ) (m : M) → P m → IsLeftWith P (effect_of A inst x pc m)
+  unfolding effect_of
   performed-leaves (Lui rd imm) x pc m p = p
   performed-leaves (Auipc rd imm) x pc m p = p
   performed-leaves (Jal rd offset) x pc m p = jumped-leaves pc _ _ m p
@@ -37,7 +37,7 @@ module _ {M : Type 0} (A : Access M) (P : M → Type 0) (stores : (m left : M) (
     | inr f ↦ rw f p
   ]
   performed-leaves (Load op rd rs1 imm) x pc m p =
-      after (A.loaded m (offset_by (reg x rs1) imm) (load_size op)) (λ n. went (with_reg x rd (extended op n)) (next_pc pc) m) (λ n e. p)
+      after (A.loaded m (offset_by (reg x rs1) imm) (load_size op)) (λ n. went (with_reg x rd (loaded_number op n)) (next_pc pc) m) (λ n e. p)
   performed-leaves (Store op rs1 rs2 imm) x pc m p =
       let a = offset_by (reg x rs1) imm in
       let n = reg x rs2 % 256 ^ store_size op in
@@ -48,8 +48,8 @@ module _ {M : Type 0} (A : Access M) (P : M → Type 0) (stores : (m left : M) (
   performed-leaves Ecall x pc m p = p
   performed-leaves Ebreak x pc m p = tt
 
-  pub exec-leaves : (x : List ℕ) (pc : ℕ) (m : M) → P m → Leaves P (exec A x pc m)
+  pub exec-leaves : (x : List ℕ) (pc : ℕ) (m : M) → P m → IsLeftWith P (exec A x pc m)
   unfolding exec
   exec-leaves x pc m p =
-      after (A.fetched m pc) (λ word. ok_or (dec word) (Illegal pc word) >>= (λ inst. performed A inst x pc m))
-      (λ word e. after (ok_or (dec word) (Illegal pc word)) (λ inst. performed A inst x pc m) (λ inst d. performed-leaves inst x pc m p))
+      after (A.fetched m pc) (λ word. ok_or (dec word) (Illegal pc word) >>= (λ inst. effect_of A inst x pc m))
+      (λ word e. after (ok_or (dec word) (Illegal pc word)) (λ inst. effect_of A inst x pc m) (λ inst d. performed-leaves inst x pc m p))

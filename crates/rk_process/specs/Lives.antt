@@ -3,8 +3,8 @@ use Rattle.std.specs.Prelude.{◌≡◌, ℕ, ◌%◌, ◌≤◌, List, fold, sl
 use Rattle.rv_model.specs.declared.stop.Stop.TheVariants.{Gone}
 use Rattle.ce_model.specs.Limits.{window_base}
 use Rattle.ce_model.specs.Blocks.{Block}
-use Rattle.ce_model.specs.Space.{Space, window_of, mapped, unmapped, loaded_at, stored_at}
-use Rattle.ce_model.specs.Process.{Process, Reached, at_call, at_stop, reached, with_answer, ended}
+use Rattle.ce_model.specs.Space.{Space, window_of, mapped_space, unmapped_space, loaded_at, stored_at}
+use Rattle.ce_model.specs.Process.{Process, TurnEnd, at_call, at_stop, turn_end, with_answer, ended_process}
 use Rattle.rv_model.specs.declared.stop.Stop.{Stop}
 
 -- it runs to its next call with so many instructions left at most, it is answered, a block is mapped at its next window, the
@@ -17,16 +17,16 @@ pub data Moment : Type 0 where
   ends : Stop → Moment
 
 -- the process where its run ends
-abbrev pub run_to : Reached → Process
+abbrev pub run_to : TurnEnd → Process
 run_to (at_call left p) = p
 run_to (at_stop left p cause) = p
 
 abbrev pub after_moment : Process → Moment → Process
-after_moment p (runs left) = run_to (reached left p)
+after_moment p (runs left) = run_to (turn_end left p)
 after_moment p (is_answered value) = with_answer value p
-after_moment p (is_mapped block) = record p { space = mapped block p.space }
-after_moment p (is_unmapped k) = record p { space = unmapped k p.space }
-after_moment p (ends cause) = ended cause p
+after_moment p (is_mapped block) = record p { space = mapped_space block p.space }
+after_moment p (is_unmapped k) = record p { space = unmapped_space k p.space }
+after_moment p (ends cause) = ended_process cause p
 
 abbrev pub after_moments : Process → List Moment → Process
 after_moments p moments = fold after_moment p moments

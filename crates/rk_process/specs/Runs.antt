@@ -2,12 +2,12 @@
 use Rattle.std.specs.Prelude.{ℕ, List}
 use Rattle.ce_model.specs.declared.process.Status.{Status}
 use Rattle.ce_model.specs.Space.{Space}
-use Rattle.ce_model.specs.Process.{Process, Reached, at_call, at_stop}
-use Rattle.rk_process.specs.declared.paused.Paused.{Paused}
-use Rattle.rk_process.specs.declared.paused.Paused.TheVariants.{Call, Stopped}
+use Rattle.ce_model.specs.Process.{Process, TurnEnd, at_call, at_stop}
+use Rattle.rk_process.specs.declared.paused.Pause.{Pause}
+use Rattle.rk_process.specs.declared.paused.Pause.TheVariants.{Call, Stopped}
 
 -- the process is at this point of its turn, with so many instructions left
-abbrev pub reached_at : Paused → ℕ → Process → Reached
+abbrev pub reached_at : Pause → ℕ → Process → TurnEnd
 reached_at Call left p = at_call left p
 reached_at (Stopped cause) left p = at_stop left p cause
 

@@ -7,7 +7,7 @@ mod paused;
 mod process;
 
 pub use law::stays_gone;
-pub use paused::Paused;
+pub use paused::Pause;
 pub use process::Process;
 
 #[cfg(test)]

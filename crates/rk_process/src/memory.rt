@@ -10,7 +10,7 @@ use ce_model::{WINDOW_BASE, WINDOW_SIZE};
 use rv_model::Stop;
 use rv_step::{Memory, PrivateMemory};
 use xm_block::Block;
-use xm_owner::Held;
+use xm_owner::HeldBlocks;
 
 /// Whose windows an access looks at: the process of this id, and how many windows it has used.
 #[derive(Clone, Copy)]
@@ -38,7 +38,8 @@ fn used_window(addr: u32, used: u32) -> Option<(u32, u32)>
 fn window_at(addr: u32, used: u32) -> Option<(u32, u32)>
     ensures place { result ≡ (if nat_le window_base addr && nat_lt (window_of addr) used
         then Some (window_of addr, offset_of addr) else None) }
-    ensures found { (mappings : List Mapping) (pid : ℕ) → window_found (windows_of mappings pid used) addr
+    ensures found { (mappings : List Mapping) (pid : ℕ)
+        → window_found (windows_of mappings pid used) addr
         ≡ option_map (λ place. held_at mappings pid place.0) result }
 {
     used_window(addr, used)
@@ -52,9 +53,10 @@ fn fits(block: &Block, offset: u32, size: u32) -> bool
 }
 
 /// The number that a load at an address above private memory finds, or why it stops the process.
-fn load_in_window(held: &Held, windows: Windows, addr: u32, size: u32) -> Result<u32, Stop>
+fn load_in_window(held: &HeldBlocks, windows: Windows, addr: u32, size: u32) -> Result<u32, Stop>
     requires { IsAccessSize size }
-    ensures value { result ≡ number_found (window_found (windows_of held.now.mappings windows.pid windows.used) addr) addr size }
+    ensures value { result ≡ number_found
+        (window_found (windows_of held.now.mappings windows.pid windows.used) addr) addr size }
     ensures fits { IfOk result (λ n. n < 256 ^ size) }
 {
     match window_at(addr, windows.used) {
@@ -77,8 +79,10 @@ fn store_in_block(
 ) -> Result<(), Stop>
     requires size { IsAccessSize size }
     requires offset { offset ≡ offset_of addr }
-    ensures stored { OnOk result (block_left (Some (Some block.old)) addr size value ≡ Ok block.new) }
-    ensures refused { IfErr result (λ cause. block_left (Some (Some block.old)) addr size value ≡ Err cause) }
+    ensures stored { OnOk result
+        (block_left (Some (Some block.old)) addr size value ≡ Ok block.new) }
+    ensures refused { IfErr result
+        (λ cause. block_left (Some (Some block.old)) addr size value ≡ Err cause) }
     ensures unchanged { OnErr result (block.new ≡ block.old) }
 {
     if !fits(block, offset, size) {
@@ -90,19 +94,22 @@ fn store_in_block(
 
 /// Stores a number at an address above private memory, or says why it stops the process.
 fn store_in_window(
-    held: &mut Held,
+    held: &mut HeldBlocks,
     windows: Windows,
     addr: u32,
     size: u32,
     value: u32,
 ) -> Result<(), Stop>
     requires { IsAccessSize size }
-    ensures stored { OnOk result (windows_left (windows_of held.old.mappings windows.pid windows.used) addr size value
+    ensures stored { OnOk result
+        (windows_left (windows_of held.old.mappings windows.pid windows.used) addr size value
         ≡ Ok (windows_of held.new.mappings windows.pid windows.used)) }
     ensures refused { IfErr result (λ cause.
-        windows_left (windows_of held.old.mappings windows.pid windows.used) addr size value ≡ Err cause) }
+        windows_left (windows_of held.old.mappings windows.pid windows.used) addr size value
+        ≡ Err cause) }
     ensures unchanged { OnErr result (held.new ≡ held.old) }
-    ensures rest { rest_of windows.pid windows.used held.new ≡ rest_of windows.pid windows.used held.old }
+    ensures rest { rest_of windows.pid windows.used held.new
+        ≡ rest_of windows.pid windows.used held.old }
 {
     match window_at(addr, windows.used) {
         None => Err(Stop::Unmapped(addr)),
@@ -116,7 +123,7 @@ fn store_in_window(
 /// The number that a load finds which private memory refused for this cause, or why it stops the process.
 #[inline(never)]
 fn load_elsewhere(
-    held: &Held,
+    held: &HeldBlocks,
     windows: &Windows,
     addr: u32,
     size: u32,
@@ -124,7 +131,8 @@ fn load_elsewhere(
 ) -> Result<u32, Stop>
     requires { IsAccessSize size }
     ensures value { result ≡ (if addr % size == 0
-        then number_found (window_found (windows_of held.now.mappings windows.now.pid windows.now.used) addr) addr size
+        then number_found (window_found
+        (windows_of held.now.mappings windows.now.pid windows.now.used) addr) addr size
         else Err cause) }
     ensures fits { IfOk result (λ n. n < 256 ^ size) }
 {
@@ -138,7 +146,7 @@ fn load_elsewhere(
 /// Makes a store that private memory refused for this cause, or says why it stops the process.
 #[inline(never)]
 fn store_elsewhere(
-    held: &mut Held,
+    held: &mut HeldBlocks,
     windows: &Windows,
     addr: u32,
     size: u32,
@@ -147,13 +155,16 @@ fn store_elsewhere(
 ) -> Result<(), Stop>
     requires { IsAccessSize size }
     ensures stored { OnOk result ((if addr % size == 0
-        then windows_left (windows_of held.old.mappings windows.now.pid windows.now.used) addr size value else Err cause)
+        then windows_left (windows_of held.old.mappings windows.now.pid windows.now.used) addr size
+        value else Err cause)
         ≡ Ok (windows_of held.new.mappings windows.now.pid windows.now.used)) }
     ensures refused { IfErr result (λ because. (if addr % size == 0
-        then windows_left (windows_of held.old.mappings windows.now.pid windows.now.used) addr size value else Err cause)
+        then windows_left (windows_of held.old.mappings windows.now.pid windows.now.used) addr size
+        value else Err cause)
         ≡ Err because) }
     ensures unchanged { OnErr result (held.new ≡ held.old) }
-    ensures rest { rest_of windows.now.pid windows.now.used held.new ≡ rest_of windows.now.pid windows.now.used held.old }
+    ensures rest { rest_of windows.now.pid windows.now.used held.new
+        ≡ rest_of windows.now.pid windows.now.used held.old }
 {
     if addr.is_multiple_of(size) {
         store_in_window(held, *windows, addr, size, value)
@@ -166,13 +177,14 @@ fn store_elsewhere(
 #[inline]
 pub(crate) fn load_at(
     private: &PrivateMemory,
-    held: &Held,
+    held: &HeldBlocks,
     windows: &Windows,
     addr: u32,
     size: u32,
 ) -> Result<u32, Stop>
     requires { IsAccessSize size }
-    ensures value { result ≡ loaded_at (space_of private.now held.now.mappings windows.now.pid windows.now.used) addr size }
+    ensures value { result ≡ loaded_at
+        (space_of private.now held.now.mappings windows.now.pid windows.now.used) addr size }
     ensures fits { IfOk result (λ n. n < 256 ^ size) }
 {
     match private.load(addr, size) {
@@ -185,7 +197,7 @@ pub(crate) fn load_at(
 #[derive(Drop)]
 pub(crate) struct ProcessMemory {
     pub private: PrivateMemory,
-    pub held: Held,
+    pub held: HeldBlocks,
     pub windows: Windows,
 }
 
@@ -197,7 +209,8 @@ impl Memory for ProcessMemory {
 
     ghost access = { process_access };
 
-    ghost holds = { λ memory. space_of memory.private memory.held.mappings memory.windows.pid memory.windows.used };
+    ghost holds = { λ memory. space_of memory.private memory.held.mappings memory.windows.pid
+        memory.windows.used };
 
     ghost Rest = { Rest };
 

@@ -2,7 +2,7 @@ ghost use Rattle.std.specs.Prelude.{◌≡◌, ◌≤◌, ◌<◌, ◌+◌, [], 
 ghost use Rattle.rv_model.specs.Image.{image_room};
 ghost use Rattle.rv_model.specs.Private.{with_loaded};
 ghost use Rattle.ce_model.specs.Limits.{window_count};
-ghost use Rattle.ce_model.specs.Process.{started, reached, register_count};
+ghost use Rattle.ce_model.specs.Process.{started_process, turn_end, register_count};
 ghost use Rattle.ce_model.specs.Space.{loaded_at};
 ghost use Rattle.xm_owner.specs.Holdings.{Holding};
 ghost use Rattle.rk_process.specs.Runs.{reached_at, process_at};
@@ -10,7 +10,7 @@ ghost use Rattle.ce_model.specs.declared.process.Status.{Status};
 ghost use Rattle.rk_process.specs.Memories.{memory_seen, memory_rest};
 ghost use Rattle.rk_process.specs.Seen.{process_of, space_of, rest_of, unborn_own};
 
-use crate::Paused;
+use crate::Pause;
 use crate::memory::{ProcessMemory, Windows, load_at};
 use ce_model::{NoMemory, Status};
 use rv_image::Image;
@@ -19,7 +19,7 @@ use rv_step::{Event, PrivateMemory, Regs, step};
 use std::alloc::Global;
 use std::marker::Model;
 use std::mem;
-use xm_owner::Held;
+use xm_owner::HeldBlocks;
 
 /// The registers of the calling convention: the stack pointer, and that of a kernel call's answer.
 const SP: u8 = 2;
@@ -45,7 +45,13 @@ impl Model for Process {
 
     ghost Value = { Own };
 
-    ghost view = { λ p. record { status = p.status; regs = p.registers.x; pc = p.pc; private = p.memory.private; used = p.memory.windows.used } };
+    ghost view = { λ p. record {
+      status = p.status;
+      regs = p.registers.x;
+      pc = p.pc;
+      private = p.memory.private;
+      used = p.memory.windows.used;
+    } };
 
     ghost invariant = { λ p. IsTrue p.blank → p.memory.private ≡ with_loaded [] };
 }
@@ -61,7 +67,7 @@ impl Process {
             pc: 0,
             memory: ProcessMemory {
                 private: PrivateMemory::new(alloc)?,
-                held: Held::new(alloc, 0)?,
+                held: HeldBlocks::new(alloc, 0)?,
                 windows: Windows { pid: 0, used: 0 },
             },
             blank: true,
@@ -74,7 +80,8 @@ impl Process {
     #[tactic(auto, unfolding(crate::specs::Seen::windows_of))]
     pub fn start(&mut self, image: &Image)
         requires { self.old.status ≡ Status.Unborn }
-        ensures started { (pid : ℕ) (held : Holding) → process_of self.new pid held ≡ started image.now }
+        ensures started { (pid : ℕ) (held : Holding) → process_of self.new pid held
+            ≡ started_process image.now }
         ensures running { self.new.status ≡ Status.Running }
         ensures windows { self.new.used ≡ 0 }
     {
@@ -151,8 +158,9 @@ impl Process {
 
     /// The word that a load of size 4 at this address gives, or why it would stop the process; nothing changes. `pid` is the
     /// process's id, and `held` its node's map.
-    pub fn load_word(&self, pid: u32, held: &Held, addr: u32) -> Result<u32, Stop>
-        ensures { result ≡ loaded_at (space_of self.now.private held.now.mappings pid self.now.used) addr 4 }
+    pub fn load_word(&self, pid: u32, held: &HeldBlocks, addr: u32) -> Result<u32, Stop>
+        ensures { result
+            ≡ loaded_at (space_of self.now.private held.now.mappings pid self.now.used) addr 4 }
     {
         let windows = Windows {
             pid,
@@ -164,9 +172,9 @@ impl Process {
     /// Runs instructions of the process, taking one from `left` for each, up to an ECALL or to its stop. The stop is
     /// `TurnSpent` exactly where `left` is 0 and one more would run. The process is in its turn; `pid` is its id, and `held`
     /// its node's map, of which it changes nothing but bytes in its own windows.
-    pub fn run_to_call(&mut self, pid: u32, held: &mut Held, left: &mut u32) -> Paused
+    pub fn run_to_call(&mut self, pid: u32, held: &mut HeldBlocks, left: &mut u32) -> Pause
         requires { self.old.status ≡ Status.Running }
-        ensures reached { reached left.old (process_of self.old pid held.old)
+        ensures reached { turn_end left.old (process_of self.old pid held.old)
             ≡ reached_at result left.new (process_of self.new pid held.new) }
         ensures status { self.new.status ≡ self.old.status }
         ensures rest { rest_of pid self.new.used held.new ≡ rest_of pid self.old.used held.old }
@@ -195,10 +203,11 @@ fn load(private: &mut PrivateMemory, blank: bool, loaded: &[u8])
 
 /// Runs instructions up to an ECALL or a stop. While they run, the pc and what is left are held apart, and they are written
 /// back at the end.
-fn run(registers: &mut Regs, pc: &mut u32, memory: &mut ProcessMemory, left: &mut u32) -> Paused
+fn run(registers: &mut Regs, pc: &mut u32, memory: &mut ProcessMemory, left: &mut u32) -> Pause
     ensures reached { (status : Status)
-        → reached left.old (process_at status registers.old.x pc.old (memory_seen memory.old))
-        ≡ reached_at result left.new (process_at status registers.new.x pc.new (memory_seen memory.new)) }
+        → turn_end left.old (process_at status registers.old.x pc.old (memory_seen memory.old))
+        ≡ reached_at result left.new
+        (process_at status registers.new.x pc.new (memory_seen memory.new)) }
     ensures rest { memory_rest memory.new ≡ memory_rest memory.old }
 {
     let mut at = *pc;
@@ -210,16 +219,16 @@ fn run(registers: &mut Regs, pc: &mut u32, memory: &mut ProcessMemory, left: &mu
             Event::Call => {
                 *pc = at;
                 *left = remaining;
-                return Paused::Call;
+                return Pause::Call;
             }
             Event::Stopped(cause) => {
                 *pc = at;
                 *left = remaining;
-                return Paused::Stopped(cause);
+                return Pause::Stopped(cause);
             }
         }
     }
     *pc = at;
     *left = 0;
-    Paused::Stopped(Stop::TurnSpent)
+    Pause::Stopped(Stop::TurnSpent)
 }

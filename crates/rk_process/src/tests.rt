@@ -10,7 +10,7 @@ use rv_model::Stop;
 use std::alloc::Global;
 use std::test::Fail;
 use xm_block::{Block, Store};
-use xm_owner::Held;
+use xm_owner::HeldBlocks;
 
 const ENTRY: u32 = 0x0001_0000;
 
@@ -38,7 +38,7 @@ fn openings(rt: HostRuntime) -> Result<(), Fail> {
 
 #[test]
 fn rules_of_private_memory(rt: HostRuntime) -> Result<(), Fail> {
-    let held = Held::new(rt.alloc(), 0)?;
+    let held = HeldBlocks::new(rt.alloc(), 0)?;
     let process = Process::new(rt.alloc())?;
     assert_eq!(rt;
         process.load_word(4, &held, 0x0001_0001),
@@ -68,7 +68,7 @@ fn rules_of_private_memory(rt: HostRuntime) -> Result<(), Fail> {
 #[test]
 #[tactic(auto, unfolding(ce_model::specs::Limits::window_count, ce_model::specs::Limits::block_room))]
 fn rules_of_windows(rt: HostRuntime) -> Result<(), Fail> {
-    let mut held = Held::new(rt.alloc(), 1)?;
+    let mut held = HeldBlocks::new(rt.alloc(), 1)?;
     let mut process = Process::new(rt.alloc())?;
     let mut bytes = block(rt.alloc(), 0)?;
     bytes.fill(&[1, 2, 3, 4, 5, 6, 7, 8]);
@@ -113,7 +113,7 @@ fn rules_of_windows(rt: HostRuntime) -> Result<(), Fail> {
 #[test]
 #[tactic(auto, unfolding(ce_model::specs::Limits::window_count, ce_model::specs::Limits::block_room))]
 fn sizes(rt: HostRuntime) -> Result<(), Fail> {
-    let mut held = Held::new(rt.alloc(), 2)?;
+    let mut held = HeldBlocks::new(rt.alloc(), 2)?;
     let mut process = Process::new(rt.alloc())?;
     process.start(&image(
         rt.alloc(),
@@ -125,7 +125,7 @@ fn sizes(rt: HostRuntime) -> Result<(), Fail> {
     held.map(0, process.give_window(), block(rt.alloc(), 1)?);
     let mut left = 10;
     let paused = process.run_to_call(0, &mut held, &mut left);
-    assert_eq!(rt; paused, Paused::Stopped(Stop::PastEnd(0x8001_0000)));
+    assert_eq!(rt; paused, Pause::Stopped(Stop::PastEnd(0x8001_0000)));
     assert_eq!(rt; left, 6);
     assert_eq!(rt; process.load_word(0, &held, 0x8000_0FFC), Ok(0x0003_0000));
     assert_eq!(rt;
@@ -138,14 +138,14 @@ fn sizes(rt: HostRuntime) -> Result<(), Fail> {
 // li a0, 42; li a7, 14; ecall
 #[test]
 fn run_to_a_call(rt: HostRuntime) -> Result<(), Fail> {
-    let mut held = Held::new(rt.alloc(), 0)?;
+    let mut held = HeldBlocks::new(rt.alloc(), 0)?;
     let mut process = Process::new(rt.alloc())?;
     process.start(&image(rt.alloc(), &[0x02A0_0513, 0x00E0_0893, 0x0000_0073])?);
     assert_eq!(rt; process.status(), Status::Running);
     assert_eq!(rt; process.reg(2), 0x0003_0000);
     let mut left = 10;
     let paused = process.run_to_call(0, &mut held, &mut left);
-    assert_eq!(rt; paused, Paused::Call);
+    assert_eq!(rt; paused, Pause::Call);
     assert_eq!(rt; left, 7);
     assert_eq!(rt; process.reg(10), 42);
     assert_eq!(rt; process.reg(17), 14);
@@ -163,11 +163,11 @@ fn run_to_a_call(rt: HostRuntime) -> Result<(), Fail> {
 // lui t0, 0x10; sw sp, 64(t0); ecall. What the process wrote is gone once it is reset and starts anew.
 #[test]
 fn memory_starts_anew(rt: HostRuntime) -> Result<(), Fail> {
-    let mut held = Held::new(rt.alloc(), 0)?;
+    let mut held = HeldBlocks::new(rt.alloc(), 0)?;
     let mut process = Process::new(rt.alloc())?;
     process.start(&image(rt.alloc(), &[0x0001_02B7, 0x0422_A023, 0x0000_0073])?);
     let mut left = 10;
-    assert_eq!(rt; process.run_to_call(0, &mut held, &mut left), Paused::Call);
+    assert_eq!(rt; process.run_to_call(0, &mut held, &mut left), Pause::Call);
     assert_eq!(rt; process.load_word(0, &held, ENTRY + 64), Ok(0x0003_0000));
     process.reset();
     process.start(&image(rt.alloc(), &[0x0000_0073])?);
@@ -180,15 +180,15 @@ fn memory_starts_anew(rt: HostRuntime) -> Result<(), Fail> {
 // A loop that jumps to itself. With nothing left it stops before anything is fetched.
 #[test]
 fn turn_spent(rt: HostRuntime) -> Result<(), Fail> {
-    let mut held = Held::new(rt.alloc(), 0)?;
+    let mut held = HeldBlocks::new(rt.alloc(), 0)?;
     let mut process = Process::new(rt.alloc())?;
     process.start(&image(rt.alloc(), &[0x0000_006F])?);
     let mut left = 3;
     let paused = process.run_to_call(0, &mut held, &mut left);
-    assert_eq!(rt; paused, Paused::Stopped(Stop::TurnSpent));
+    assert_eq!(rt; paused, Pause::Stopped(Stop::TurnSpent));
     assert_eq!(rt; left, 0);
     let again = process.run_to_call(0, &mut held, &mut left);
-    assert_eq!(rt; again, Paused::Stopped(Stop::TurnSpent));
+    assert_eq!(rt; again, Pause::Stopped(Stop::TurnSpent));
     Ok(())
 }
 
@@ -206,7 +206,7 @@ fn fill(alloc: Global, store: &mut Store) -> Result<(), Fail>
 
 // What the kernel does for a process that asks for a block of this length: the least block of the store at its next window.
 #[tactic(auto, unfolding(ce_model::specs::Limits::window_count))]
-fn allocate(process: &mut Process, held: &mut Held, store: &mut Store, length: u32) -> u32
+fn allocate(process: &mut Process, held: &mut HeldBlocks, store: &mut Store, length: u32) -> u32
     requires length { length ≤ block_room }
     requires unused { process.old.used < window_count }
     requires room { 1 ≤ held.old.spare }
@@ -230,7 +230,7 @@ fn allocate(process: &mut Process, held: &mut Held, store: &mut Store, length: u
 #[test]
 #[tactic(auto, unfolding(ce_model::specs::Limits::window_count, ce_model::specs::Limits::block_room))]
 fn store(rt: HostRuntime) -> Result<(), Fail> {
-    let mut held = Held::new(rt.alloc(), 40)?;
+    let mut held = HeldBlocks::new(rt.alloc(), 40)?;
     let mut process = Process::new(rt.alloc())?;
     let mut store = Store::new(rt.alloc(), 40)?;
     fill(rt.alloc(), &mut store)?;

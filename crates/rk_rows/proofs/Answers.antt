@@ -19,9 +19,9 @@ use Rattle.ce_solo.proofs.Counting.{hit-self, count, count-nil, count-one}
 use Rattle.ce_solo.proofs.Items.{parcel_ids}
 use Rattle.ce_solo.proofs.Words.{call_ids}
 use Rattle.ce_solo.proofs.HandedOver.{find-passes}
-use Rattle.rk_mail.specs.declared.talk.Heard.{Heard}
-use Rattle.rk_mail.specs.declared.talk.Heard.TheVariants.{Poll, Idle}
-use Rattle.rk_mail.specs.declared.talk.Heard.TheVariants as heard
+use Rattle.rk_mail.specs.declared.talk.Hearing.{Hearing}
+use Rattle.rk_mail.specs.declared.talk.Hearing.TheVariants.{Poll, Idle}
+use Rattle.rk_mail.specs.declared.talk.Hearing.TheVariants as heard
 use Rattle.rk_mail.specs.Talk.{is_of_take, IsAnswerTo, heard_of_kill}
 use Rattle.rk_node.specs.Boxes.{Box}
 use Rattle.rk_node.specs.Answering.{IsWork}
@@ -91,7 +91,7 @@ item-for box asking dead poller items (mail parcel) can found =
 -- ---- answers
 
 -- the item is given
-pub item-answers : (images : List ImageParts) (box : Box) (asking dead : ℕ) (poller : Option ℕ) (items rest : List Item) (item : Item) (heard : Heard)
+pub item-answers : (images : List ImageParts) (box : Box) (asking dead : ℕ) (poller : Option ℕ) (items rest : List Item) (item : Item) (heard : Hearing)
     → IsAnswerable box (takes asking dead poller) items → find (is_eligible asking dead) items ≡ Some item → rest ≡ without_first (is_eligible asking dead) items
     → IsWork images box heard → IsTrue (is_of_take heard) → heard_ids heard ≡ parcel_ids (item ∷ []) → IsAnswered images box heard rest
 item-answers images box asking dead poller items rest item heard can found left work take blocks = record {
@@ -123,7 +123,7 @@ idle-answers images box asking dead items can = record {
 }
 
 -- a call that asks for no work is answered, and its blocks wait
-pub call-answers : (images : List ImageParts) (box : Box) (call : Call) (before after : List Item) (heard : Heard) → IsAnswerable box call before → IsAnswerTo call heard
+pub call-answers : (images : List ImageParts) (box : Box) (call : Call) (before after : List Item) (heard : Hearing) → IsAnswerable box call before → IsAnswerTo call heard
     → IsWork images box heard → heard_ids heard ≡ [] → HasQueued (call_ids call) before after → IsAnswered images box heard after
 call-answers images box call before after heard can answer work none queued = record {
   can = record { call = call; said = can.said; answer = answer; work = work };

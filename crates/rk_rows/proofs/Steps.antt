@@ -12,9 +12,9 @@ use Rattle.ce_solo.proofs.Counting.{count, count-nil}
 use Rattle.ce_solo.proofs.Nodes.{polls, IsWell}
 use Rattle.ce_solo.proofs.Items.{parcel_ids}
 use Rattle.ce_solo.proofs.Says.{says-said}
-use Rattle.ce_solo.proofs.Hears.{Hears, mail-hears, nothing-hears, kill-hears, poll-hears, told-hears, receiving_is, start-begins}
-use Rattle.rk_mail.specs.declared.talk.Heard.{Heard}
-use Rattle.rk_mail.specs.declared.talk.Heard.TheVariants.{Start, Mail, Kill, Poll, Idle, Spent, Posted, Spawned, Used, Killed, Unused, Already, Noted}
+use Rattle.ce_solo.proofs.Hears.{HasHeardAnswer, mail-hears, nothing-hears, kill-hears, poll-hears, told-hears, receiving_is, start-begins}
+use Rattle.rk_mail.specs.declared.talk.Hearing.{Hearing}
+use Rattle.rk_mail.specs.declared.talk.Hearing.TheVariants.{Start, Mail, Kill, Poll, Idle, Spent, Posted, Spawned, Used, Killed, Unused, Already, Noted}
 use Rattle.rk_mail.specs.Queue.{Queue}
 use Rattle.rk_mail.specs.Items.{parcel_of}
 use Rattle.rk_mail.specs.Talk.{heard_as}
@@ -69,7 +69,7 @@ pub record IsAfter (node node' : Node) (come : List BlockId) : Type 0 where
   pub images : node'.images ≡ node.images
   pub blocks : (id : BlockId) → count id (blocks_of node') ≡ count id (blocks_of node) + count id come
 
-heard-after : (node node' : Node) (come : List BlockId) → Hears node node' come → IsAfter node node' come
+heard-after : (node node' : Node) (come : List BlockId) → HasHeardAnswer node node' come → IsAfter node node' come
 heard-after node node' come hears = record {
   well = hears.became.well;
   sound = hears.turn;
@@ -93,7 +93,7 @@ module _ (images : List ImageParts) (box : Box) (well : IsWell box.node.turn box
   well-idle : box.node.turn ≡ None → IsWell None box.node
   well-idle none = subst (λ turn. IsWell turn box.node) none well
 
-  pub hears-after : (heard : Heard) → IsAbleToHear images box heard → IsAfter box.node (hears images box.node (heard_as heard)) (heard_ids heard)
+  pub hears-after : (heard : Hearing) → IsAbleToHear images box heard → IsAfter box.node (hears images box.node (heard_as heard)) (heard_ids heard)
   hears-after (Start pid image) can =
       let none = take-idle box can.call (Start pid image) can.said can.answer refl in
       let begins = start-begins images box.node pid image (well-idle none) can.work.0 (ap is_unborn can.work.1) in
@@ -119,7 +119,7 @@ module _ (images : List ImageParts) (box : Box) (well : IsWell box.node.turn box
   hears-after Noted can = heard-after box.node _ _ (nothing-hears images box.node well sound)
 
 -- a box that has heard the answer is at rest again
-pub heard-rests : (images : List ImageParts) (before said after : Box) (heard : Heard) (queue queue' : Queue) (spare spare' : ℕ) → IsAtRest before images queue spare
+pub heard-rests : (images : List ImageParts) (before said after : Box) (heard : Hearing) (queue queue' : Queue) (spare spare' : ℕ) → IsAtRest before images queue spare
     → said.node ≡ (says before.node).node → said.room ≡ before.room → IsAnswered images said heard queue'.items
     → after.node ≡ hears images said.node (heard_as heard) → after.room ≡ said.room → after.out ≡ Nothing → spare' ≤ queue'.spare → IsAtRest after images queue' spare'
 heard-rests images before said after heard queue queue' spare spare' rests is room answered heard_is room' idle within =

@@ -14,8 +14,8 @@ use Rattle.ce_solo.proofs.Counting.{count}
 use Rattle.ce_solo.proofs.Nodes.{IsWell}
 use Rattle.ce_solo.proofs.Items.{parcel_ids}
 use Rattle.ce_solo.proofs.Words.{call_ids}
-use Rattle.rk_mail.specs.declared.talk.Heard.{Heard}
-use Rattle.rk_mail.specs.declared.talk.Heard.TheVariants.{Mail}
+use Rattle.rk_mail.specs.declared.talk.Hearing.{Hearing}
+use Rattle.rk_mail.specs.declared.talk.Hearing.TheVariants.{Mail}
 use Rattle.rk_mail.specs.Queue.{Queue}
 use Rattle.rk_mail.specs.Talk.{heard_as}
 use Rattle.rk_mail.specs.Targets.{targets_of}
@@ -28,7 +28,7 @@ abbrev pub batch_ids : List (Place × Block) → List BlockId
 batch_ids batch = map (λ (target : Place × BlockId). target.1) (targets_of batch)
 
 -- the names of the blocks that come with an answer
-abbrev pub heard_ids : Heard → List BlockId
+abbrev pub heard_ids : Hearing → List BlockId
 heard_ids (Mail parcel) = parcel.block.id ∷ []
 heard_ids other = []
 
@@ -52,7 +52,7 @@ pub record IsAnswerable (box : Box) (call : Call) (items : List Item) : Type 0 w
   pub places : AreAtOnePlace box.node (call_ids call) items
 
 -- the box can hear this answer, while these items wait for it
-pub record IsAnswered (images : List ImageParts) (box : Box) (heard : Heard) (items : List Item) : Type 0 where
+pub record IsAnswered (images : List ImageParts) (box : Box) (heard : Hearing) (items : List Item) : Type 0 where
   pub can : IsAbleToHear images box heard
   pub places : AreAtOnePlace box.node (heard_ids heard) items
 
@@ -70,7 +70,7 @@ pub record IsAtRest (box : Box) (list : List ImageParts) (queue : Queue) (room_l
 pub record HasExchanged (before after : Box) : Type 0 where
   pub images : List ImageParts
   pub said : Box
-  pub heard : Heard
+  pub heard : Hearing
   pub said_is : said.node ≡ (says before.node).node
   pub can : IsAbleToHear images said heard
   pub heard_is : after.node ≡ hears images said.node (heard_as heard)

@@ -11,7 +11,7 @@ ghost use Rattle.rk_rows.specs.Lone.{heard_ids, batch_ids, HasQueued, IsFor, IsA
 use crate::fault::Fault;
 use crate::transcript::Transcript;
 use ce_model::{HOST, KillFound, PROCESS_COUNT, Place, Status};
-use rk_mail::{Batch, Heard, Item, Mailbox, Parcel, Say};
+use rk_mail::{Batch, Hearing, Item, Mailbox, Parcel, Say};
 use rk_node::NodeBox;
 use rv_image::Image;
 use std::alloc::Global;
@@ -170,7 +170,7 @@ impl Desk {
         asking: u32,
         dead: u32,
         poller: Option<u32>,
-    ) -> Result<Heard, Fault>
+    ) -> Result<Hearing, Fault>
         requires spare { self.old.spare ≤ self.old.mailbox.spare }
         requires said { IsAnswerable node.now (takes asking dead poller) self.old.mailbox.items }
         ensures heard { IfOk result (λ heard. IsAnswered images.now node.now heard
@@ -183,8 +183,8 @@ impl Desk {
                 given(node, images, item)?
             }
             None => match poller {
-                Some(pid) => Heard::Poll { pid },
-                None => Heard::Idle,
+                Some(pid) => Hearing::Poll { pid },
+                None => Hearing::Idle,
             },
         };
         self.transcript.take(asking, dead, poller, &heard)?;
@@ -192,7 +192,7 @@ impl Desk {
     }
 
     /// The answer to what the node has said.
-    pub fn answers(&mut self, node: &NodeBox, images: &[Image], said: Say) -> Result<Heard, Fault>
+    pub fn answers(&mut self, node: &NodeBox, images: &[Image], said: Say) -> Result<Hearing, Fault>
         requires spare { self.old.spare ≤ self.old.mailbox.spare }
         requires said { IsAnswerable node.now (call_said said) self.old.mailbox.items }
         ensures heard { IfOk result (λ heard. IsAnswered images.now node.now heard
@@ -205,14 +205,14 @@ impl Desk {
                 dead,
                 poller,
             } => self.takes(node, images, asking, dead, poller),
-            Say::Send { pid, batch } => Ok(Heard::Posted(self.sends(pid, batch)?)),
+            Say::Send { pid, batch } => Ok(Hearing::Posted(self.sends(pid, batch)?)),
             Say::Spawn { pid, image, to } => {
                 let is_fresh = self.spawns(image, to.pid)?;
                 self.transcript.spawn(pid, image, to, is_fresh)?;
                 Ok(if is_fresh {
-                    Heard::Spawned
+                    Hearing::Spawned
                 } else {
-                    Heard::Used
+                    Hearing::Used
                 })
             }
             Say::Kill { pid, to } => {
@@ -222,20 +222,20 @@ impl Desk {
             }
             Say::Note { pid, word } => {
                 self.transcript.note(pid, word)?;
-                Ok(Heard::Noted)
+                Ok(Hearing::Noted)
             }
         }
     }
 }
 
 /// What a node hears of a kill.
-fn heard_of_kill(found: KillFound) -> Heard
+fn heard_of_kill(found: KillFound) -> Hearing
     ensures { result ≡ heard_of_kill found }
 {
     match found {
-        KillFound::Killed => Heard::Killed,
-        KillFound::Unused => Heard::Unused,
-        KillFound::Already => Heard::Already,
+        KillFound::Killed => Hearing::Killed,
+        KillFound::Unused => Hearing::Unused,
+        KillFound::Already => Hearing::Already,
     }
 }
 
@@ -260,7 +260,7 @@ fn set_life(lives: &mut Vec<Life>, pid: u32, life: Life) {
 }
 
 /// What a node hears that is given an item.
-fn given(node: &NodeBox, images: &[Image], item: Item) -> Result<Heard, Fault>
+fn given(node: &NodeBox, images: &[Image], item: Item) -> Result<Hearing, Fault>
     requires { IsFor node.now (item_of item) }
     ensures work { IfOk result (λ heard. IsWork images.now node.now heard) }
     ensures take { IfOk result (λ heard. IsTrue (is_of_take heard)) }
@@ -272,15 +272,15 @@ fn given(node: &NodeBox, images: &[Image], item: Item) -> Result<Heard, Fault>
                 && (image as usize) < images.len()
                 && is_unborn(node.status(pid))
             {
-                Ok(Heard::Start { pid, image })
+                Ok(Hearing::Start { pid, image })
             } else {
                 Err(Fault::Unfit)
             }
         }
-        Item::Mail(parcel) => Ok(Heard::Mail(parcel)),
+        Item::Mail(parcel) => Ok(Hearing::Mail(parcel)),
         Item::Kill { pid } => {
             if pid < PROCESS_COUNT && !is_unborn(node.status(pid)) {
-                Ok(Heard::Kill { pid })
+                Ok(Hearing::Kill { pid })
             } else {
                 Err(Fault::Unfit)
             }

@@ -7,7 +7,7 @@ use crate::desk::Desk;
 use crate::fault::Fault;
 use crate::transcript::Transcript;
 use ce_model::{GREATEST_BLOCKS, GREATEST_IMAGES, KillFound, PROCESS_COUNT, Status};
-use rk_mail::Heard;
+use rk_mail::Hearing;
 use rk_node::NodeBox;
 use rv_image::Image;
 use std::alloc::Global;
@@ -89,7 +89,7 @@ impl LoneNode {
         self.is_stuck = true;
         let said = self.node.says();
         let heard = self.desk.answers(&self.node, self.images.as_slice(), said)?;
-        let has_work = !matches!(heard, Heard::Idle);
+        let has_work = !matches!(heard, Hearing::Idle);
         self.node.hears(self.images.as_slice(), heard);
         self.is_stuck = false;
         Ok(has_work)

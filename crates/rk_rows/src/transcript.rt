@@ -1,5 +1,5 @@
 use ce_model::{BlockId, HOST, KillFound, Place};
-use rk_mail::Heard;
+use rk_mail::Hearing;
 use std::alloc::AllocError;
 use std::fmt::Write;
 
@@ -16,7 +16,7 @@ impl Transcript {
         asking: u32,
         dead: u32,
         poller: Option<u32>,
-        heard: &Heard,
+        heard: &Hearing,
     ) -> Result<(), AllocError> {
         let Some(text) = &mut self.text else {
             return Ok(());
@@ -27,10 +27,10 @@ impl Transcript {
             None => write!(text, "-")?,
         }
         match heard {
-            Heard::Start { pid, image } => write!(text, " start {pid} {image}\n"),
-            Heard::Mail(parcel) => write!(text, " mail {} {}\n", parcel.to.pid, parcel.number),
-            Heard::Kill { pid } => write!(text, " kill {pid}\n"),
-            Heard::Poll { pid } => write!(text, " poll {pid}\n"),
+            Hearing::Start { pid, image } => write!(text, " start {pid} {image}\n"),
+            Hearing::Mail(parcel) => write!(text, " mail {} {}\n", parcel.to.pid, parcel.number),
+            Hearing::Kill { pid } => write!(text, " kill {pid}\n"),
+            Hearing::Poll { pid } => write!(text, " poll {pid}\n"),
             _ => write!(text, " idle\n"),
         }
     }

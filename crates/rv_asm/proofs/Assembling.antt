@@ -9,9 +9,9 @@ use Rattle.rv_asm.specs.declared.fault.AsmKind.{AsmKind}
 use Rattle.rv_asm.specs.declared.fault.AsmKind.TheVariants.{BadByte, NameTaken, UnknownWord, Operands, BadRegister, BadNumber, UnknownName, Unaligned, TooLarge, TooFar, Entry, Memory}
 use Rattle.rv_asm.specs.declared.fault.AsmFault.{AsmFault}
 use Rattle.rv_asm.specs.Faults.{Unless}
-use Rattle.rv_asm.specs.FirstPass.{Laid, first_pass}
+use Rattle.rv_asm.specs.FirstPass.{LayoutSoFar, first_pass}
 use Rattle.rv_asm.specs.SecondPass.{Part, second_pass}
-use Rattle.rv_asm.specs.Assembly.{entry_of, assembled}
+use Rattle.rv_asm.specs.Assembly.{entry_of, assembly_of}
 
 unless_so : (kind : AsmKind) (P Q : Type 0) → (P → Q) → Unless kind P → Unless kind Q
 unless_so BadByte P Q f u = f u
@@ -27,24 +27,24 @@ unless_so TooFar P Q f u = f u
 unless_so Entry P Q f u = f u
 unless_so (Memory cause) P Q f u = tt
 
-pub fails_first : (text : List ℕ) (fault : AsmFault) → Unless fault.kind (first_pass text ≡ Err fault) → Unless fault.kind (assembled text ≡ Err fault)
-unfolding assembled
-fails_first text fault u = unless_so fault.kind (first_pass text ≡ Err fault) (assembled text ≡ Err fault) (λ e. rw e refl) u
+pub fails_first : (text : List ℕ) (fault : AsmFault) → Unless fault.kind (first_pass text ≡ Err fault) → Unless fault.kind (assembly_of text ≡ Err fault)
+unfolding assembly_of
+fails_first text fault u = unless_so fault.kind (first_pass text ≡ Err fault) (assembly_of text ≡ Err fault) (λ e. rw e refl) u
 
-pub fails_second : (text : List ℕ) (laid : Laid) (fault : AsmFault) → first_pass text ≡ Ok laid
-    → Unless fault.kind (second_pass laid.names image_start laid.statements ≡ Err fault) → Unless fault.kind (assembled text ≡ Err fault)
-unfolding assembled
+pub fails_second : (text : List ℕ) (laid : LayoutSoFar) (fault : AsmFault) → first_pass text ≡ Ok laid
+    → Unless fault.kind (second_pass laid.names image_start laid.statements ≡ Err fault) → Unless fault.kind (assembly_of text ≡ Err fault)
+unfolding assembly_of
 fails_second text laid fault first u =
-    unless_so fault.kind (second_pass laid.names image_start laid.statements ≡ Err fault) (assembled text ≡ Err fault) (λ e. rw (first, e) refl) u
+    unless_so fault.kind (second_pass laid.names image_start laid.statements ≡ Err fault) (assembly_of text ≡ Err fault) (λ e. rw (first, e) refl) u
 
-pub described : (text : List ℕ) (laid : Laid) (parts : List Part) → first_pass text ≡ Ok laid → second_pass laid.names image_start laid.statements ≡ Ok parts
-    → is_entry (entry_of laid.names) laid.size ≡ true → assembled text ≡ Ok (record { entry = entry_of laid.names; parts = parts })
-unfolding assembled
+pub described : (text : List ℕ) (laid : LayoutSoFar) (parts : List Part) → first_pass text ≡ Ok laid → second_pass laid.names image_start laid.statements ≡ Ok parts
+    → is_entry (entry_of laid.names) laid.size ≡ true → assembly_of text ≡ Ok (record { entry = entry_of laid.names; parts = parts })
+unfolding assembly_of
 described text laid parts first second entry = rw (first, second, entry) refl
 
-pub has_no_entry : (text : List ℕ) (laid : Laid) (parts : List Part) → first_pass text ≡ Ok laid → second_pass laid.names image_start laid.statements ≡ Ok parts
-    → is_entry (entry_of laid.names) laid.size ≡ false → assembled text ≡ Err (record { line = 0; kind = Entry })
-unfolding assembled
+pub has_no_entry : (text : List ℕ) (laid : LayoutSoFar) (parts : List Part) → first_pass text ≡ Ok laid → second_pass laid.names image_start laid.statements ≡ Ok parts
+    → is_entry (entry_of laid.names) laid.size ≡ false → assembly_of text ≡ Err (record { line = 0; kind = Entry })
+unfolding assembly_of
 has_no_entry text laid parts first second entry = rw (first, second, entry) refl
 
 abbrev entry_fault : Bool → Option ImageFault

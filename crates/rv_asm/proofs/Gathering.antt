@@ -1,11 +1,9 @@
 -- The operands of `.word` and `.byte`, judged one after the other.
-use Rattle.std.proofs.Common.{◌≡◌, ℕ, suc, ◌<◌, ◌≤◌, List, ◌∷◌, length, map, Option, Some, None, Result, Bor, sym, ap, ◌∙◌, arith}
+use Rattle.std.proofs.Common.{◌≡◌, ℕ, suc, ◌<◌, ◌≤◌, List, ◌∷◌, length, map, Option, Some, None, Result, Bor, sym, ap, arith}
 use Rattle.std.specs.Prelude.{fold, option_map, IfSome}
 use Rattle.rv_asm.specs.declared.fault.AsmKind.{AsmKind}
-use Rattle.ce_text.specs.Line.{cut, trimmed}
-use Rattle.rv_asm.specs.Line.{is_comma}
-use Rattle.rv_asm.specs.Faults.{gathered}
-use Rattle.rv_asm.proofs.Pieces.{pieces_cut, pieces_behind}
+use Rattle.rv_asm.specs.Line.{pieces, pieces_behind}
+use Rattle.rv_asm.specs.Faults.{with_judged}
 
 -- the bytes that are left, if any
 abbrev pub left : Option (Bor (List ℕ)) → Option (List ℕ)
@@ -22,10 +20,8 @@ left_shorter (Some rest) n h = omega arith
 
 -- the judgments so far, and those of the operands that are left
 abbrev pub with_rest : {A : Type 0} → (List ℕ → Result A AsmKind) → Result (List A) AsmKind → Option (List ℕ) → Result (List A) AsmKind
-with_rest judge judged rest = fold gathered judged (map judge (pieces_behind rest))
+with_rest judge judged rest = fold with_judged judged (map judge (pieces_behind rest))
 
-pub with_more : {A : Type 0} (judge : List ℕ → Result A AsmKind) (judged : Result (List A) AsmKind) (bytes front : List ℕ) (after : Option (List ℕ)) → (front, after) ≡ cut is_comma bytes
-    → with_rest judge (gathered judged (judge (trimmed front))) after ≡ with_rest judge judged (Some bytes)
-with_more judge judged bytes front after e =
-    sym (ap (λ (operands : List (List ℕ)). fold gathered judged (map judge operands)) (pieces_cut bytes)
-    ∙ ap (λ (parts : List ℕ × Option (List ℕ)). fold gathered judged (map judge (trimmed parts.0 ∷ pieces_behind parts.1))) (sym e))
+pub with_more : {A : Type 0} (judge : List ℕ → Result A AsmKind) (judged : Result (List A) AsmKind) (bytes first : List ℕ) (after : Option (List ℕ)) → pieces bytes ≡ first ∷ pieces_behind after
+    → with_rest judge (with_judged judged (judge first)) after ≡ with_rest judge judged (Some bytes)
+with_more judge judged bytes first after e = ap (λ (operands : List (List ℕ)). fold with_judged judged (map judge operands)) (sym e)

@@ -2,7 +2,6 @@ pub mod KindOrder
 pub mod Pieces
 pub mod TextPlaces
 pub mod RegisterTable
-pub mod SymbolTable
 pub mod WordTable
 pub mod Gathering
 pub mod Sounding

@@ -1,51 +1,54 @@
 -- A list that is split at each byte that passes, from the first such byte on.
-use Rattle.std.proofs.Common.{◌≡◌, ℕ, List, [], ◌∷◌, map, Option, Some, None, Ok, Err, refl, sym, ap, ◌∙◌}
+use Rattle.std.proofs.Common.{◌≡◌, ℕ, List, [], ◌∷◌, map, Option, Some, None, Ok, Err, refl, ap, ◌∙◌}
+use Rattle.rv_asm.specs.declared.fault.AsmKind.{AsmKind}
 use Rattle.rv_asm.specs.declared.fault.AsmKind.TheVariants.{Operands}
 use Rattle.rv_asm.specs.Faults.{◌>>=◌}
 use Rattle.ce_text.proofs.Splitting.{split_cut, split_behind}
-use Rattle.ce_text.specs.Line.{cut, trimmed}
-use Rattle.rv_asm.specs.Line.{pieces, is_comma}
+use Rattle.ce_text.specs.Line.{cut, without_outer_blanks}
+use Rattle.rv_asm.specs.Line.{pieces, pieces_behind, is_comma}
 use Rattle.rv_asm.specs.Operand.{one_of, two_of, three_of, one_piece, two_pieces, three_pieces}
 
--- the same of the operands of a statement
-abbrev pub pieces_behind : Option (List ℕ) → List (List ℕ)
-pieces_behind None = []
-pieces_behind (Some rest) = pieces rest
-
-map_behind : (rest : Option (List ℕ)) → map trimmed (split_behind is_comma rest) ≡ pieces_behind rest
+map_behind : (rest : Option (List ℕ)) → map without_outer_blanks (split_behind is_comma rest) ≡ pieces_behind rest
 unfolding pieces
 map_behind None = refl
 map_behind (Some rest) = refl
 
-pub pieces_cut : (operands : List ℕ) → pieces operands ≡ trimmed (cut is_comma operands).0 ∷ pieces_behind (cut is_comma operands).1
+pub pieces_cut : (operands : List ℕ) → pieces operands ≡ without_outer_blanks (cut is_comma operands).0 ∷ pieces_behind (cut is_comma operands).1
 unfolding pieces
-pieces_cut operands = ap (map trimmed) (split_cut is_comma operands) ∙ ap (λ (others : List (List ℕ)). trimmed (cut is_comma operands).0 ∷ others) (map_behind (cut is_comma operands).1)
+pieces_cut operands = ap (map without_outer_blanks) (split_cut is_comma operands) ∙ ap (λ (others : List (List ℕ)). without_outer_blanks (cut is_comma operands).0 ∷ others) (map_behind (cut is_comma operands).1)
 
--- ---- how many operands there are, from the first comma on
+-- ---- how many operands there are, from the first one on
 
-module _ (operands front : List ℕ) where
-  pub one_none : (front, None) ≡ cut is_comma operands → one_piece operands ≡ Ok (trimmed front)
+module _ (operands first : List ℕ) where
+  pub one_alone : pieces operands ≡ first ∷ [] → one_piece operands ≡ Ok first
   unfolding one_piece
-  one_none e = ap one_of (pieces_cut operands) ∙ ap (λ (parts : List ℕ × Option (List ℕ)). one_of (trimmed parts.0 ∷ pieces_behind parts.1)) (sym e)
+  one_alone e = ap one_of e
 
-  pub two_none : (front, None) ≡ cut is_comma operands → two_pieces operands ≡ Err Operands
+  pub two_alone : pieces operands ≡ first ∷ [] → two_pieces operands ≡ Err Operands
   unfolding two_pieces
-  two_none e = ap two_of (pieces_cut operands) ∙ ap (λ (parts : List ℕ × Option (List ℕ)). two_of (trimmed parts.0 ∷ pieces_behind parts.1)) (sym e)
+  two_alone e = ap two_of e
 
-  pub three_none : (front, None) ≡ cut is_comma operands → three_pieces operands ≡ Err Operands
+  pub three_alone : pieces operands ≡ first ∷ [] → three_pieces operands ≡ Err Operands
   unfolding three_pieces
-  three_none e = ap three_of (pieces_cut operands) ∙ ap (λ (parts : List ℕ × Option (List ℕ)). three_of (trimmed parts.0 ∷ pieces_behind parts.1)) (sym e)
+  three_alone e = ap three_of e
 
-  pub one_some : (rest : List ℕ) → (front, Some rest) ≡ cut is_comma operands → one_piece operands ≡ Err Operands
-  unfolding one_piece
-  one_some rest e =
-      ap one_of (pieces_cut operands) ∙ ap (λ (parts : List ℕ × Option (List ℕ)). one_of (trimmed parts.0 ∷ pieces_behind parts.1)) (sym e)
-      ∙ ap (λ (others : List (List ℕ)). one_of (trimmed front ∷ others)) (pieces_cut rest)
+  module _ (rest : List ℕ) where
+    pub one_more : pieces operands ≡ first ∷ pieces rest → one_piece operands ≡ Err Operands
+    unfolding one_piece
+    one_more e = ap one_of (e ∙ ap (λ (others : List (List ℕ)). first ∷ others) (pieces_cut rest))
 
-  pub two_some : (rest : List ℕ) → (front, Some rest) ≡ cut is_comma operands → two_pieces operands ≡ (one_piece rest >>= λ second. Ok (trimmed front, second))
-  unfolding two_pieces one_piece
-  two_some rest e = ap two_of (pieces_cut operands) ∙ ap (λ (parts : List ℕ × Option (List ℕ)). two_of (trimmed parts.0 ∷ pieces_behind parts.1)) (sym e)
+    pub two_wrong : (kind : AsmKind) → pieces operands ≡ first ∷ pieces rest → one_piece rest ≡ Err kind → two_pieces operands ≡ Err kind
+    unfolding two_pieces one_piece
+    two_wrong kind e wrong = ap two_of e ∙ ap (λ judged. judged >>= λ second. Ok (first, second)) wrong
 
-  pub three_some : (rest : List ℕ) → (front, Some rest) ≡ cut is_comma operands → three_pieces operands ≡ (two_pieces rest >>= λ last. Ok (trimmed front, last.0, last.1))
-  unfolding three_pieces two_pieces
-  three_some rest e = ap three_of (pieces_cut operands) ∙ ap (λ (parts : List ℕ × Option (List ℕ)). three_of (trimmed parts.0 ∷ pieces_behind parts.1)) (sym e)
+    pub two_more : (second : List ℕ) → pieces operands ≡ first ∷ pieces rest → one_piece rest ≡ Ok second → two_pieces operands ≡ Ok (first, second)
+    unfolding two_pieces one_piece
+    two_more second e found = ap two_of e ∙ ap (λ judged. judged >>= λ second. Ok (first, second)) found
+
+    pub three_wrong : (kind : AsmKind) → pieces operands ≡ first ∷ pieces rest → two_pieces rest ≡ Err kind → three_pieces operands ≡ Err kind
+    unfolding three_pieces two_pieces
+    three_wrong kind e wrong = ap three_of e ∙ ap (λ judged. judged >>= λ last. Ok (first, last.0, last.1)) wrong
+
+    pub three_more : (second third : List ℕ) → pieces operands ≡ first ∷ pieces rest → two_pieces rest ≡ Ok (second, third) → three_pieces operands ≡ Ok (first, second, third)
+    unfolding three_pieces two_pieces
+    three_more second third e found = ap three_of e ∙ ap (λ judged. judged >>= λ last. Ok (first, last.0, last.1)) found

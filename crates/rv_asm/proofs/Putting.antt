@@ -5,7 +5,7 @@ use Rattle.std.specs.Int.{w32, to_le_bytes}
 use Rattle.rv_model.specs.Image.{image_start}
 use Rattle.rv_asm.specs.declared.fault.AsmKind.{AsmKind}
 use Rattle.rv_asm.specs.declared.fault.AsmFault.{AsmFault}
-use Rattle.rv_asm.specs.declared.statement.Placed.{Placed}
+use Rattle.rv_asm.specs.declared.statement.PlacedStatement.{PlacedStatement}
 use Rattle.rv_asm.specs.Faults.{◌>>=◌}
 use Rattle.rv_asm.specs.Names.{Names}
 use Rattle.rv_asm.specs.Sizes.{size_of}
@@ -26,7 +26,7 @@ abbrev pub behind : List Part → List Part → Result (List Part) AsmFault
 behind front parts = Ok (front ++ parts)
 
 -- the bytes lay out parts, and with those of the statements that are left they are the whole
-pub record IsPutSoFar (names : Names) (all : List Placed) (i : ℕ) (bytes : List ℕ) : Type 0 where
+pub record IsPutSoFar (names : Names) (all : List PlacedStatement) (i : ℕ) (bytes : List ℕ) : Type 0 where
   pub parts : List Part
   pub spelled : IsSpellingOf parts bytes
   pub whole : second_pass names image_start all ≡ (second_pass names (image_start + length bytes) (drop i all) >>= behind parts)
@@ -38,26 +38,26 @@ nothing_behind : (r : Result (List Part) AsmFault) → r ≡ (r >>= behind [])
 nothing_behind (Ok parts) = refl
 nothing_behind (Err fault) = refl
 
-pub put_none : (names : Names) (all : List Placed) (bytes : List ℕ) → bytes ≡ [] → IsPutSoFar names all 0 bytes
+pub put_none : (names : Names) (all : List PlacedStatement) (bytes : List ℕ) → bytes ≡ [] → IsPutSoFar names all 0 bytes
 put_none names all bytes e =
     subst (IsPutSoFar names all 0) (sym e) (record { parts = []; spelled = refl; whole = nothing_behind (second_pass names image_start all) })
 
 -- what is left to do from a statement on, whose parts are known
-abbrev pub onward : Names → ℕ → List Placed → List Part → List Part → Result (List Part) AsmFault
+abbrev pub onward : Names → ℕ → List PlacedStatement → List Part → List Part → Result (List Part) AsmFault
 onward names address others front here = (second_pass names address others >>= λ there. Ok (here ++ there)) >>= behind front
 
 flat : (line : ℕ) (r : Result (List Part) AsmKind) (next : List Part → Result (List Part) AsmFault) (front : List Part) → ((at_line line r >>= next) >>= behind front) ≡ (at_line line r >>= λ here. next here >>= behind front)
 flat line (Ok here) next front = refl
 flat line (Err kind) next front = refl
 
-pub put_step : (names : Names) (all : List Placed) (i : ℕ) (d : Placed) (old : List ℕ) → i < length all → (before : IsPutSoFar names all i old)
+pub put_step : (names : Names) (all : List PlacedStatement) (i : ℕ) (d : PlacedStatement) (old : List ℕ) → i < length all → (before : IsPutSoFar names all i old)
     → second_pass names image_start all
     ≡ (at_line (get_or all i d).line (parts_of names (image_start + length old) (get_or all i d).statement)
     >>= onward names (image_start + length old + size_of (get_or all i d).statement) (drop (i + 1) all) before.parts)
 unfolding second_pass
 put_step names all i d old lt before =
     before.whole
-    ∙ ap (λ (placed : List Placed). second_pass names (image_start + length old) placed >>= behind before.parts) (drop_more all i d lt)
+    ∙ ap (λ (placed : List PlacedStatement). second_pass names (image_start + length old) placed >>= behind before.parts) (drop_more all i d lt)
     ∙ flat (get_or all i d).line (parts_of names (image_start + length old) (get_or all i d).statement)
     (λ here. second_pass names (image_start + length old + size_of (get_or all i d).statement) (drop (i + 1) all) >>= λ there. Ok (here ++ there)) before.parts
 
@@ -65,7 +65,7 @@ regroup : (front here : List Part) (r : Result (List Part) AsmFault) → ((r >>=
 regroup front here (Ok there) = ap (λ (parts : List Part). Ok parts) (sym (append_assoc front here there))
 regroup front here (Err fault) = refl
 
-pub put_more : (names : Names) (all : List Placed) (i : ℕ) (d : Placed) (old new : List ℕ) → i < length all → IsPutSoFar names all i old
+pub put_more : (names : Names) (all : List PlacedStatement) (i : ℕ) (d : PlacedStatement) (old new : List ℕ) → i < length all → IsPutSoFar names all i old
     → (parts : List Part) → parts_of names (image_start + length old) (get_or all i d).statement ≡ Ok parts → HasAppendedParts parts old new → length new ≡ length old + size_of (get_or all i d).statement
     → IsPutSoFar names all (i + 1) new
 put_more names all i d old new lt before parts e appended size =
@@ -80,14 +80,14 @@ put_more names all i d old new lt before parts e appended size =
           ∙ ap (λ (address : ℕ). second_pass names address (drop (i + 1) all) >>= behind (before.parts ++ parts)) there;
     }
 
-pub put_all : (names : Names) (all : List Placed) (i : ℕ) (bytes : List ℕ) → length all ≤ i → (so_far : IsPutSoFar names all i bytes) → second_pass names image_start all ≡ Ok so_far.parts
+pub put_all : (names : Names) (all : List PlacedStatement) (i : ℕ) (bytes : List ℕ) → length all ≤ i → (so_far : IsPutSoFar names all i bytes) → second_pass names image_start all ≡ Ok so_far.parts
 unfolding second_pass
 put_all names all i bytes le so_far =
     so_far.whole
     ∙ ap (λ (r : Result (List Part) AsmFault). r >>= behind so_far.parts) (at_drop_all (second_pass names (image_start + length bytes)) all i le)
     ∙ ap (λ (parts : List Part). Ok parts) (append-nil so_far.parts)
 
-pub sound_at : (all : List Placed) (i : ℕ) (d : Placed) → i < length all → ArePlacedSound all → IsSound (get_or all i d).statement
+pub sound_at : (all : List PlacedStatement) (i : ℕ) (d : PlacedStatement) → i < length all → ArePlacedSound all → IsSound (get_or all i d).statement
 sound_at [] i d lt h = absurd (omega arith)
 sound_at (placed ∷ all) zero d lt h = h.0
 sound_at (placed ∷ all) (suc i) d lt h = sound_at all i d (omega arith) h.1

@@ -9,23 +9,23 @@ use Rattle.rv_asm.specs.Words.{mnemonics, mnemonic_of}
 use Rattle.rv_asm.specs.Sound.{IsSoundMnemonic}
 
 -- the rows that hold an instruction or a register hold one that there is; nothing is asked of the others
-abbrev AllSound : List (List ℕ × Mnemonic) → Type 0
-AllSound [] = Unit {0}
-AllSound ((word, words.Plain inst) ∷ rows) = IsValid inst × AllSound rows
-AllSound ((word, words.Jump rd) ∷ rows) = IsRegister rd × AllSound rows
-AllSound ((word, mnemonic) ∷ rows) = AllSound rows
+abbrev AreSoundRows : List (List ℕ × Mnemonic) → Type 0
+AreSoundRows [] = Unit {0}
+AreSoundRows ((word, words.Plain inst) ∷ rows) = IsValid inst × AreSoundRows rows
+AreSoundRows ((word, words.Jump rd) ∷ rows) = IsRegister rd × AreSoundRows rows
+AreSoundRows ((word, mnemonic) ∷ rows) = AreSoundRows rows
 
 looked_by : (here : Bool) (mnemonic : Mnemonic) (there : Option Mnemonic) → IsSoundMnemonic mnemonic → IfSome there IsSoundMnemonic → IfSome (cond here (Some mnemonic) there) IsSoundMnemonic
 looked_by true mnemonic there sound others = sound
 looked_by false mnemonic there sound others = others
 
-looked : (rows : List (List ℕ × Mnemonic)) (text : List ℕ) → AllSound rows → IfSome (look_up rows text) IsSoundMnemonic
+looked : (rows : List (List ℕ × Mnemonic)) (text : List ℕ) → AreSoundRows rows → IfSome (look_up rows text) IsSoundMnemonic
 looked [] text all = tt
 looked ((word, words.Plain inst) ∷ rows) text all = looked_by (bytes_eq word text) (words.Plain inst) (look_up rows text) all.0 (looked rows text all.1)
 looked ((word, words.Jump rd) ∷ rows) text all = looked_by (bytes_eq word text) (words.Jump rd) (look_up rows text) all.0 (looked rows text all.1)
 looked ((word, mnemonic) ∷ rows) text all = looked_by (bytes_eq word text) mnemonic (look_up rows text) tt (looked rows text all)
 
-sound_rows : AllSound mnemonics
+sound_rows : AreSoundRows mnemonics
 unfolding mnemonics
 sound_rows = search (rules, arith)
 

@@ -28,8 +28,8 @@ abbrev pub entry_of : Names → ℕ
 entry_of names = label_or_start (names (codes "start"))
 
 -- what a text describes, or its first fault
-unfoldable pub assembled : List ℕ → Result Assembly AsmFault
-assembled text = do
+unfoldable pub assembly_of : List ℕ → Result Assembly AsmFault
+assembly_of text = do
   laid ← first_pass text
   parts ← second_pass laid.names image_start laid.statements
   begins ← at_line 0 (refuse (not (is_entry (entry_of laid.names) laid.size)) Entry)
@@ -43,5 +43,5 @@ pub record IsLaidOut (assembly : Assembly) (image : ImageParts) : Type 0 where
 
 -- the image that the text describes, or its first fault, unless memory runs out
 abbrev pub IsAssemblyOf : List ℕ → Result ImageParts AsmFault → Type 0
-IsAssemblyOf text (Ok image) = (assembly : Assembly) × (assembled text ≡ Ok assembly) × IsLaidOut assembly image
-IsAssemblyOf text (Err fault) = Unless fault.kind (assembled text ≡ Err fault)
+IsAssemblyOf text (Ok image) = (assembly : Assembly) × (assembly_of text ≡ Ok assembly) × IsLaidOut assembly image
+IsAssemblyOf text (Err fault) = Unless fault.kind (assembly_of text ≡ Err fault)

@@ -47,12 +47,12 @@ both (Err kind) (Ok second) = Err kind
 both (Err first) (Err second) = Err (earlier first second)
 
 -- one more judgment behind those of a line
-unfoldable pub gathered : {A : Type 0} → Result (List A) AsmKind → Result A AsmKind → Result (List A) AsmKind
-gathered judged value = both judged value >>= λ parts. Ok (parts.0 ++ parts.1 ∷ [])
+unfoldable pub with_judged : {A : Type 0} → Result (List A) AsmKind → Result A AsmKind → Result (List A) AsmKind
+with_judged judged value = both judged value >>= λ parts. Ok (parts.0 ++ parts.1 ∷ [])
 
 -- any number of judgments of one line: all values, or the fault whose kind is judged first
 unfoldable pub all_of : {A : Type 0} → List (Result A AsmKind) → Result (List A) AsmKind
-all_of values = fold gathered (Ok []) values
+all_of values = fold with_judged (Ok []) values
 
 -- why a line stops the work, as a fault of this line
 abbrev pub halt_at : Halt → ℕ → AsmFault

@@ -8,9 +8,9 @@ use Rattle.rv_asm.specs.declared.fault.AsmFault.{AsmFault}
 use Rattle.rv_asm.specs.declared.symbols.Symbol.{Symbol}
 use Rattle.rv_asm.specs.declared.symbols.Symbol.TheVariants.{Label, Number}
 use Rattle.rv_asm.specs.declared.statement.Statement.{Statement}
-use Rattle.rv_asm.specs.declared.statement.Placed.{Placed}
+use Rattle.rv_asm.specs.declared.statement.PlacedStatement.{PlacedStatement}
 use Rattle.ce_text.specs.Bytes.{is_plain, is_blank}
-use Rattle.ce_text.specs.Line.{lines, cut, trimmed, before_comment}
+use Rattle.ce_text.specs.Line.{lines, cut, without_outer_blanks, before_comment}
 use Rattle.rv_asm.specs.Line.{is_colon, is_comma}
 use Rattle.rv_asm.specs.Name.{is_name}
 use Rattle.rv_asm.specs.Names.{Names, no_names, with_name, is_taken}
@@ -22,32 +22,32 @@ use Rattle.rv_asm.specs.Sizes.{size_of, lays_words}
 use Rattle.rv_asm.specs.Statements.{statements_of}
 
 -- what is laid out so far: what the names mean, the statements with their lines, and how many bytes they take
-pub record Laid : Type 0 where
+pub record LayoutSoFar : Type 0 where
   pub names : Names
-  pub statements : List Placed
+  pub statements : List PlacedStatement
   pub size : ℕ
 
-abbrev pub laid_of : Names → List Placed → ℕ → Laid
+abbrev pub laid_of : Names → List PlacedStatement → ℕ → LayoutSoFar
 laid_of names statements size = record { names = names; statements = statements; size = size }
 
-abbrev pub nothing_laid : Laid
+abbrev pub nothing_laid : LayoutSoFar
 nothing_laid = laid_of no_names [] 0
 
 -- what is known of a call that lays something: what is laid out then is what the definition says, unless memory ran out
-abbrev pub HasLaid : Result (Unit {0}) Halt → Laid → Result Laid AsmKind → Type 0
+abbrev pub HasLaid : Result (Unit {0}) Halt → LayoutSoFar → Result LayoutSoFar AsmKind → Type 0
 HasLaid (Ok done) laid judged = judged ≡ Ok laid
 HasLaid (Err halt) laid judged = IsHaltOf halt judged
 
 -- ---- places
 
 -- one more statement, of this line
-unfoldable pub place : ℕ → Laid → Statement → Result Laid AsmKind
+unfoldable pub place : ℕ → LayoutSoFar → Statement → Result LayoutSoFar AsmKind
 place line laid statement = do
   aligned ← refuse (lays_words statement && not (laid.size % 4 == 0)) Unaligned
   fits ← refuse (nat_lt image_room (laid.size + size_of statement)) TooLarge
   Ok (laid_of laid.names (laid.statements ++ record { line = line; statement = statement } ∷ []) (laid.size + size_of statement))
 
-unfoldable pub place_all : ℕ → Laid → List Statement → Result Laid AsmKind
+unfoldable pub place_all : ℕ → LayoutSoFar → List Statement → Result LayoutSoFar AsmKind
 place_all line laid [] = Ok laid
 place_all line laid (statement ∷ statements) = do
   one ← place line laid statement
@@ -56,21 +56,21 @@ place_all line laid (statement ∷ statements) = do
 -- ---- a line
 
 -- a name that means something from here on
-unfoldable pub define : Laid → List ℕ → Symbol → Result Laid AsmKind
+unfoldable pub define : LayoutSoFar → List ℕ → Symbol → Result LayoutSoFar AsmKind
 define laid name symbol = do
   free ← refuse (is_taken laid.names name) NameTaken
   Ok (laid_of (with_name laid.names name symbol) laid.statements laid.size)
 
 -- `.equ name, n`
-unfoldable pub equ : Laid → List ℕ → Result Laid AsmKind
+unfoldable pub equ : LayoutSoFar → List ℕ → Result LayoutSoFar AsmKind
 equ laid operands = do
-  free ← refuse (is_taken laid.names (trimmed (cut is_comma operands).0)) NameTaken
+  free ← refuse (is_taken laid.names (without_outer_blanks (cut is_comma operands).0)) NameTaken
   parts ← two_pieces operands
   values ← both (name_piece parts.0) (number laid.names parts.1)
   define laid parts.0 (Number values.1)
 
 -- a statement whose mnemonic or directive is another than `.equ`
-unfoldable pub lay : ℕ → Laid → List ℕ → List ℕ → Result Laid AsmKind
+unfoldable pub lay : ℕ → LayoutSoFar → List ℕ → List ℕ → Result LayoutSoFar AsmKind
 lay line laid front operands = do
   mnemonic ← or_fault (mnemonic_of front) UnknownWord
   statements ← statements_of mnemonic laid.names operands
@@ -79,10 +79,10 @@ lay line laid front operands = do
 -- what stands behind a mnemonic, without blanks at its ends
 abbrev pub operands_of : Option (List ℕ) → List ℕ
 operands_of None = []
-operands_of (Some rest) = trimmed rest
+operands_of (Some rest) = without_outer_blanks rest
 
 -- what a line has behind its label: nothing, or a mnemonic and its operands
-unfoldable pub statement : ℕ → Laid → List ℕ → Result Laid AsmKind
+unfoldable pub statement : ℕ → LayoutSoFar → List ℕ → Result LayoutSoFar AsmKind
 statement line laid [] = Ok laid
 statement line laid (byte ∷ bytes) = do
   one_colon ← refuse (list_any is_colon (byte ∷ bytes)) UnknownWord
@@ -90,18 +90,18 @@ statement line laid (byte ∷ bytes) = do
   if bytes_eq parts.0 (codes ".equ") then equ laid (operands_of parts.1) else lay line laid parts.0 (operands_of parts.1)
 
 -- a label, and the statement behind it; or a statement alone
-abbrev pub labelled : ℕ → Laid → List ℕ → Option (List ℕ) → Result Laid AsmKind
-labelled line laid front None = statement line laid (trimmed front)
-labelled line laid front (Some rest) = do
-  named ← refuse (not (is_name (trimmed front))) UnknownWord
-  defined ← define laid (trimmed front) (Label (image_start + laid.size))
-  statement line defined (trimmed rest)
+abbrev pub labelled_statement : ℕ → LayoutSoFar → List ℕ → Option (List ℕ) → Result LayoutSoFar AsmKind
+labelled_statement line laid front None = statement line laid (without_outer_blanks front)
+labelled_statement line laid front (Some rest) = do
+  named ← refuse (not (is_name (without_outer_blanks front))) UnknownWord
+  defined ← define laid (without_outer_blanks front) (Label (image_start + laid.size))
+  statement line defined (without_outer_blanks rest)
 
 -- one line
-unfoldable pub line_laid : ℕ → Laid → List ℕ → Result Laid AsmKind
+unfoldable pub line_laid : ℕ → LayoutSoFar → List ℕ → Result LayoutSoFar AsmKind
 line_laid number laid line = do
   plain ← refuse (not (list_all is_plain (before_comment line))) BadByte
-  labelled number laid (cut is_colon (before_comment line)).0 (cut is_colon (before_comment line)).1
+  labelled_statement number laid (cut is_colon (before_comment line)).0 (cut is_colon (before_comment line)).1
 
 -- ---- all lines
 
@@ -111,12 +111,12 @@ at_line line (Ok x) = Ok x
 at_line line (Err kind) = Err (record { line = line; kind = kind })
 
 -- lines, of which the first has the number behind this one
-unfoldable pub lines_laid : ℕ → Laid → List (List ℕ) → Result Laid AsmFault
+unfoldable pub lines_laid : ℕ → LayoutSoFar → List (List ℕ) → Result LayoutSoFar AsmFault
 lines_laid before laid [] = Ok laid
 lines_laid before laid (line ∷ lines) = do
   one ← at_line (before + 1) (line_laid (before + 1) laid line)
   lines_laid (before + 1) one lines
 
 -- the first pass over a text
-unfoldable pub first_pass : List ℕ → Result Laid AsmFault
+unfoldable pub first_pass : List ℕ → Result LayoutSoFar AsmFault
 first_pass text = lines_laid 0 nothing_laid (lines text)

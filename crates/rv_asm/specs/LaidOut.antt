@@ -1,7 +1,7 @@
 -- What the code's layout stands for.
 use Rattle.rv_asm.specs.declared.layout.Layout.{Layout}
-use Rattle.rv_asm.specs.Symbols.{names_of}
-use Rattle.rv_asm.specs.FirstPass.{Laid, laid_of}
+use Rattle.ce_text.specs.Names.{meanings_of}
+use Rattle.rv_asm.specs.FirstPass.{LayoutSoFar, laid_of}
 
-abbrev pub laid_out : Layout → Laid
-laid_out layout = laid_of (names_of layout.symbols) layout.statements.items layout.size
+abbrev pub laid_out : Layout → LayoutSoFar
+laid_out layout = laid_of (meanings_of layout.symbols) layout.statements.items layout.size

@@ -5,7 +5,6 @@ pub mod Places
 pub mod Literal
 pub mod Faults
 pub mod Names
-pub mod Symbols
 pub mod Operand
 pub mod Words
 pub mod Sizes

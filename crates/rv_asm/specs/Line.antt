@@ -1,8 +1,8 @@
 -- What stands in a line of assembly.
-use Rattle.std.specs.Prelude.{ℕ, Bool, false, not, ◌||◌, ◌==◌, List, [], ◌∷◌, map}
+use Rattle.std.specs.Prelude.{ℕ, Bool, false, not, ◌||◌, ◌==◌, List, [], ◌∷◌, map, Option, Some, None}
 use Rattle.std.specs.List.{slice_split, list_all}
 use Rattle.ce_text.specs.Bytes.{is_blank}
-use Rattle.ce_text.specs.Line.{trimmed}
+use Rattle.ce_text.specs.Line.{without_outer_blanks}
 
 abbrev pub is_colon : ℕ → Bool
 is_colon byte = byte == 58
@@ -27,4 +27,9 @@ is_token (byte ∷ bytes) = list_all is_token_byte (byte ∷ bytes)
 
 -- the pieces between commas, without blanks at their ends
 unfoldable pub pieces : List ℕ → List (List ℕ)
-pieces operands = map trimmed (slice_split is_comma operands)
+pieces operands = map without_outer_blanks (slice_split is_comma operands)
+
+-- the same of what stands behind a comma, where there is one
+abbrev pub pieces_behind : Option (List ℕ) → List (List ℕ)
+pieces_behind None = []
+pieces_behind (Some rest) = pieces rest

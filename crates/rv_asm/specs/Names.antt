@@ -1,5 +1,6 @@
 -- What names mean.
-use Rattle.std.specs.Prelude.{ℕ, List, Bool, Option, Some, None, if◌then◌else◌, bytes_eq, is_some}
+use Rattle.std.specs.Prelude.{ℕ, List, Bool, Option, Some, None, bytes_eq, is_some}
+use Rattle.std.specs.Map.{update}
 use Rattle.rv_asm.specs.declared.symbols.Symbol.{Symbol}
 
 -- what each name means so far
@@ -11,7 +12,7 @@ no_names name = None
 
 -- the names, and one more
 abbrev pub with_name : Names → List ℕ → Symbol → Names
-with_name names name symbol other = if bytes_eq name other then Some symbol else names other
+with_name names name symbol = update bytes_eq names name (Some symbol)
 
 abbrev pub is_taken : Names → List ℕ → Bool
 is_taken names name = is_some (names name)

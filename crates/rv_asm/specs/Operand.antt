@@ -6,7 +6,7 @@ use Rattle.rv_asm.specs.declared.fault.AsmKind.{AsmKind}
 use Rattle.rv_asm.specs.declared.fault.AsmKind.TheVariants.{Operands, BadRegister, BadNumber, UnknownName}
 use Rattle.rv_asm.specs.declared.symbols.Symbol.{Symbol}
 use Rattle.rv_asm.specs.declared.symbols.Symbol.TheVariants.{Label, Number}
-use Rattle.ce_text.specs.Line.{cut, trimmed}
+use Rattle.ce_text.specs.Line.{cut, without_outer_blanks}
 use Rattle.rv_asm.specs.Line.{pieces, is_token, is_opening, is_closing}
 use Rattle.rv_asm.specs.Name.{is_name}
 use Rattle.rv_asm.specs.Register.{register_of}
@@ -66,8 +66,8 @@ number names piece = do
   if is_name piece then number_named (names piece) else or_fault (literal_of piece) BadNumber
 
 -- a number that is judged to lie in a range
-unfoldable pub ranged : ℤ → ℤ → Result ℤ AsmKind → Result ℤ AsmKind
-ranged low high judged = judged >>= λ n. if int_le low n && int_le n high then Ok n else Err BadNumber
+unfoldable pub number_in_range : ℤ → ℤ → Result ℤ AsmKind → Result ℤ AsmKind
+number_in_range low high judged = judged >>= λ n. if int_le low n && int_le n high then Ok n else Err BadNumber
 
 -- an operand that is a name
 unfoldable pub name_piece : List ℕ → Result (Unit {0}) AsmKind
@@ -75,19 +75,19 @@ name_piece piece = refuse (not (is_name piece)) Operands
 
 -- from -2,048 to 2,047
 unfoldable pub twelve_bits : Names → List ℕ → Result ℤ AsmKind
-twelve_bits names piece = ranged (negsuc 2047) (pos 2047) (number names piece)
+twelve_bits names piece = number_in_range (negsuc 2047) (pos 2047) (number names piece)
 
 -- behind `n(`: the register, and nothing behind its bracket
-abbrev pub closed : Option (List ℕ) → Bool
-closed None = false
-closed (Some rest) = length (trimmed rest) == 0
+abbrev pub is_closed : Option (List ℕ) → Bool
+is_closed None = false
+is_closed (Some rest) = length (without_outer_blanks rest) == 0
 
 -- `n(rs1)`, as its number and its register
 abbrev pub in_brackets : Names → List ℕ → Option (List ℕ) → Result (ℤ × ℕ) AsmKind
 in_brackets names front None = Err Operands
 in_brackets names front (Some behind) = do
-  whole ← refuse (not (closed (cut is_closing behind).1)) Operands
-  both (twelve_bits names (trimmed front)) (register (trimmed (cut is_closing behind).0))
+  whole ← refuse (not (is_closed (cut is_closing behind).1)) Operands
+  both (twelve_bits names (without_outer_blanks front)) (register (without_outer_blanks (cut is_closing behind).0))
 
 unfoldable pub memory : Names → List ℕ → Result (ℤ × ℕ) AsmKind
 memory names piece = in_brackets names (cut is_opening piece).0 (cut is_opening piece).1

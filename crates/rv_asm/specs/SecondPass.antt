@@ -10,7 +10,7 @@ use Rattle.rv_asm.specs.declared.symbols.Symbol.{Symbol}
 use Rattle.rv_asm.specs.declared.symbols.Symbol.TheVariants.{Label, Number}
 use Rattle.rv_asm.specs.declared.statement.Statement.{Statement}
 use Rattle.rv_asm.specs.declared.statement.Statement.TheVariants as statements
-use Rattle.rv_asm.specs.declared.statement.Placed.{Placed}
+use Rattle.rv_asm.specs.declared.statement.PlacedStatement.{PlacedStatement}
 use Rattle.rv_asm.specs.Names.{Names}
 use Rattle.rv_asm.specs.Faults.{◌>>=◌, refuse}
 use Rattle.rv_asm.specs.Sizes.{size_of}
@@ -69,7 +69,7 @@ parts_of names address (statements.Byte byte) = Ok (Plain (byte ∷ []) ∷ [])
 parts_of names address (statements.Zero count) = Ok (Plain (replicate count 0) ∷ [])
 
 -- what statements from an address on become
-unfoldable pub second_pass : Names → ℕ → List Placed → Result (List Part) AsmFault
+unfoldable pub second_pass : Names → ℕ → List PlacedStatement → Result (List Part) AsmFault
 second_pass names address [] = Ok []
 second_pass names address (placed ∷ others) = do
   here ← at_line placed.line (parts_of names address placed.statement)

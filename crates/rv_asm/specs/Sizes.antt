@@ -1,6 +1,6 @@
 -- How much room statements take.
 use Rattle.std.specs.Prelude.{ℕ, Bool, true, false, List, sum_by}
-use Rattle.rv_asm.specs.declared.statement.Placed.{Placed}
+use Rattle.rv_asm.specs.declared.statement.PlacedStatement.{PlacedStatement}
 use Rattle.rv_asm.specs.declared.statement.Statement.{Statement}
 use Rattle.rv_asm.specs.declared.statement.Statement.TheVariants.{Inst, Jal, Branch, La, Word, Address, Byte, Zero}
 
@@ -22,5 +22,5 @@ lays_words (Zero count) = false
 lays_words statement = true
 
 -- how many bytes statements take together
-abbrev pub statements_size : List Placed → ℕ
+abbrev pub statements_size : List PlacedStatement → ℕ
 statements_size placed = sum_by (λ it. size_of it.statement) placed

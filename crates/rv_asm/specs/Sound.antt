@@ -10,7 +10,7 @@ use Rattle.rv_asm.specs.declared.mnemonic.Mnemonic.{Mnemonic}
 use Rattle.rv_asm.specs.declared.mnemonic.Mnemonic.TheVariants as words
 use Rattle.rv_asm.specs.declared.statement.Statement.{Statement}
 use Rattle.rv_asm.specs.declared.statement.Statement.TheVariants as statements
-use Rattle.rv_asm.specs.declared.statement.Placed.{Placed}
+use Rattle.rv_asm.specs.declared.statement.PlacedStatement.{PlacedStatement}
 
 -- the instruction or the register that a mnemonic stands for is one
 abbrev pub IsSoundMnemonic : Mnemonic → Type 0
@@ -33,7 +33,7 @@ abbrev pub AreSound : List Statement → Type 0
 AreSound [] = Unit {0}
 AreSound (statement ∷ others) = IsSound statement × AreSound others
 
-abbrev pub ArePlacedSound : List Placed → Type 0
+abbrev pub ArePlacedSound : List PlacedStatement → Type 0
 ArePlacedSound [] = Unit {0}
 ArePlacedSound (placed ∷ others) = IsSound placed.statement × ArePlacedSound others
 
@@ -74,6 +74,6 @@ IsSound-prop (statements.Address label) = hlevel props
 IsSound-prop (statements.Byte byte) = hlevel props
 IsSound-prop (statements.Zero count) = hlevel props
 
-pub ArePlacedSound-prop : (placed : List Placed) → IsProp (ArePlacedSound placed)
+pub ArePlacedSound-prop : (placed : List PlacedStatement) → IsProp (ArePlacedSound placed)
 ArePlacedSound-prop [] = hlevel props
 ArePlacedSound-prop (one ∷ others) = hlevel (props, IsSound-prop one.statement, ArePlacedSound-prop others)

@@ -19,7 +19,7 @@ use Rattle.rv_asm.specs.Name.{is_name}
 use Rattle.rv_asm.specs.Literal.{literal_of}
 use Rattle.rv_asm.specs.Names.{Names}
 use Rattle.rv_asm.specs.Faults.{◌>>=◌, refuse, or_fault, both, all_of}
-use Rattle.rv_asm.specs.Operand.{no_piece, one_piece, two_pieces, three_pieces, register, number, ranged, name_piece, memory, word_of, byte_of, least_immediate, greatest_immediate}
+use Rattle.rv_asm.specs.Operand.{no_piece, one_piece, two_pieces, three_pieces, register, number, number_in_range, name_piece, memory, word_of, byte_of, least_immediate, greatest_immediate}
 
 -- ---- `li` and `la`
 
@@ -49,7 +49,7 @@ load_word rd word = if is_short word then insts.OpImm Addi rd 0 (low_part word) 
 unfoldable pub register_upper : Names → List ℕ → Result (ℕ × ℕ) AsmKind
 register_upper names operands = do
   parts ← two_pieces operands
-  values ← both (register parts.0) (ranged (pos 0) (pos 1048575) (number names parts.1))
+  values ← both (register parts.0) (number_in_range (pos 0) (pos 1048575) (number names parts.1))
   Ok (values.0, unsigned_abs values.1 * 4096)
 
 -- `rd, n(rs1)`, as rd, n and rs1
@@ -61,7 +61,7 @@ register_memory names operands = do
 
 -- the number of an operation on a register and a number
 unfoldable pub immediate : Names → ImmOp → List ℕ → Result ℤ AsmKind
-immediate names op piece = ranged (least_immediate op) (greatest_immediate op) (number names piece)
+immediate names op piece = number_in_range (least_immediate op) (greatest_immediate op) (number names piece)
 
 -- `rd, rs1, n`
 unfoldable pub registers_immediate : Names → ImmOp → List ℕ → Result (ℕ × ℕ × ℤ) AsmKind
@@ -125,14 +125,14 @@ word_value names piece = do
 -- an operand of `.byte`, from -128 to 255
 unfoldable pub byte_value : Names → List ℕ → Result Statement AsmKind
 byte_value names piece = do
-  n ← ranged (negsuc 127) (pos 255) (number names piece)
+  n ← number_in_range (negsuc 127) (pos 255) (number names piece)
   Ok (statements.Byte (byte_of n))
 
 -- `n` of `.zero`, from 0 to the most bytes that an image may take up
 unfoldable pub zero_count : Names → List ℕ → Result ℕ AsmKind
 zero_count names operands = do
   part ← one_piece operands
-  n ← ranged (pos 0) (pos image_room) (number names part)
+  n ← number_in_range (pos 0) (pos image_room) (number names part)
   Ok (unsigned_abs n)
 
 -- ---- the table

@@ -1,7 +1,7 @@
 //! The image that a text describes.
 
 ghost use Rattle.std.specs.Prelude.{◌≡◌, ◌^◌, ◌<◌, length};
-ghost use Rattle.rv_asm.specs.Symbols.{names_of};
+ghost use Rattle.ce_text.specs.Names.{meanings_of};
 ghost use Rattle.rv_asm.specs.Assembly.{entry_of, IsAssemblyOf};
 
 use crate::fault::{AsmFault, AsmKind};
@@ -14,7 +14,7 @@ use std::alloc::Global;
 
 /// The label `start`, and the start of the image where no line has it.
 fn entry_of(symbols: &Symbols) -> u32
-    ensures { result ≡ entry_of (names_of symbols.now) }
+    ensures { result ≡ entry_of (meanings_of symbols.now) }
 {
     match symbols.meaning(b"start") {
         Some(Symbol::Label(address)) => address,

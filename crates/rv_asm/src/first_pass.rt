@@ -4,7 +4,7 @@ ghost use Rattle.std.specs.Prelude.{◌≡◌, ◌^◌, ◌<◌, length, Some, o
 ghost use Rattle.rv_asm.specs.Sizes.{size_of, lays_words};
 ghost use Rattle.rv_asm.specs.Sound.{IsSound, AreSound};
 ghost use Rattle.rv_asm.specs.LaidOut.{laid_out};
-ghost use Rattle.rv_asm.specs.FirstPass.{place, place_all, define, equ, lay, statement, labelled, line_laid, operands_of, HasLaid, first_pass};
+ghost use Rattle.rv_asm.specs.FirstPass.{place, place_all, define, equ, lay, statement, labelled_statement, line_laid, operands_of, HasLaid, first_pass};
 ghost use Rattle.rv_asm.specs.Faults.{IsAllSeenAs};
 
 use crate::fault::{AsmFault, AsmKind, Halt};
@@ -12,7 +12,7 @@ use crate::layout::Layout;
 use crate::mnemonic::mnemonic_of;
 use crate::name::is_name;
 use crate::operand::{both, name_piece, number, two_pieces};
-use crate::statement::{Placed, Statement, statements_of};
+use crate::statement::{PlacedStatement, Statement, statements_of};
 use crate::symbols::{Symbol, Symbols};
 use ce_text::{are_plain, before_comment, cut_at, cut_at_blank, has_byte, trimmed};
 use rv_model::{IMAGE_ROOM, PRIVATE_START};
@@ -50,7 +50,8 @@ impl<'a> Layout<'a> {
     #[tactic(auto, unfolding(crate::specs::FirstPass::place))]
     fn place(&mut self, line: u32, statement: Statement<'a>) -> Result<(), Halt>
         requires { IsSound statement }
-        ensures { HasLaid result (laid_out self.new) (place line (laid_out self.old) statement.entry) }
+        ensures { HasLaid result (laid_out self.new)
+            (place line (laid_out self.old) statement.entry) }
     {
         if lays_words(&statement) && self.size % 4 != 0 {
             return Err(Halt::Fault(AsmKind::Unaligned));
@@ -59,7 +60,7 @@ impl<'a> Layout<'a> {
         if size > IMAGE_ROOM - self.size {
             return Err(Halt::Fault(AsmKind::TooLarge));
         }
-        self.statements.push(Placed { line, statement })?;
+        self.statements.push(PlacedStatement { line, statement })?;
         self.size += size;
         Ok(())
     }
@@ -80,7 +81,7 @@ impl<'a> Layout<'a> {
     fn define(&mut self, name: &[u8], symbol: Symbol) -> Result<(), Halt>
         ensures { HasLaid result (laid_out self.new) (define (laid_out self.old) name.now symbol) }
     {
-        if self.symbols.is_taken(name) {
+        if self.symbols.meaning(name).is_some() {
             return Err(Halt::Fault(AsmKind::NameTaken));
         }
         self.symbols.define(name, symbol)?;
@@ -93,7 +94,7 @@ impl<'a> Layout<'a> {
         ensures { HasLaid result (laid_out self.new) (equ (laid_out self.old) operands.now) }
     {
         let first = cut_at(operands, b',').0;
-        if self.symbols.is_taken(trimmed(first)) {
+        if self.symbols.meaning(trimmed(first)).is_some() {
             return Err(Halt::Fault(AsmKind::NameTaken));
         }
         let (name, n) = two_pieces(operands)?;
@@ -115,7 +116,8 @@ impl<'a> Layout<'a> {
     /// What a line has behind its label: nothing, or a mnemonic and its operands.
     #[tactic(auto, unfolding(crate::specs::FirstPass::statement))]
     fn statement(&mut self, line: u32, bytes: &'a [u8]) -> Result<(), Halt>
-        ensures { HasLaid result (laid_out self.new) (statement line (laid_out self.old) bytes.now) }
+        ensures { HasLaid result (laid_out self.new)
+            (statement line (laid_out self.old) bytes.now) }
     {
         if bytes.is_empty() {
             return Ok(());
@@ -133,7 +135,7 @@ impl<'a> Layout<'a> {
 
     fn labelled(&mut self, line: u32, front: &'a [u8], rest: &'a [u8]) -> Result<(), Halt>
         ensures { HasLaid result (laid_out self.new)
-            (labelled line (laid_out self.old) front.now (Some rest.now)) }
+            (labelled_statement line (laid_out self.old) front.now (Some rest.now)) }
     {
         let label = trimmed(front);
         if !is_name(label) {
@@ -147,7 +149,8 @@ impl<'a> Layout<'a> {
     /// One line.
     #[tactic(auto, unfolding(crate::specs::FirstPass::line_laid))]
     fn line(&mut self, number: u32, bytes: &'a [u8]) -> Result<(), Halt>
-        ensures { HasLaid result (laid_out self.new) (line_laid number (laid_out self.old) bytes.now) }
+        ensures { HasLaid result (laid_out self.new)
+            (line_laid number (laid_out self.old) bytes.now) }
     {
         let code = before_comment(bytes);
         if !are_plain(code) {

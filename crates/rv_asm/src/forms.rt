@@ -2,7 +2,7 @@
 
 ghost use Rattle.std.specs.Prelude.{◌≡◌, IfOk};
 ghost use Rattle.rv_inst.specs.Valid.{IsRegister, IsTwelveBits, IsUpper, IsImmediateOf};
-ghost use Rattle.rv_asm.specs.Symbols.{names_of};
+ghost use Rattle.ce_text.specs.Names.{meanings_of};
 ghost use Rattle.rv_asm.specs.Operand.{word_of, byte_of};
 ghost use Rattle.rv_asm.specs.Statements.{register_upper, register_memory, immediate, registers_immediate, three_registers, register_label, registers_label};
 
@@ -31,7 +31,7 @@ pub fn byte_of(number: i64) -> u8
 /// `rd, n` with n from 0 to 1,048,575, which is bits 31..12.
 #[tactic(auto, unfolding(crate::specs::Statements::register_upper))]
 pub fn register_upper(symbols: &Symbols, operands: &[u8]) -> Judged<(u8, u32)>
-    ensures value { result ≡ register_upper (names_of symbols.now) operands.now }
+    ensures value { result ≡ register_upper (meanings_of symbols.now) operands.now }
     ensures small { IfOk result (λ it. IsRegister it.0 × IsUpper it.1) }
 {
     let (rd, upper) = two_pieces(operands)?;
@@ -42,7 +42,7 @@ pub fn register_upper(symbols: &Symbols, operands: &[u8]) -> Judged<(u8, u32)>
 /// `rd, n(rs1)`, as rd, n and rs1.
 #[tactic(auto, unfolding(crate::specs::Statements::register_memory))]
 pub fn register_memory(symbols: &Symbols, operands: &[u8]) -> Judged<(u8, i32, u8)>
-    ensures value { result ≡ register_memory (names_of symbols.now) operands.now }
+    ensures value { result ≡ register_memory (meanings_of symbols.now) operands.now }
     ensures small { IfOk result (λ it. IsRegister it.0 × IsTwelveBits it.1 × IsRegister it.2) }
 {
     let (rd, place) = two_pieces(operands)?;
@@ -53,7 +53,7 @@ pub fn register_memory(symbols: &Symbols, operands: &[u8]) -> Judged<(u8, i32, u
 /// The number of an operation on a register and a number: a shift amount, or from -2,048 to 2,047.
 #[tactic(auto, unfolding(crate::specs::Statements::immediate, crate::specs::Operand::twelve_bits))]
 fn immediate(symbols: &Symbols, op: ImmOp, piece: &[u8]) -> Judged<i64>
-    ensures value { result ≡ immediate (names_of symbols.now) op piece.now }
+    ensures value { result ≡ immediate (meanings_of symbols.now) op piece.now }
     ensures fits { IfOk result (IsImmediateOf op) }
     ensures small { IfOk result IsTwelveBits }
 {
@@ -66,7 +66,7 @@ fn immediate(symbols: &Symbols, op: ImmOp, piece: &[u8]) -> Judged<i64>
 /// `rd, rs1, n` of an operation on a register and a number.
 #[tactic(auto, unfolding(crate::specs::Statements::registers_immediate))]
 pub fn registers_immediate(symbols: &Symbols, op: ImmOp, operands: &[u8]) -> Judged<(u8, u8, i32)>
-    ensures value { result ≡ registers_immediate (names_of symbols.now) op operands.now }
+    ensures value { result ≡ registers_immediate (meanings_of symbols.now) op operands.now }
     ensures small { IfOk result (λ it. IsRegister it.0 × IsRegister it.1 × IsImmediateOf op it.2) }
 {
     let (rd, rs1, n) = three_pieces(operands)?;

@@ -5,7 +5,7 @@ ghost use Rattle.rv_model.specs.Image.{image_room};
 ghost use Rattle.rv_asm.specs.Sizes.{size_of};
 ghost use Rattle.rv_asm.specs.Sound.{ArePlacedSound, ArePlacedSound-prop};
 
-use crate::statement::Placed;
+use crate::statement::PlacedStatement;
 use crate::symbols::Symbols;
 use std::alloc::Global;
 
@@ -14,7 +14,7 @@ use std::alloc::Global;
 pub struct Layout<'a> {
     pub alloc: Global,
     pub symbols: Symbols,
-    pub statements: Vec<Placed<'a>>,
+    pub statements: Vec<PlacedStatement<'a>>,
     /// How many bytes the statements take.
     pub size: u32,
     ghost counted: { size ≡ sum_by (λ placed. size_of placed.statement) statements.items },

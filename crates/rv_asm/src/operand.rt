@@ -1,10 +1,11 @@
 //! Operands of statements.
 
-ghost use Rattle.std.specs.Prelude.{◌≡◌, ◌≤ℤ◌, Some, Ok, IfOk};
+ghost use Rattle.std.specs.Prelude.{◌≡◌, ◌∷◌, [], ◌≤ℤ◌, ◌<◌, length, Some, Ok, IfOk, IfSome, option_map};
 ghost use Rattle.rv_inst.specs.Valid.{IsRegister, IsTwelveBits};
 ghost use Rattle.rv_asm.specs.Faults.{both};
-ghost use Rattle.rv_asm.specs.Symbols.{names_of};
-ghost use Rattle.rv_asm.specs.Operand.{IsViewOf, no_piece, one_piece, two_pieces, three_pieces, register, number, ranged, name_piece, twelve_bits, in_brackets, memory};
+ghost use Rattle.rv_asm.specs.Line.{pieces, pieces_behind};
+ghost use Rattle.ce_text.specs.Names.{meanings_of};
+ghost use Rattle.rv_asm.specs.Operand.{IsViewOf, no_piece, one_piece, two_pieces, three_pieces, register, number, number_in_range, name_piece, twelve_bits, in_brackets, memory};
 
 use crate::fault::{AsmKind, Judged};
 use crate::line::is_token;
@@ -37,43 +38,52 @@ pub fn no_piece(operands: &[u8]) -> Judged<()>
     }
 }
 
+/// The first operand, and what stands behind its comma, where there is one.
+pub fn first_piece(operands: &[u8]) -> (&[u8], Option<&[u8]>)
+    ensures parts { pieces operands.now
+        ≡ result.0.now ∷ pieces_behind (option_map (λ rest. rest.now) result.1) }
+    ensures shorter { IfSome result.1 (λ rest. length rest.now < length operands.now) }
+{
+    let (piece, rest) = cut_at(operands, b',');
+    (trimmed(piece), rest)
+}
+
 /// The one operand, and `Operands` where there are more.
-#[tactic(auto, using(crate::proofs::Pieces::one_none, crate::proofs::Pieces::one_some))]
+#[tactic(auto, using(crate::proofs::Pieces::one_alone, crate::proofs::Pieces::one_more))]
 pub fn one_piece(operands: &[u8]) -> Judged<&[u8]>
     ensures { IsViewOf (λ piece. piece.now) result (one_piece operands.now) }
 {
-    let (piece, rest) = cut_at(operands, b',');
-    match rest {
-        None => Ok(trimmed(piece)),
-        Some(_) => Err(AsmKind::Operands),
+    match first_piece(operands) {
+        (only, None) => Ok(only),
+        (_, Some(_)) => Err(AsmKind::Operands),
     }
 }
 
 /// The two operands, and `Operands` where there are fewer or more.
+#[tactic(auto, using(crate::proofs::Pieces::two_alone, crate::proofs::Pieces::two_more, crate::proofs::Pieces::two_wrong))]
 pub fn two_pieces(operands: &[u8]) -> Judged<(&[u8], &[u8])>
     ensures { IsViewOf (λ parts. (parts.0.now, parts.1.now)) result (two_pieces operands.now) }
 {
-    let (piece, rest) = cut_at(operands, b',');
-    match rest {
-        None => Err(AsmKind::Operands),
-        Some(rest) => {
+    match first_piece(operands) {
+        (_, None) => Err(AsmKind::Operands),
+        (first, Some(rest)) => {
             let second = one_piece(rest)?;
-            Ok((trimmed(piece), second))
+            Ok((first, second))
         }
     }
 }
 
 /// The three operands, and `Operands` where there are fewer or more.
+#[tactic(auto, using(crate::proofs::Pieces::three_alone, crate::proofs::Pieces::three_more, crate::proofs::Pieces::three_wrong))]
 pub fn three_pieces(operands: &[u8]) -> Judged<(&[u8], &[u8], &[u8])>
     ensures { IsViewOf (λ parts. (parts.0.now, parts.1.now, parts.2.now)) result
         (three_pieces operands.now) }
 {
-    let (piece, rest) = cut_at(operands, b',');
-    match rest {
-        None => Err(AsmKind::Operands),
-        Some(rest) => {
+    match first_piece(operands) {
+        (_, None) => Err(AsmKind::Operands),
+        (first, Some(rest)) => {
             let (second, third) = two_pieces(rest)?;
-            Ok((trimmed(piece), second, third))
+            Ok((first, second, third))
         }
     }
 }
@@ -96,7 +106,7 @@ pub fn register(piece: &[u8]) -> Judged<u8>
 /// A number. `Operands` where the operand is not one token, then `BadNumber`, then `UnknownName`.
 #[tactic(auto, unfolding(crate::specs::Operand::number))]
 pub fn number(symbols: &Symbols, piece: &[u8]) -> Judged<i64>
-    ensures { result ≡ number (names_of symbols.now) piece.now }
+    ensures { result ≡ number (meanings_of symbols.now) piece.now }
 {
     if !is_token(piece) {
         return Err(AsmKind::Operands);
@@ -111,9 +121,9 @@ pub fn number(symbols: &Symbols, piece: &[u8]) -> Judged<i64>
 }
 
 /// A number that is judged to lie in a range, and `BadNumber` where it does not.
-#[tactic(auto, unfolding(crate::specs::Operand::ranged))]
+#[tactic(auto, unfolding(crate::specs::Operand::number_in_range))]
 pub fn ranged(low: i64, high: i64, judged: Judged<i64>) -> Judged<i64>
-    ensures value { result ≡ ranged low high judged }
+    ensures value { result ≡ number_in_range low high judged }
     ensures least { IfOk result (λ number. low ≤ℤ number) }
     ensures greatest { IfOk result (λ number. number ≤ℤ high) }
 {
@@ -140,14 +150,14 @@ pub fn name_piece(piece: &[u8]) -> Judged<()>
 /// A number from -2,048 to 2,047.
 #[tactic(auto, unfolding(crate::specs::Operand::twelve_bits))]
 pub fn twelve_bits(symbols: &Symbols, piece: &[u8]) -> Judged<i64>
-    ensures value { result ≡ twelve_bits (names_of symbols.now) piece.now }
+    ensures value { result ≡ twelve_bits (meanings_of symbols.now) piece.now }
     ensures small { IfOk result IsTwelveBits }
 {
     ranged(-2048, 2047, number(symbols, piece))
 }
 
 fn in_brackets(symbols: &Symbols, front: &[u8], behind: &[u8]) -> Judged<(i64, u8)>
-    ensures value { result ≡ in_brackets (names_of symbols.now) front.now (Some behind.now) }
+    ensures value { result ≡ in_brackets (meanings_of symbols.now) front.now (Some behind.now) }
     ensures small { IfOk result (λ it. IsTwelveBits it.0 × IsRegister it.1) }
 {
     let (inner, rest) = cut_at(behind, b')');
@@ -168,7 +178,7 @@ fn in_brackets(symbols: &Symbols, front: &[u8], behind: &[u8]) -> Judged<(i64, u
 /// `n(rs1)`: a number from -2,048 to 2,047, and a register.
 #[tactic(auto, unfolding(crate::specs::Operand::memory))]
 pub fn memory(symbols: &Symbols, piece: &[u8]) -> Judged<(i64, u8)>
-    ensures value { result ≡ memory (names_of symbols.now) piece.now }
+    ensures value { result ≡ memory (meanings_of symbols.now) piece.now }
     ensures small { IfOk result (λ it. IsTwelveBits it.0 × IsRegister it.1) }
 {
     match cut_at(piece, b'(') {

@@ -4,7 +4,7 @@ ghost use Rattle.std.specs.Prelude.{◌≡◌, ◌+◌, ◌^◌, ◌≤◌, ◌�
 ghost use Rattle.std.specs.Int.{w32, to_le_bytes};
 ghost use Rattle.rv_inst.specs.Valid.{IsRegister, IsEven, IsValid};
 ghost use Rattle.rv_model.specs.Image.{image_start, image_room};
-ghost use Rattle.rv_asm.specs.Symbols.{names_of};
+ghost use Rattle.ce_text.specs.Names.{meanings_of};
 ghost use Rattle.rv_asm.specs.Sizes.{size_of};
 ghost use Rattle.rv_asm.specs.Sound.{IsSound};
 ghost use Rattle.rv_asm.specs.SecondPass.{Instruction, address_of, offset_to, parts_of, second_pass};
@@ -29,7 +29,7 @@ const BRANCH_REACH: u32 = 1 << 12;
 /// The address of a label, and `UnknownName` where no line has it.
 #[tactic(auto, unfolding(crate::specs::SecondPass::address_of))]
 fn address_of(symbols: &Symbols, label: &Name<'_>) -> Judged<u32>
-    ensures { result ≡ address_of (names_of symbols.now) label.now }
+    ensures { result ≡ address_of (meanings_of symbols.now) label.now }
 {
     match symbols.meaning(label.as_slice()) {
         Some(Symbol::Label(address)) => Ok(address),
@@ -87,7 +87,7 @@ fn put_statement(
     requires sound { IsSound statement.now }
     requires room { vec_len out.old ≤ image_room }
     ensures parts { HasAppended result out.old.items out.new.items
-        (parts_of (names_of symbols.now) (image_start + vec_len out.old) statement.now) }
+        (parts_of (meanings_of symbols.now) (image_start + vec_len out.old) statement.now) }
     ensures size { OnOk result (vec_len out.new ≡ vec_len out.old + size_of statement.now) }
 {
     let address = PRIVATE_START + out.len() as u32;
@@ -132,7 +132,7 @@ fn put_statement(
 /// The bytes of a layout, or its first fault of the second pass.
 pub fn second_pass(alloc: Global, layout: &Layout<'_>) -> Result<Vec<u8>, AsmFault>
     ensures parts { AreGivenParts (λ out. out.items) result
-        (second_pass (names_of layout.now.symbols) image_start layout.now.statements.items) }
+        (second_pass (meanings_of layout.now.symbols) image_start layout.now.statements.items) }
     ensures size { IfOk result (λ out. vec_len out ≡ layout.now.size) }
 {
     let mut out = Vec::new(alloc);

@@ -3,8 +3,8 @@
 ghost use Rattle.std.specs.Prelude.{◌≡◌, ◌∷◌, [], map, IfOk, Ok};
 ghost use Rattle.rv_inst.specs.Valid.{IsRegister, IsTwelveBits, IsUpper, IsValid};
 ghost use Rattle.rv_asm.specs.Sound.{IsSoundMnemonic, IsSound, AreSound};
-ghost use Rattle.rv_asm.specs.Faults.{IsSeenAs, all_of, gathered};
-ghost use Rattle.rv_asm.specs.Symbols.{names_of};
+ghost use Rattle.rv_asm.specs.Faults.{IsSeenAs, all_of, with_judged};
+ghost use Rattle.ce_text.specs.Names.{meanings_of};
 ghost use Rattle.rv_asm.specs.Statements.{low_part, high_part, two_instructions, load_word, word_value, byte_value, statements_of};
 ghost use Rattle.rv_asm.specs.Line.{pieces};
 ghost use Rattle.rv_asm.specs.Views.{datum_value, judged_of};
@@ -21,9 +21,10 @@ use crate::line::is_token;
 use crate::literal::literal_of;
 use crate::mnemonic::Mnemonic;
 use crate::name::{Name, is_name};
-use crate::operand::{both, name_piece, no_piece, number, one_piece, ranged, register, two_pieces};
+use crate::operand::{
+    both, first_piece, name_piece, no_piece, number, one_piece, ranged, register, two_pieces,
+};
 use crate::symbols::{Symbol, Symbols};
-use ce_text::{cut_at, trimmed};
 use rv_model::{BranchOp, IMAGE_ROOM, ImmOp, Inst};
 use std::alloc::{AllocError, Global};
 
@@ -61,7 +62,7 @@ pub enum Statement<'a> {
 
 /// A statement and its line.
 #[derive(Debug, Drop)]
-pub struct Placed<'a> {
+pub struct PlacedStatement<'a> {
     pub line: u32,
     pub statement: Statement<'a>,
 }
@@ -139,7 +140,7 @@ fn load_word<'a>(alloc: Global, rd: u8, word: u32) -> Result<Vec<Statement<'a>>,
 /// An operand of `.word`: a number, or a name that is none so far, which is a label.
 #[tactic(auto, unfolding(crate::specs::Statements::word_value))]
 fn word_value<'a>(symbols: &Symbols, piece: &'a [u8]) -> Judged<Statement<'a>>
-    ensures value { result ≡ word_value (names_of symbols.now) piece.now }
+    ensures value { result ≡ word_value (meanings_of symbols.now) piece.now }
     ensures sound { IfOk result IsSound }
 {
     if !is_token(piece) {
@@ -158,7 +159,7 @@ fn word_value<'a>(symbols: &Symbols, piece: &'a [u8]) -> Judged<Statement<'a>>
 /// An operand of `.word`, or one of `.byte`, which is from -128 to 255.
 #[tactic(auto, unfolding(crate::specs::Statements::byte_value))]
 fn datum_value<'a>(datum: Datum, symbols: &Symbols, piece: &'a [u8]) -> Judged<Statement<'a>>
-    ensures value { result ≡ datum_value datum (names_of symbols.now) piece.now }
+    ensures value { result ≡ datum_value datum (meanings_of symbols.now) piece.now }
     ensures sound { IfOk result IsSound }
 {
     match datum {
@@ -171,7 +172,7 @@ fn datum_value<'a>(datum: Datum, symbols: &Symbols, piece: &'a [u8]) -> Judged<S
 }
 
 /// One more judgment behind those of a line: the statement joins the list, or the fault is the one that is judged first.
-#[tactic(auto, unfolding(crate::specs::Faults::gathered, crate::specs::Faults::both))]
+#[tactic(auto, unfolding(crate::specs::Faults::with_judged, crate::specs::Faults::both))]
 fn gathered<'a>(
     list: &mut Vec<Statement<'a>>,
     fault: Option<AsmKind>,
@@ -179,7 +180,7 @@ fn gathered<'a>(
 ) -> Result<Option<AsmKind>, AllocError>
     requires { IfOk value IsSound }
     ensures more { IfOk result (λ next. judged_of next list.new.items
-        ≡ gathered (judged_of fault list.old.items) value.entry) }
+        ≡ with_judged (judged_of fault list.old.items) value.entry) }
     ensures sound { IfOk result (λ next. AreSound list.old.items → AreSound list.new.items) }
 {
     match value {
@@ -202,15 +203,15 @@ fn data<'a>(
     operands: &'a [u8],
 ) -> Result<Vec<Statement<'a>>, Halt>
     ensures value { IsSeenAs (λ list. list.items) result
-        (all_of (map (datum_value datum (names_of symbols.now)) (pieces operands.now))) }
+        (all_of (map (datum_value datum (meanings_of symbols.now)) (pieces operands.now))) }
     ensures sound { IfOk result (λ list. AreSound list.items) }
 {
     let mut list = Vec::new(alloc);
     let mut fault = None;
     let mut rest = Some(operands);
     while let Some(bytes) = rest {
-        let (piece, after) = cut_at(bytes, b',');
-        let value = datum_value(datum, symbols, trimmed(piece));
+        let (piece, after) = first_piece(bytes);
+        let value = datum_value(datum, symbols, piece);
         fault = gathered(&mut list, fault, value)?;
         rest = after;
     }
@@ -231,7 +232,7 @@ pub fn statements_of<'a>(
 ) -> Result<Vec<Statement<'a>>, Halt>
     requires { IsSoundMnemonic mnemonic }
     ensures value { IsSeenAs (λ list. list.items) result
-        (statements_of mnemonic (names_of symbols.now) operands.now) }
+        (statements_of mnemonic (meanings_of symbols.now) operands.now) }
     ensures sound { IfOk result (λ list. AreSound list.items) }
 {
     match mnemonic {

@@ -1,41 +1,37 @@
 -- Blanks change nothing.
-use Rattle.std.proofs.Common.{◌≡◌, ℕ, suc, ◌+◌, Bool, true, false, cond, not, eqb, List, [], ◌∷◌, ◌++◌, length, map, Option, Some, None, Result, Err, refl, sym, ap, ◌∙◌, subst, arith, append_assoc, ℤ}
-use Rattle.std.specs.Prelude.{◌||◌, ◌&&◌, nat_lt, bytes_eq, codes}
-use Rattle.std.specs.List.{list_any, list_all, slice_split, onto_first, position_or_len}
-use Rattle.std.proofs.lemmas.Bool.{eqb-true, ltb-true, ltb-false, lt-ltb, le-ltb}
-use Rattle.std.proofs.lemmas.List.{map-append, append-nil}
+use Rattle.std.proofs.Common.{◌≡◌, ℕ, Bool, true, false, cond, not, eqb, List, [], ◌∷◌, ◌++◌, map, Option, Some, None, Result, Err, refl, sym, ap, ◌∙◌, subst, ℤ}
+use Rattle.std.specs.Prelude.{◌||◌, ◌&&◌, bytes_eq, codes}
+use Rattle.std.specs.List.{list_any, list_all, slice_split, onto_first}
+use Rattle.std.proofs.lemmas.Bool.{and_parts, eqb-true}
+use Rattle.std.proofs.lemmas.List.{map-append}
 use Rattle.std.proofs.lemmas.List.Folds.{list_all-append, list_any-append}
 use Rattle.std.proofs.lemmas.List.Splits.{slice_split-cons_yes, slice_split-cons_no}
 use Rattle.ce_text.specs.Bytes.{is_blank, is_hash, is_plain}
-use Rattle.ce_text.specs.Line.{cut, trimmed, onto_trimmed, without_front_blanks, without_end_blanks, before_comment}
+use Rattle.ce_text.specs.Line.{cut, without_outer_blanks, onto_trimmed, without_front_blanks, without_end_blanks, before_comment}
 use Rattle.ce_text.proofs.Splitting.{split_cut, split_behind, cut_pieces}
 use Rattle.rv_asm.specs.declared.fault.AsmKind.{AsmKind}
 use Rattle.rv_asm.specs.declared.fault.AsmKind.TheVariants.{BadByte, UnknownWord, Operands}
 use Rattle.rv_asm.specs.declared.mnemonic.Mnemonic.{Mnemonic}
 use Rattle.rv_asm.specs.declared.mnemonic.Mnemonic.TheVariants as words
-use Rattle.rv_asm.specs.Line.{is_colon, is_comma, is_opening, is_closing, pieces}
+use Rattle.rv_asm.specs.Line.{is_colon, is_comma, is_opening, is_closing, pieces, pieces_behind}
 use Rattle.rv_asm.specs.Names.{Names}
 use Rattle.rv_asm.specs.Faults.{◌>>=◌, refuse, both}
-use Rattle.rv_asm.specs.Operand.{no_piece, one_piece, two_pieces, three_pieces, register, twelve_bits, memory, closed}
+use Rattle.rv_asm.specs.Operand.{no_piece, one_piece, two_pieces, three_pieces, register, twelve_bits, memory, is_closed}
 use Rattle.rv_asm.specs.Statements.{register_upper, register_memory, registers_immediate, three_registers, two_registers, register_word, register_label, registers_label, one_label, zero_count, statements_of}
-use Rattle.rv_asm.specs.FirstPass.{Laid, equ, lay, operands_of, statement, labelled, line_laid}
-use Rattle.rv_asm.proofs.Pieces.{pieces_cut, pieces_behind}
-use Rattle.rv_asm_laws.proofs.Comments.{either}
+use Rattle.rv_asm.specs.FirstPass.{LayoutSoFar, equ, lay, operands_of, statement, labelled_statement, line_laid}
+use Rattle.rv_asm.proofs.Pieces.{pieces_cut}
+use Rattle.ce_text.proofs.CutParts.{in_front, at_end, cut_later, cut_front, cut_none, cut_end, cut_mark}
 
 -- blanks, of which a text may have any number
 record AreBlanks (blanks : List ℕ) : Type 0 where
   all : list_all is_blank blanks ≡ true
 
-both_true : (a b : Bool) → a && b ≡ true → (a ≡ true) × (b ≡ true)
-both_true true b e = (refl, e)
-both_true false b e = absurd cc
-
 module _ (byte : ℕ) (blanks : List ℕ) (h : AreBlanks (byte ∷ blanks)) where
   first_blank : is_blank byte ≡ true
-  first_blank = (both_true (is_blank byte) (list_all is_blank blanks) h.all).0
+  first_blank = (and_parts (is_blank byte) (list_all is_blank blanks) h.all).0
 
   other_blanks : AreBlanks blanks
-  other_blanks = record { all = (both_true (is_blank byte) (list_all is_blank blanks) h.all).1 }
+  other_blanks = record { all = (and_parts (is_blank byte) (list_all is_blank blanks) h.all).1 }
 
 -- ---- trimming
 
@@ -44,8 +40,8 @@ unfolding without_front_blanks
 front_goes [] bytes h = refl
 front_goes (byte ∷ blanks) bytes h = rw (first_blank byte blanks h) (front_goes blanks bytes (other_blanks byte blanks h))
 
-trimmed_front : (blanks bytes : List ℕ) → AreBlanks blanks → trimmed (blanks ++ bytes) ≡ trimmed bytes
-unfolding trimmed
+trimmed_front : (blanks bytes : List ℕ) → AreBlanks blanks → without_outer_blanks (blanks ++ bytes) ≡ without_outer_blanks bytes
+unfolding without_outer_blanks
 trimmed_front blanks bytes h = ap without_end_blanks (front_goes blanks bytes h)
 
 blanks_go : (blanks : List ℕ) → AreBlanks blanks → without_end_blanks blanks ≡ []
@@ -63,8 +59,8 @@ unfolding without_front_blanks
 all_front [] h = refl
 all_front (byte ∷ blanks) h = rw (first_blank byte blanks h) (all_front blanks (other_blanks byte blanks h))
 
-nothing_left : (blanks : List ℕ) → AreBlanks blanks → trimmed blanks ≡ trimmed []
-unfolding trimmed without_front_blanks without_end_blanks
+nothing_left : (blanks : List ℕ) → AreBlanks blanks → without_outer_blanks blanks ≡ without_outer_blanks []
+unfolding without_outer_blanks without_front_blanks without_end_blanks
 nothing_left blanks h = ap without_end_blanks (all_front blanks h)
 
 trimmed_by : (byte : ℕ) (bytes blanks : List ℕ) (blank : Bool) → AreBlanks blanks → without_end_blanks (without_front_blanks (bytes ++ blanks)) ≡ without_end_blanks (without_front_blanks bytes)
@@ -77,75 +73,13 @@ unfolding without_front_blanks
 both_ends [] blanks h = ap without_end_blanks (all_front blanks h)
 both_ends (byte ∷ bytes) blanks h = trimmed_by byte bytes blanks (is_blank byte) h (both_ends bytes blanks h)
 
-trimmed_end : (bytes blanks : List ℕ) → AreBlanks blanks → trimmed (bytes ++ blanks) ≡ trimmed bytes
-unfolding trimmed
+trimmed_end : (bytes blanks : List ℕ) → AreBlanks blanks → without_outer_blanks (bytes ++ blanks) ≡ without_outer_blanks bytes
+unfolding without_outer_blanks
 trimmed_end bytes blanks h = both_ends bytes blanks h
-
--- ---- cutting
-
--- what a cut gives of more bytes in front, or at the end
-abbrev in_front : List ℕ → List ℕ × Option (List ℕ) → List ℕ × Option (List ℕ)
-in_front bytes (front, rest) = (bytes ++ front, rest)
-
-abbrev at_end : List ℕ → List ℕ × Option (List ℕ) → List ℕ × Option (List ℕ)
-at_end bytes (front, None) = (front ++ bytes, None)
-at_end bytes (front, Some rest) = (front, Some (rest ++ bytes))
-
-less_more : (a b : ℕ) (within : Bool) → nat_lt a b ≡ within → nat_lt (1 + a) (suc b) ≡ within
-less_more a b true e = lt-ltb _ _ (omega (arith, ltb-true a b e))
-less_more a b false e = le-ltb _ _ (omega (arith, ltb-false a b e))
-
-module _ (test : ℕ → Bool) (byte : ℕ) (bytes : List ℕ) where
-  cut_here : test byte ≡ true → cut test (byte ∷ bytes) ≡ ([], Some bytes)
-  unfolding cut
-  cut_here e =
-      let place : position_or_len test (byte ∷ bytes) ≡ 0 = rw e refl in
-      let within : nat_lt 0 (suc (length bytes)) ≡ true = lt-ltb _ _ (omega arith) in
-      rw (place, within) refl
-
-  cut_later : test byte ≡ false → cut test (byte ∷ bytes) ≡ in_front (byte ∷ []) (cut test bytes)
-  unfolding cut
-  cut_later e =
-      let n = position_or_len test bytes in
-      let more : position_or_len test (byte ∷ bytes) ≡ suc n = (let p : position_or_len test (byte ∷ bytes) ≡ 1 + n = rw e refl in omega (arith, p)) in
-      let less : nat_lt (suc n) (suc (length bytes)) ≡ nat_lt n (length bytes) = ap (λ (k : ℕ). nat_lt k (suc (length bytes))) (omega arith) ∙ less_more n (length bytes) (nat_lt n (length bytes)) refl in
-      let behind : suc n + 1 ≡ suc (n + 1) = omega arith in
-      rw (more, behind, less) refl
 
 no_mark : (test : ℕ → Bool) (blanks : List ℕ) → ((byte : ℕ) → is_blank byte ≡ true → test byte ≡ false) → AreBlanks blanks → list_any test blanks ≡ false
 no_mark test [] apart h = refl
 no_mark test (byte ∷ blanks) apart h = rw (apart byte (first_blank byte blanks h)) (no_mark test blanks apart (other_blanks byte blanks h))
-
-cut_front : (test : ℕ → Bool) (front bytes : List ℕ) → list_any test front ≡ false → cut test (front ++ bytes) ≡ in_front front (cut test bytes)
-cut_front test [] bytes e = refl
-cut_front test (byte ∷ front) bytes e =
-    let parts = either (test byte) (list_any test front) e in
-    cut_later test byte (front ++ bytes) parts.0 ∙ ap (in_front (byte ∷ [])) (cut_front test front bytes parts.1)
-
-cut_none : (test : ℕ → Bool) (bytes : List ℕ) → list_any test bytes ≡ false → cut test bytes ≡ (bytes, None)
-unfolding cut
-cut_none test [] e = refl
-cut_none test (byte ∷ bytes) e =
-    let parts = either (test byte) (list_any test bytes) e in
-    cut_later test byte bytes parts.0 ∙ ap (in_front (byte ∷ [])) (cut_none test bytes parts.1)
-
-end_of_front : (front bytes : List ℕ) (parts : List ℕ × Option (List ℕ)) → in_front front (at_end bytes parts) ≡ at_end bytes (in_front front parts)
-end_of_front front bytes (first, None) = ap (λ (it : List ℕ). (it, None)) (sym (append_assoc front first bytes))
-end_of_front front bytes (first, Some rest) = refl
-
-cut_end_by : (test : ℕ → Bool) (byte : ℕ) (bytes more : List ℕ) (passes : Bool) → test byte ≡ passes → cut test (bytes ++ more) ≡ at_end more (cut test bytes)
-    → cut test (byte ∷ bytes ++ more) ≡ at_end more (cut test (byte ∷ bytes))
-cut_end_by test byte bytes more true e others = cut_here test byte (bytes ++ more) e ∙ ap (at_end more) (sym (cut_here test byte bytes e))
-cut_end_by test byte bytes more false e others =
-    cut_later test byte (bytes ++ more) e ∙ ap (in_front (byte ∷ [])) others ∙ end_of_front (byte ∷ []) more (cut test bytes) ∙ ap (at_end more) (sym (cut_later test byte bytes e))
-
-cut_end : (test : ℕ → Bool) (bytes more : List ℕ) → list_any test more ≡ false → cut test (bytes ++ more) ≡ at_end more (cut test bytes)
-unfolding cut
-cut_end test [] more e = cut_none test more e
-cut_end test (byte ∷ bytes) more e = cut_end_by test byte bytes more (test byte) refl (cut_end test bytes more e)
-
-cut_mark : (test : ℕ → Bool) (front : List ℕ) (mark : ℕ) (rest : List ℕ) → list_any test front ≡ false → test mark ≡ true → cut test (front ++ mark ∷ rest) ≡ (front, Some rest)
-cut_mark test front mark rest e m = cut_front test front (mark ∷ rest) e ∙ ap (in_front front) (cut_here test mark rest m) ∙ ap (λ (bytes : List ℕ). (bytes, Some rest)) (append-nil front)
 
 -- ---- the ends of a line
 
@@ -189,58 +123,58 @@ not_closing : (byte : ℕ) → is_blank byte ≡ true → is_closing byte ≡ fa
 not_closing byte e = other_byte byte 41 (is_closing byte) refl refl e
 
 -- a line whose code has blanks in front of it, or behind it
-by_front : (number : ℕ) (laid : Laid) (blanks : List ℕ) (parts : List ℕ × Option (List ℕ)) → AreBlanks blanks
-    → labelled number laid (in_front blanks parts).0 (in_front blanks parts).1 ≡ labelled number laid parts.0 parts.1
+by_front : (number : ℕ) (laid : LayoutSoFar) (blanks : List ℕ) (parts : List ℕ × Option (List ℕ)) → AreBlanks blanks
+    → labelled_statement number laid (in_front blanks parts).0 (in_front blanks parts).1 ≡ labelled_statement number laid parts.0 parts.1
 by_front number laid blanks (front, None) h = ap (statement number laid) (trimmed_front blanks front h)
 by_front number laid blanks (front, Some rest) h = rw (trimmed_front blanks front h) refl
 
-by_end : (number : ℕ) (laid : Laid) (blanks : List ℕ) (parts : List ℕ × Option (List ℕ)) → AreBlanks blanks
-    → labelled number laid (at_end blanks parts).0 (at_end blanks parts).1 ≡ labelled number laid parts.0 parts.1
+by_end : (number : ℕ) (laid : LayoutSoFar) (blanks : List ℕ) (parts : List ℕ × Option (List ℕ)) → AreBlanks blanks
+    → labelled_statement number laid (at_end blanks parts).0 (at_end blanks parts).1 ≡ labelled_statement number laid parts.0 parts.1
 by_end number laid blanks (front, None) h = ap (statement number laid) (trimmed_end front blanks h)
 by_end number laid blanks (front, Some rest) h = rw (trimmed_end rest blanks h) refl
 
 -- what the code of a line means
-meant : ℕ → Laid → Bool → List ℕ × Option (List ℕ) → Result Laid AsmKind
-meant number laid plain parts = refuse (not plain) BadByte >>= λ ok. labelled number laid parts.0 parts.1
+meant : ℕ → LayoutSoFar → Bool → List ℕ × Option (List ℕ) → Result LayoutSoFar AsmKind
+meant number laid plain parts = refuse (not plain) BadByte >>= λ ok. labelled_statement number laid parts.0 parts.1
 
-meant_line : (number : ℕ) (laid : Laid) (line : List ℕ) → line_laid number laid line ≡ meant number laid (list_all is_plain (before_comment line)) (cut is_colon (before_comment line))
+meant_line : (number : ℕ) (laid : LayoutSoFar) (line : List ℕ) → line_laid number laid line ≡ meant number laid (list_all is_plain (before_comment line)) (cut is_colon (before_comment line))
 unfolding line_laid meant
 meant_line number laid line = refl
 
-code_front : (number : ℕ) (laid : Laid) (blanks code : List ℕ) → AreBlanks blanks
+code_front : (number : ℕ) (laid : LayoutSoFar) (blanks code : List ℕ) → AreBlanks blanks
     → meant number laid (list_all is_plain (blanks ++ code)) (cut is_colon (blanks ++ code)) ≡ meant number laid (list_all is_plain code) (cut is_colon code)
 unfolding meant
 code_front number laid blanks code h =
     rw (plain_front blanks code h, cut_front is_colon blanks code (no_mark is_colon blanks not_colon h))
-    (ap (λ (it : Result Laid AsmKind). refuse (not (list_all is_plain code)) BadByte >>= λ ok. it) (by_front number laid blanks (cut is_colon code) h))
+    (ap (λ (it : Result LayoutSoFar AsmKind). refuse (not (list_all is_plain code)) BadByte >>= λ ok. it) (by_front number laid blanks (cut is_colon code) h))
 
-code_end : (number : ℕ) (laid : Laid) (blanks code : List ℕ) → AreBlanks blanks
+code_end : (number : ℕ) (laid : LayoutSoFar) (blanks code : List ℕ) → AreBlanks blanks
     → meant number laid (list_all is_plain (code ++ blanks)) (cut is_colon (code ++ blanks)) ≡ meant number laid (list_all is_plain code) (cut is_colon code)
 unfolding meant
 code_end number laid blanks code h =
     rw (plain_end code blanks h, cut_end is_colon code blanks (no_mark is_colon blanks not_colon h))
-    (ap (λ (it : Result Laid AsmKind). refuse (not (list_all is_plain code)) BadByte >>= λ ok. it) (by_end number laid blanks (cut is_colon code) h))
+    (ap (λ (it : Result LayoutSoFar AsmKind). refuse (not (list_all is_plain code)) BadByte >>= λ ok. it) (by_end number laid blanks (cut is_colon code) h))
 
-front_goes_line : (number : ℕ) (laid : Laid) (blanks line : List ℕ) → AreBlanks blanks → line_laid number laid (blanks ++ line) ≡ line_laid number laid line
+front_goes_line : (number : ℕ) (laid : LayoutSoFar) (blanks line : List ℕ) → AreBlanks blanks → line_laid number laid (blanks ++ line) ≡ line_laid number laid line
 unfolding before_comment
 front_goes_line number laid blanks line h =
     meant_line number laid (blanks ++ line)
     ∙ ap (λ (parts : List ℕ × Option (List ℕ)). meant number laid (list_all is_plain parts.0) (cut is_colon parts.0)) (cut_front is_hash blanks line (no_mark is_hash blanks not_hash h))
     ∙ code_front number laid blanks (cut is_hash line).0 h ∙ sym (meant_line number laid line)
 
-ends_by : (number : ℕ) (laid : Laid) (blanks : List ℕ) (parts : List ℕ × Option (List ℕ)) → AreBlanks blanks
+ends_by : (number : ℕ) (laid : LayoutSoFar) (blanks : List ℕ) (parts : List ℕ × Option (List ℕ)) → AreBlanks blanks
     → meant number laid (list_all is_plain (at_end blanks parts).0) (cut is_colon (at_end blanks parts).0) ≡ meant number laid (list_all is_plain parts.0) (cut is_colon parts.0)
 ends_by number laid blanks (code, None) h = code_end number laid blanks code h
 ends_by number laid blanks (code, Some comment) h = refl
 
-end_goes_line : (number : ℕ) (laid : Laid) (line blanks : List ℕ) → AreBlanks blanks → line_laid number laid (line ++ blanks) ≡ line_laid number laid line
+end_goes_line : (number : ℕ) (laid : LayoutSoFar) (line blanks : List ℕ) → AreBlanks blanks → line_laid number laid (line ++ blanks) ≡ line_laid number laid line
 unfolding before_comment
 end_goes_line number laid line blanks h =
     meant_line number laid (line ++ blanks)
     ∙ ap (λ (parts : List ℕ × Option (List ℕ)). meant number laid (list_all is_plain parts.0) (cut is_colon parts.0)) (cut_end is_hash line blanks (no_mark is_hash blanks not_hash h))
     ∙ ends_by number laid blanks (cut is_hash line) h ∙ sym (meant_line number laid line)
 
-pub ends_go : (number : ℕ) (laid : Laid) (before line after : List ℕ) → list_all is_blank before ≡ true → list_all is_blank after ≡ true → line_laid number laid (before ++ line ++ after) ≡ line_laid number laid line
+pub ends_go : (number : ℕ) (laid : LayoutSoFar) (before line after : List ℕ) → list_all is_blank before ≡ true → list_all is_blank after ≡ true → line_laid number laid (before ++ line ++ after) ≡ line_laid number laid line
 ends_go number laid before line after b a = end_goes_line number laid (before ++ line) after (record { all = a }) ∙ front_goes_line number laid before line (record { all = b })
 
 -- ---- round the colon
@@ -261,7 +195,7 @@ plain_colon : (label before after code : List ℕ) → AreBlanks before → AreB
 plain_colon label before after code b a =
     list_all-append is_plain (label ++ before) (58 ∷ (after ++ code)) ∙ rw (plain_end label before b, plain_front after code a) refl ∙ sym (list_all-append is_plain label (58 ∷ code))
 
-meant_colon : (number : ℕ) (laid : Laid) (label before after code : List ℕ) → list_any is_colon label ≡ false → AreBlanks before → AreBlanks after
+meant_colon : (number : ℕ) (laid : LayoutSoFar) (label before after code : List ℕ) → list_any is_colon label ≡ false → AreBlanks before → AreBlanks after
     → meant number laid (list_all is_plain (label ++ before ++ 58 ∷ (after ++ code))) (cut is_colon (label ++ before ++ 58 ∷ (after ++ code)))
     ≡ meant number laid (list_all is_plain (label ++ 58 ∷ code)) (cut is_colon (label ++ 58 ∷ code))
 unfolding meant
@@ -274,7 +208,7 @@ meant_colon number laid label before after code e b a =
       trimmed_front after code a,
     ) refl
 
-pub colon_goes : (number : ℕ) (laid : Laid) (label before after rest : List ℕ) → list_any is_hash label ≡ false → list_any is_colon label ≡ false → list_all is_blank before ≡ true → list_all is_blank after ≡ true
+pub colon_goes : (number : ℕ) (laid : LayoutSoFar) (label before after rest : List ℕ) → list_any is_hash label ≡ false → list_any is_colon label ≡ false → list_all is_blank before ≡ true → list_all is_blank after ≡ true
     → line_laid number laid (label ++ before ++ 58 ∷ (after ++ rest)) ≡ line_laid number laid (label ++ 58 ∷ rest)
 colon_goes number laid label before after rest hash colon b a =
     let before_blank : AreBlanks before = record { all = b } in
@@ -292,11 +226,11 @@ colon_goes number laid label before after rest hash colon b a =
 -- ---- behind the word
 
 -- what a statement with a word means
-said : ℕ → Laid → Bool → List ℕ × Option (List ℕ) → Result Laid AsmKind
+said : ℕ → LayoutSoFar → Bool → List ℕ × Option (List ℕ) → Result LayoutSoFar AsmKind
 said number laid colon parts =
     refuse colon UnknownWord >>= λ ok. cond (bytes_eq parts.0 (codes ".equ")) (equ laid (operands_of parts.1)) (lay number laid parts.0 (operands_of parts.1))
 
-said_so : (number : ℕ) (laid : Laid) (word : List ℕ) (mark : ℕ) (rest : List ℕ)
+said_so : (number : ℕ) (laid : LayoutSoFar) (word : List ℕ) (mark : ℕ) (rest : List ℕ)
     → statement number laid (word ++ mark ∷ rest) ≡ said number laid (list_any is_colon (word ++ mark ∷ rest)) (cut is_blank (word ++ mark ∷ rest))
 unfolding statement said
 said_so number laid [] mark rest = refl
@@ -308,7 +242,7 @@ any_behind word blank blanks operands h =
     ∙ ap (λ (any : Bool). list_any is_colon word || (is_colon blank || any)) (list_any-append is_colon blanks operands ∙ rw (no_mark is_colon blanks not_colon h) refl)
     ∙ sym (list_any-append is_colon word (blank ∷ operands))
 
-pub word_goes : (number : ℕ) (laid : Laid) (word : List ℕ) (blank : ℕ) (blanks operands : List ℕ) → list_any is_blank word ≡ false → is_blank blank ≡ true → list_all is_blank blanks ≡ true
+pub word_goes : (number : ℕ) (laid : LayoutSoFar) (word : List ℕ) (blank : ℕ) (blanks operands : List ℕ) → list_any is_blank word ≡ false → is_blank blank ≡ true → list_all is_blank blanks ≡ true
     → statement number laid (word ++ blank ∷ (blanks ++ operands)) ≡ statement number laid (word ++ blank ∷ operands)
 unfolding said
 word_goes number laid word blank blanks operands w b h =
@@ -361,25 +295,25 @@ unfolding onto_last
 split_end test [] more e = split_cut test more ∙ ap (cut_pieces test) (cut_none test more e)
 split_end test (byte ∷ bytes) more e = split_end_by test byte bytes more (test byte) refl (split_end test bytes more e)
 
-map_last : (blanks : List ℕ) (parts : List (List ℕ)) → AreBlanks blanks → map trimmed (onto_last blanks parts) ≡ map trimmed parts
+map_last : (blanks : List ℕ) (parts : List (List ℕ)) → AreBlanks blanks → map without_outer_blanks (onto_last blanks parts) ≡ map without_outer_blanks parts
 unfolding onto_last
 map_last blanks [] h = refl
 map_last blanks (part ∷ []) h = ap (λ (bytes : List ℕ). bytes ∷ []) (trimmed_end part blanks h)
-map_last blanks (part ∷ next ∷ parts) h = ap (λ (others : List (List ℕ)). trimmed part ∷ others) (map_last blanks (next ∷ parts) h)
+map_last blanks (part ∷ next ∷ parts) h = ap (λ (others : List (List ℕ)). without_outer_blanks part ∷ others) (map_last blanks (next ∷ parts) h)
 
 pieces_front : (blanks operands : List ℕ) → AreBlanks blanks → pieces (blanks ++ operands) ≡ pieces operands
 pieces_front blanks operands h =
     pieces_cut (blanks ++ operands)
-    ∙ ap (λ (parts : List ℕ × Option (List ℕ)). trimmed parts.0 ∷ pieces_behind parts.1) (cut_front is_comma blanks operands (no_mark is_comma blanks not_comma h))
+    ∙ ap (λ (parts : List ℕ × Option (List ℕ)). without_outer_blanks parts.0 ∷ pieces_behind parts.1) (cut_front is_comma blanks operands (no_mark is_comma blanks not_comma h))
     ∙ ap (λ (bytes : List ℕ). bytes ∷ pieces_behind (cut is_comma operands).1) (trimmed_front blanks (cut is_comma operands).0 h) ∙ sym (pieces_cut operands)
 
 pieces_end : (operands blanks : List ℕ) → AreBlanks blanks → pieces (operands ++ blanks) ≡ pieces operands
 unfolding pieces
-pieces_end operands blanks h = ap (map trimmed) (split_end is_comma operands blanks (no_mark is_comma blanks not_comma h)) ∙ map_last blanks (slice_split is_comma operands) h
+pieces_end operands blanks h = ap (map without_outer_blanks) (split_end is_comma operands blanks (no_mark is_comma blanks not_comma h)) ∙ map_last blanks (slice_split is_comma operands) h
 
 pieces_joined : (first second : List ℕ) → pieces (first ++ 44 ∷ second) ≡ pieces first ++ pieces second
 unfolding pieces
-pieces_joined first second = ap (map trimmed) (split_joined is_comma first 44 second refl) ∙ map-append trimmed (slice_split is_comma first) (slice_split is_comma second)
+pieces_joined first second = ap (map without_outer_blanks) (split_joined is_comma first 44 second refl) ∙ map-append without_outer_blanks (slice_split is_comma first) (slice_split is_comma second)
 
 pieces_so : (first before after second : List ℕ) → AreBlanks before → AreBlanks after → pieces (first ++ before ++ 44 ∷ (after ++ second)) ≡ pieces (first ++ 44 ∷ second)
 pieces_so first before after second b a =
@@ -420,7 +354,7 @@ comma_goes mnemonic names first before after second b a =
 
 -- `n(rs1)` from the number and what stands behind the opening bracket
 bracketed : Names → List ℕ → List ℕ × Option (List ℕ) → Result (ℤ × ℕ) AsmKind
-bracketed names number parts = refuse (not (closed parts.1)) Operands >>= λ ok. both (twelve_bits names number) (register (trimmed parts.0))
+bracketed names number parts = refuse (not (is_closed parts.1)) Operands >>= λ ok. both (twelve_bits names number) (register (without_outer_blanks parts.0))
 
 inner : (names : Names) (number blanks : List ℕ) (parts : List ℕ × Option (List ℕ)) → AreBlanks blanks → bracketed names number (in_front blanks parts) ≡ bracketed names number parts
 unfolding bracketed
@@ -437,7 +371,7 @@ opening_goes names number before after base e b a =
     let before_blank : AreBlanks before = record { all = b } in
     let after_blank : AreBlanks after = record { all = a } in
     rw (cut_mark is_opening (number ++ before) 40 (after ++ base) (none_of_both is_opening number before e (no_mark is_opening before not_opening before_blank)) refl, cut_mark is_opening number 40 base e refl, trimmed_end number before before_blank, cut_front is_closing after base (no_mark is_closing after not_closing after_blank))
-    (inner names (trimmed number) after (cut is_closing base) after_blank)
+    (inner names (without_outer_blanks number) after (cut is_closing base) after_blank)
 
 pub closing_goes : (names : Names) (number base before after : List ℕ) → list_any is_opening number ≡ false → list_any is_closing base ≡ false → list_all is_blank before ≡ true → list_all is_blank after ≡ true
     → memory names (number ++ 40 ∷ (base ++ before ++ 41 ∷ after)) ≡ memory names (number ++ 40 ∷ (base ++ 41 ∷ []))
@@ -449,4 +383,4 @@ closing_goes names number base before after e c b a =
       cut_mark is_opening number 40 (base ++ 41 ∷ []) e refl,
       cut_mark is_closing (base ++ before) 41 after (none_of_both is_closing base before c (no_mark is_closing before not_closing before_blank)) refl,
       cut_mark is_closing base 41 [] c refl,
-    ) (closing_inner names (trimmed number) base before after before_blank (record { all = a }))
+    ) (closing_inner names (without_outer_blanks number) base before after before_blank (record { all = a }))

@@ -2,55 +2,51 @@
 use Rattle.std.proofs.Common.{◌≡◌, ℕ, zero, suc, ◌+◌, ◌<◌, List, [], ◌∷◌, length, get_or, take, Result, Ok, Err, refl, sym, ap, ◌∙◌, subst, arith}
 use Rattle.std.specs.Prelude.{IsOk}
 use Rattle.std.proofs.lemmas.List.{take_all}
+use Rattle.std.proofs.lemmas.Result.{IfOk-at_ok, IfErr-at_err}
 use Rattle.rv_asm.specs.declared.fault.AsmKind.{AsmKind}
 use Rattle.rv_asm.specs.declared.fault.AsmFault.{AsmFault}
 use Rattle.rv_asm.specs.Faults.{◌>>=◌}
 use Rattle.ce_text.specs.Line.{lines}
-use Rattle.rv_asm.specs.FirstPass.{Laid, nothing_laid, line_laid, at_line, lines_laid, first_pass}
+use Rattle.rv_asm.specs.FirstPass.{LayoutSoFar, nothing_laid, line_laid, at_line, lines_laid, first_pass}
 use Rattle.rv_asm_laws.specs.Before.{laid_or, laid_by, laid_before, judged_line, IsFirstFault, AreLaid}
 
 -- the judgment of a line of those behind so many, once this is laid
-abbrev judged_at : ℕ → Laid → List (List ℕ) → ℕ → Result Laid AsmKind
+abbrev judged_at : ℕ → LayoutSoFar → List (List ℕ) → ℕ → Result LayoutSoFar AsmKind
 judged_at before laid these i = line_laid (before + i + 1) (laid_by before laid (take i these)) (get_or these i [])
 
 -- the same, behind one more line
-judged_behind : (before : ℕ) (laid next : Laid) (line : List ℕ) (these : List (List ℕ)) (i : ℕ) → line_laid (before + 1) laid line ≡ Ok next
+judged_behind : (before : ℕ) (laid next : LayoutSoFar) (line : List ℕ) (these : List (List ℕ)) (i : ℕ) → line_laid (before + 1) laid line ≡ Ok next
     → judged_at before laid (line ∷ these) (suc i) ≡ judged_at (before + 1) next these i
 unfolding laid_by
 judged_behind before laid next line these i e =
-    ap (λ (r : Result Laid AsmKind). line_laid (before + suc i + 1) (laid_by (before + 1) (laid_or laid r) (take i these)) (get_or these i [])) e
+    ap (λ (r : Result LayoutSoFar AsmKind). line_laid (before + suc i + 1) (laid_by (before + 1) (laid_or laid r) (take i these)) (get_or these i [])) e
     ∙ ap (λ (n : ℕ). line_laid n (laid_by (before + 1) next (take i these)) (get_or these i [])) (omega arith)
 
-judged_first : (before : ℕ) (laid : Laid) (line : List ℕ) (these : List (List ℕ)) → judged_at before laid (line ∷ these) 0 ≡ line_laid (before + 1) laid line
+judged_first : (before : ℕ) (laid : LayoutSoFar) (line : List ℕ) (these : List (List ℕ)) → judged_at before laid (line ∷ these) 0 ≡ line_laid (before + 1) laid line
 unfolding laid_by
 judged_first before laid line these = ap (λ (n : ℕ). line_laid n laid line) (omega arith)
 
-record IsFirst (before : ℕ) (laid : Laid) (these : List (List ℕ)) (fault : AsmFault) : Type 0 where
+record IsFirst (before : ℕ) (laid : LayoutSoFar) (these : List (List ℕ)) (fault : AsmFault) : Type 0 where
   place : ℕ
   number : fault.line ≡ before + place + 1
   within : place < length these
   here : judged_at before laid these place ≡ Err fault.kind
   earlier : (i : ℕ) → i < place → IsOk (judged_at before laid these i)
 
-ok_from : (r : Result Laid AsmKind) (next : Laid) → r ≡ Ok next → IsOk r
-ok_from r next e = subst (λ (q : Result Laid AsmKind). IsOk q) (sym e) refl
+ok_from : (r : Result LayoutSoFar AsmKind) (next : LayoutSoFar) → r ≡ Ok next → IsOk r
+ok_from r next e = subst (λ (q : Result LayoutSoFar AsmKind). IsOk q) (sym e) refl
 
-earlier_by : (before : ℕ) (laid next : Laid) (line : List ℕ) (these : List (List ℕ)) (place : ℕ) → line_laid (before + 1) laid line ≡ Ok next
+earlier_by : (before : ℕ) (laid next : LayoutSoFar) (line : List ℕ) (these : List (List ℕ)) (place : ℕ) → line_laid (before + 1) laid line ≡ Ok next
     → ((i : ℕ) → i < place → IsOk (judged_at (before + 1) next these i)) → (i : ℕ) → i < suc place → IsOk (judged_at before laid (line ∷ these) i)
 earlier_by before laid next line these place e h zero lt = ok_from _ next (judged_first before laid line these ∙ e)
 earlier_by before laid next line these place e h (suc i) lt =
-    subst (λ (q : Result Laid AsmKind). IsOk q) (sym (judged_behind before laid next line these i e)) (h i (omega arith))
+    subst (λ (q : Result LayoutSoFar AsmKind). IsOk q) (sym (judged_behind before laid next line these i e)) (h i (omega arith))
 
-fault_in : AsmFault → Result Laid AsmFault → AsmFault
-fault_in other (Ok laid) = other
-fault_in other (Err fault) = fault
-
-first_by : (before : ℕ) (laid : Laid) (line : List ℕ) (these : List (List ℕ)) (fault : AsmFault) (r : Result Laid AsmKind) → line_laid (before + 1) laid line ≡ r
-    → ((next : Laid) → lines_laid (before + 1) next these ≡ Err fault → IsFirst (before + 1) next these fault)
+first_by : (before : ℕ) (laid : LayoutSoFar) (line : List ℕ) (these : List (List ℕ)) (fault : AsmFault) (r : Result LayoutSoFar AsmKind) → line_laid (before + 1) laid line ≡ r
+    → ((next : LayoutSoFar) → lines_laid (before + 1) next these ≡ Err fault → IsFirst (before + 1) next these fault)
     → (at_line (before + 1) r >>= λ one. lines_laid (before + 1) one these) ≡ Err fault → IsFirst before laid (line ∷ these) fault
-unfolding fault_in
 first_by before laid line these fault (Err kind) e others h =
-    let same : record { line = before + 1; kind = kind } ≡ fault = ap (fault_in fault) h in
+    let same : record { line = before + 1; kind = kind } ≡ fault = IfErr-at_err (λ (other : AsmFault). record { line = before + 1; kind = kind } ≡ other) h refl in
     record {
       place = 0;
       number = ap (λ (f : AsmFault). f.line) (sym same) ∙ omega arith;
@@ -68,7 +64,7 @@ first_by before laid line these fault (Ok next) e others h =
       earlier = earlier_by before laid next line these rest.place e rest.earlier;
     }
 
-is_first : (before : ℕ) (laid : Laid) (these : List (List ℕ)) (fault : AsmFault) → lines_laid before laid these ≡ Err fault → IsFirst before laid these fault
+is_first : (before : ℕ) (laid : LayoutSoFar) (these : List (List ℕ)) (fault : AsmFault) → lines_laid before laid these ≡ Err fault → IsFirst before laid these fault
 unfolding lines_laid
 is_first before laid [] fault h = absurd cc
 is_first before laid (line ∷ these) fault h =
@@ -86,21 +82,17 @@ first_fault_of text fault h =
       number = omega (arith, first.number);
       within = first.within;
       here = sym (judged_so (lines text) first.place) ∙ first.here;
-      before = λ i lt. subst (λ (r : Result Laid AsmKind). IsOk r) (judged_so (lines text) i) (first.earlier i lt);
+      before = λ i lt. subst (λ (r : Result LayoutSoFar AsmKind). IsOk r) (judged_so (lines text) i) (first.earlier i lt);
     }
 
 -- ---- no fault
 
-record AreAll (before : ℕ) (laid : Laid) (these : List (List ℕ)) (out : Laid) : Type 0 where
+record AreAll (before : ℕ) (laid : LayoutSoFar) (these : List (List ℕ)) (out : LayoutSoFar) : Type 0 where
   each : (i : ℕ) → i < length these → IsOk (judged_at before laid these i)
   last : laid_by before laid these ≡ out
 
-laid_in : Laid → Result Laid AsmFault → Laid
-laid_in other (Ok laid) = laid
-laid_in other (Err fault) = other
-
-all_by : (before : ℕ) (laid : Laid) (line : List ℕ) (these : List (List ℕ)) (out : Laid) (r : Result Laid AsmKind) → line_laid (before + 1) laid line ≡ r
-    → ((next : Laid) → lines_laid (before + 1) next these ≡ Ok out → AreAll (before + 1) next these out)
+all_by : (before : ℕ) (laid : LayoutSoFar) (line : List ℕ) (these : List (List ℕ)) (out : LayoutSoFar) (r : Result LayoutSoFar AsmKind) → line_laid (before + 1) laid line ≡ r
+    → ((next : LayoutSoFar) → lines_laid (before + 1) next these ≡ Ok out → AreAll (before + 1) next these out)
     → (at_line (before + 1) r >>= λ one. lines_laid (before + 1) one these) ≡ Ok out → AreAll before laid (line ∷ these) out
 unfolding laid_by
 all_by before laid line these out (Err kind) e others h = absurd cc
@@ -108,20 +100,20 @@ all_by before laid line these out (Ok next) e others h =
     let rest = others next h in
     record {
       each = λ i lt. earlier_by before laid next line these (length these) e rest.each i (omega arith);
-      last = ap (λ (r : Result Laid AsmKind). laid_by (before + 1) (laid_or laid r) these) e ∙ rest.last;
+      last = ap (λ (r : Result LayoutSoFar AsmKind). laid_by (before + 1) (laid_or laid r) these) e ∙ rest.last;
     }
 
-are_all : (before : ℕ) (laid : Laid) (these : List (List ℕ)) (out : Laid) → lines_laid before laid these ≡ Ok out → AreAll before laid these out
-unfolding lines_laid laid_by laid_in
-are_all before laid [] out h = record { each = λ i lt. absurd (omega arith); last = ap (laid_in laid) h }
+are_all : (before : ℕ) (laid : LayoutSoFar) (these : List (List ℕ)) (out : LayoutSoFar) → lines_laid before laid these ≡ Ok out → AreAll before laid these out
+unfolding lines_laid laid_by
+are_all before laid [] out h = record { each = λ i lt. absurd (omega arith); last = IfOk-at_ok (λ (one : LayoutSoFar). laid ≡ one) h refl }
 are_all before laid (line ∷ these) out h =
     all_by before laid line these out (line_laid (before + 1) laid line) refl (λ next. are_all (before + 1) next these out) h
 
-pub are_laid : (text : List ℕ) (laid : Laid) → first_pass text ≡ Ok laid → AreLaid (lines text) laid
+pub are_laid : (text : List ℕ) (laid : LayoutSoFar) → first_pass text ≡ Ok laid → AreLaid (lines text) laid
 unfolding first_pass
 are_laid text laid h =
     let all = are_all 0 nothing_laid (lines text) laid h in
     record {
-      each = λ i lt. subst (λ (r : Result Laid AsmKind). IsOk r) (judged_so (lines text) i) (all.each i lt);
+      each = λ i lt. subst (λ (r : Result LayoutSoFar AsmKind). IsOk r) (judged_so (lines text) i) (all.each i lt);
       all = ap (laid_by 0 nothing_laid) (take_all (length (lines text)) (lines text) (omega arith)) ∙ all.last;
     }

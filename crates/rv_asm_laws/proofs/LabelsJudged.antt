@@ -8,7 +8,7 @@ use Rattle.rv_asm.specs.declared.fault.AsmKind.TheVariants.{UnknownName, TooFar}
 use Rattle.rv_asm.specs.declared.symbols.Symbol.{Symbol}
 use Rattle.rv_asm.specs.declared.symbols.Symbol.TheVariants.{Label, Number}
 use Rattle.rv_asm.specs.declared.fault.AsmFault.{AsmFault}
-use Rattle.rv_asm.specs.declared.statement.Placed.{Placed}
+use Rattle.rv_asm.specs.declared.statement.PlacedStatement.{PlacedStatement}
 use Rattle.rv_asm.specs.declared.statement.Statement.{Statement}
 use Rattle.rv_asm.specs.declared.statement.Statement.TheVariants as statements
 use Rattle.rv_asm.specs.Faults.{◌>>=◌, refuse}
@@ -48,30 +48,30 @@ labels_judged names address (statements.Zero count) = refl
 -- ---- the first one
 
 -- the same statement, behind one more
-behind : (names : Names) (address : ℕ) (first : Placed) (others : List Placed) (i : ℕ) (it : Placed) → label_fault_at names address (first ∷ others) (suc i) it ≡ label_fault_at names (address + size_of first.statement) others i it
+behind : (names : Names) (address : ℕ) (first : PlacedStatement) (others : List PlacedStatement) (i : ℕ) (it : PlacedStatement) → label_fault_at names address (first ∷ others) (suc i) it ≡ label_fault_at names (address + size_of first.statement) others i it
 behind names address first others i it =
-    let split : sum_by (λ (one : Placed). size_of one.statement) (first ∷ take i others) ≡ size_of first.statement + sum_by (λ (one : Placed). size_of one.statement) (take i others) = sum_by-cons (λ (one : Placed). size_of one.statement) first (take i others) in
-    let same : address + sum_by (λ (one : Placed). size_of one.statement) (first ∷ take i others) ≡ address + size_of first.statement + sum_by (λ (one : Placed). size_of one.statement) (take i others) = omega (arith, split) in
+    let split : sum_by (λ (one : PlacedStatement). size_of one.statement) (first ∷ take i others) ≡ size_of first.statement + sum_by (λ (one : PlacedStatement). size_of one.statement) (take i others) = sum_by-cons (λ (one : PlacedStatement). size_of one.statement) first (take i others) in
+    let same : address + sum_by (λ (one : PlacedStatement). size_of one.statement) (first ∷ take i others) ≡ address + size_of first.statement + sum_by (λ (one : PlacedStatement). size_of one.statement) (take i others) = omega (arith, split) in
     ap (λ (n : ℕ). label_fault names n it.statement) same
 
-alone : (names : Names) (address : ℕ) (first : Placed) (others : List Placed) → label_fault_at names address (first ∷ others) 0 first ≡ label_fault names address first.statement
+alone : (names : Names) (address : ℕ) (first : PlacedStatement) (others : List PlacedStatement) → label_fault_at names address (first ∷ others) 0 first ≡ label_fault names address first.statement
 alone names address first others = ap (λ (n : ℕ). label_fault names n first.statement) (omega arith)
 
-the_first : (first it : Placed) → Some first ≡ Some it → first ≡ it
-the_first first it e = ap (λ (found : Option Placed). elim found as (λ _. Placed) [ None ↦ first | Some one ↦ one ]) e
+the_first : (first it : PlacedStatement) → Some first ≡ Some it → first ≡ it
+the_first first it e = ap (λ (found : Option PlacedStatement). elim found as (λ _. PlacedStatement) [ None ↦ first | Some one ↦ one ]) e
 
-none_before : (names : Names) (address : ℕ) (first : Placed) (others : List Placed) (place : ℕ) → label_fault names address first.statement ≡ None
-    → ((i : ℕ) (other : Placed) → i < place → slice_get others i ≡ Some other → label_fault_at names (address + size_of first.statement) others i other ≡ None)
-    → (i : ℕ) (other : Placed) → i < suc place → slice_get (first ∷ others) i ≡ Some other → label_fault_at names address (first ∷ others) i other ≡ None
+none_before : (names : Names) (address : ℕ) (first : PlacedStatement) (others : List PlacedStatement) (place : ℕ) → label_fault names address first.statement ≡ None
+    → ((i : ℕ) (other : PlacedStatement) → i < place → slice_get others i ≡ Some other → label_fault_at names (address + size_of first.statement) others i other ≡ None)
+    → (i : ℕ) (other : PlacedStatement) → i < suc place → slice_get (first ∷ others) i ≡ Some other → label_fault_at names address (first ∷ others) i other ≡ None
 none_before names address first others place none h zero other lt e =
-    subst (λ (it : Placed). label_fault_at names address (first ∷ others) 0 it ≡ None) (the_first first other e) (alone names address first others ∙ none)
+    subst (λ (it : PlacedStatement). label_fault_at names address (first ∷ others) 0 it ≡ None) (the_first first other e) (alone names address first others ∙ none)
 none_before names address first others place none h (suc i) other lt e = behind names address first others i other ∙ h i other (omega arith) e
 
 fault_in : AsmFault → Result (List Part) AsmFault → AsmFault
 fault_in other (Ok parts) = other
 fault_in other (Err fault) = fault
 
-first_by : (names : Names) (address : ℕ) (first : Placed) (others : List Placed) (fault : AsmFault) (r : Result (List Part) AsmKind) → parts_of names address first.statement ≡ r
+first_by : (names : Names) (address : ℕ) (first : PlacedStatement) (others : List PlacedStatement) (fault : AsmFault) (r : Result (List Part) AsmKind) → parts_of names address first.statement ≡ r
     → (second_pass names (address + size_of first.statement) others ≡ Err fault → IsFirstLabelFault names (address + size_of first.statement) others fault)
     → (rest : Result (List Part) AsmFault) → second_pass names (address + size_of first.statement) others ≡ rest
     → (at_line first.line r >>= λ here. rest >>= λ there. Ok (here ++ there)) ≡ Err fault → IsFirstLabelFault names address (first ∷ others) fault
@@ -99,13 +99,13 @@ first_by names address first others fault (Ok parts) e inner (Err other) f h =
       before = none_before names address first others rest.place (sym (labels_judged names address first.statement) ∙ ap result_err e) rest.before;
     }
 
-pub first_label_fault : (names : Names) (address : ℕ) (placed : List Placed) (fault : AsmFault) → second_pass names address placed ≡ Err fault → IsFirstLabelFault names address placed fault
+pub first_label_fault : (names : Names) (address : ℕ) (placed : List PlacedStatement) (fault : AsmFault) → second_pass names address placed ≡ Err fault → IsFirstLabelFault names address placed fault
 unfolding second_pass
 first_label_fault names address [] fault h = absurd cc
 first_label_fault names address (first ∷ others) fault h =
     first_by names address first others fault (parts_of names address first.statement) refl (first_label_fault names (address + size_of first.statement) others fault) (second_pass names (address + size_of first.statement) others) refl h
 
-none_by : (names : Names) (address : ℕ) (first : Placed) (others : List Placed) (parts : List Part) (r : Result (List Part) AsmKind) → parts_of names address first.statement ≡ r
+none_by : (names : Names) (address : ℕ) (first : PlacedStatement) (others : List PlacedStatement) (parts : List Part) (r : Result (List Part) AsmKind) → parts_of names address first.statement ≡ r
     → ((those : List Part) → second_pass names (address + size_of first.statement) others ≡ Ok those → HasLabels names (address + size_of first.statement) others)
     → (rest : Result (List Part) AsmFault) → second_pass names (address + size_of first.statement) others ≡ rest
     → (at_line first.line r >>= λ here. rest >>= λ there. Ok (here ++ there)) ≡ Ok parts → HasLabels names address (first ∷ others)
@@ -114,7 +114,7 @@ none_by names address first others parts (Ok here) e inner (Err other) f h = abs
 none_by names address first others parts (Ok here) e inner (Ok there) f h =
     λ i it found. none_before names address first others i (sym (labels_judged names address first.statement) ∙ ap result_err e) (λ k other lt. inner there f k other) i it (omega arith) found
 
-pub labels_there : (names : Names) (address : ℕ) (placed : List Placed) (parts : List Part) → second_pass names address placed ≡ Ok parts → HasLabels names address placed
+pub labels_there : (names : Names) (address : ℕ) (placed : List PlacedStatement) (parts : List Part) → second_pass names address placed ≡ Ok parts → HasLabels names address placed
 unfolding second_pass
 labels_there names address [] parts h = λ i it found. absurd cc
 labels_there names address (first ∷ others) parts h =

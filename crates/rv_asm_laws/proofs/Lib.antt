@@ -5,6 +5,7 @@ pub mod OperandFaults
 pub mod LineJudged
 pub mod LabelsJudged
 pub mod Comments
+pub mod Leading
 pub mod Labelling
 pub mod Summing
 pub mod Listed

@@ -3,7 +3,7 @@ use Rattle.std.proofs.Common.{◌≡◌, ℕ, ◌+◌, ◌%◌, ◌<◌, ◌≤�
 use Rattle.std.specs.Prelude.{◌||◌, ◌&&◌, ◌==◌, is_none, fold, sum_by, nat_lt, ℤ, pos, negsuc}
 use Rattle.std.specs.List.{list_all}
 use Rattle.std.specs.Result.{result_err}
-use Rattle.std.proofs.lemmas.Bool.{eqb-true, eq-eqb, ne_eqb, ltb-true, ltb-false, lt-ltb, le-ltb}
+use Rattle.std.proofs.lemmas.Bool.{not-false, eqb-true, eq-eqb, ne_eqb, ltb-true, ltb-false, lt-ltb, le-ltb}
 use Rattle.std.proofs.lemmas.List.{length-append}
 use Rattle.std.proofs.lemmas.List.Sums.{sum_by-cons}
 use Rattle.rv_model.specs.declared.inst.Inst.TheVariants as insts
@@ -18,21 +18,21 @@ use Rattle.rv_asm.specs.declared.mnemonic.Mnemonic.TheVariants as words
 use Rattle.rv_asm.specs.declared.statement.Statement.{Statement}
 use Rattle.rv_asm.specs.declared.statement.Statement.TheVariants as statements
 use Rattle.ce_text.specs.Bytes.{is_plain}
-use Rattle.ce_text.specs.Line.{cut, trimmed, before_comment}
-use Rattle.rv_asm.specs.Line.{pieces, is_colon, is_comma, is_token}
+use Rattle.ce_text.specs.Line.{cut, without_outer_blanks, before_comment}
+use Rattle.rv_asm.specs.Line.{pieces, pieces_behind, is_colon, is_comma, is_token}
 use Rattle.rv_asm.specs.Literal.{literal_of}
 use Rattle.rv_asm.specs.Name.{is_name}
 use Rattle.rv_asm.specs.Names.{Names, with_name, is_taken}
-use Rattle.rv_asm.specs.Faults.{◌>>=◌, refuse, or_fault, both, gathered, all_of}
-use Rattle.rv_asm.specs.Operand.{two_of, two_pieces, name_piece, number, ranged, no_piece, word_of, byte_of}
+use Rattle.rv_asm.specs.Faults.{◌>>=◌, refuse, or_fault, both, with_judged, all_of}
+use Rattle.rv_asm.specs.Operand.{two_of, two_pieces, name_piece, number, number_in_range, no_piece, word_of, byte_of}
 use Rattle.rv_asm.specs.Sizes.{size_of, lays_words}
 use Rattle.rv_asm.specs.Words.{mnemonic_of}
 use Rattle.rv_asm.specs.Statements.{is_short, low_part, two_instructions, load_word, value_named, word_value, byte_value, register_upper, register_memory, registers_immediate, three_registers, two_registers, register_word, register_label, registers_label, one_label, zero_count, statements_of}
 use Rattle.rv_asm_laws.specs.Forms.{a_name, any_number, operands_fault, operand_texts}
-use Rattle.rv_asm.specs.FirstPass.{Laid, laid_of, place, place_all, define, equ, lay, statement, labelled, line_laid}
+use Rattle.rv_asm.specs.FirstPass.{LayoutSoFar, laid_of, place, place_all, define, equ, lay, statement, labelled_statement, line_laid}
 use Rattle.rv_asm_laws.specs.Before.{label_before, label_of}
 use Rattle.rv_asm_laws.specs.LineFaults.{statement_behind, word_in, operands_in, is_equ, names_with, laid_list, is_of_words, takes_name, is_strange, operand_kind, room_kind, place_kind, or_then, statement_kind, has_colon, fault_behind, line_fault}
-use Rattle.rv_asm.proofs.Pieces.{pieces_cut, pieces_behind}
+use Rattle.rv_asm.proofs.Pieces.{pieces_cut}
 use Rattle.rv_asm_laws.proofs.OperandFaults.{wrong, err_both, joined_two, name_fault, number_fault, written_two, some_pieces, operands_judged}
 
 -- a judgment that goes on without a fault has the fault that it had
@@ -42,11 +42,11 @@ err_total (Err kind) next h = refl
 
 -- ---- `.equ`
 
-define_free : (laid : Laid) (name : List ℕ) (symbol : Symbol) → is_taken laid.names name ≡ false → result_err (define laid name symbol) ≡ None
+define_free : (laid : LayoutSoFar) (name : List ℕ) (symbol : Symbol) → is_taken laid.names name ≡ false → result_err (define laid name symbol) ≡ None
 unfolding define
 define_free laid name symbol e = rw e refl
 
-equ_pieces : (laid : Laid) (first : List ℕ) (others : List (List ℕ)) → is_taken laid.names first ≡ false
+equ_pieces : (laid : LayoutSoFar) (first : List ℕ) (others : List (List ℕ)) → is_taken laid.names first ≡ false
     → result_err (two_of (first ∷ others) >>= λ parts. both (name_piece parts.0) (number laid.names parts.1) >>= λ values. define laid parts.0 (Number values.1))
     ≡ operands_fault laid.names (a_name ∷ any_number ∷ []) (first ∷ others)
 equ_pieces laid first [] e = wrong laid.names (a_name ∷ any_number ∷ []) (first ∷ []) refl
@@ -56,21 +56,21 @@ equ_pieces laid first (second ∷ []) e =
     ∙ rw (name_fault laid.names first, number_fault laid.names second) (joined_two laid.names a_name any_number first second)
 equ_pieces laid first (second ∷ third ∷ others) e = wrong laid.names (a_name ∷ any_number ∷ []) (first ∷ second ∷ third ∷ others) (ne_eqb _ _ (λ h. absurd (omega arith)))
 
-equ_by : (laid : Laid) (operands : List ℕ) (taken : Bool) → is_taken laid.names (trimmed (cut is_comma operands).0) ≡ taken
+equ_by : (laid : LayoutSoFar) (operands : List ℕ) (taken : Bool) → is_taken laid.names (without_outer_blanks (cut is_comma operands).0) ≡ taken
     → result_err (refuse taken NameTaken >>= λ free. two_pieces operands >>= λ parts. both (name_piece parts.0) (number laid.names parts.1) >>= λ values. define laid parts.0 (Number values.1))
     ≡ cond taken (Some NameTaken) (operands_fault laid.names (a_name ∷ any_number ∷ []) (operand_texts operands))
 unfolding two_pieces
 equ_by laid operands true e = refl
 equ_by laid operands false e =
     ap (λ (texts : List (List ℕ)). result_err (two_of texts >>= λ parts. both (name_piece parts.0) (number laid.names parts.1) >>= λ values. define laid parts.0 (Number values.1))) (pieces_cut operands)
-    ∙ equ_pieces laid (trimmed (cut is_comma operands).0) (pieces_behind (cut is_comma operands).1) e
+    ∙ equ_pieces laid (without_outer_blanks (cut is_comma operands).0) (pieces_behind (cut is_comma operands).1) e
     ∙ ap (operands_fault laid.names (a_name ∷ any_number ∷ [])) (sym (pieces_cut operands))
     ∙ written_two laid.names a_name any_number operands
 
-equ_fault : (laid : Laid) (operands : List ℕ) → result_err (equ laid operands)
-    ≡ cond (is_taken laid.names (trimmed (cut is_comma operands).0)) (Some NameTaken) (operands_fault laid.names (a_name ∷ any_number ∷ []) (operand_texts operands))
+equ_fault : (laid : LayoutSoFar) (operands : List ℕ) → result_err (equ laid operands)
+    ≡ cond (is_taken laid.names (without_outer_blanks (cut is_comma operands).0)) (Some NameTaken) (operands_fault laid.names (a_name ∷ any_number ∷ []) (operand_texts operands))
 unfolding equ
-equ_fault laid operands = equ_by laid operands (is_taken laid.names (trimmed (cut is_comma operands).0)) refl
+equ_fault laid operands = equ_by laid operands (is_taken laid.names (without_outer_blanks (cut is_comma operands).0)) refl
 
 -- ---- room
 
@@ -84,8 +84,8 @@ AreOf of_words [] = Unit {0}
 AreOf of_words (it ∷ these) = IsOf of_words it × AreOf of_words these
 
 -- more statements behind some that fit, at an aligned place
-more_by : (line : ℕ) (laid : Laid) (it : Statement) (these : List Statement) (of_words unaligned large : Bool) → IsOf of_words it → of_words && not (laid.size % 4 == 0) ≡ unaligned → nat_lt image_room (laid.size + size_of it) ≡ large
-    → ((next : Laid) → next.size ≡ laid.size + size_of it → next.size ≤ image_room → (of_words ≡ true → next.size % 4 ≡ 0) → result_err (place_all line next these) ≡ cond (nat_lt image_room (next.size + sum_by size_of these)) (Some TooLarge) None)
+more_by : (line : ℕ) (laid : LayoutSoFar) (it : Statement) (these : List Statement) (of_words unaligned large : Bool) → IsOf of_words it → of_words && not (laid.size % 4 == 0) ≡ unaligned → nat_lt image_room (laid.size + size_of it) ≡ large
+    → ((next : LayoutSoFar) → next.size ≡ laid.size + size_of it → next.size ≤ image_room → (of_words ≡ true → next.size % 4 ≡ 0) → result_err (place_all line next these) ≡ cond (nat_lt image_room (next.size + sum_by size_of these)) (Some TooLarge) None)
     → result_err ((refuse unaligned Unaligned >>= λ aligned. refuse large TooLarge >>= λ fits. Ok (laid_of laid.names (laid.statements ++ record { line = line; statement = it } ∷ []) (laid.size + size_of it))) >>= λ one. place_all line one these)
     ≡ cond unaligned (Some Unaligned) (cond (nat_lt image_room (laid.size + sum_by size_of (it ∷ these))) (Some TooLarge) None)
 more_by line laid it these of_words true large of e f others = refl
@@ -103,17 +103,13 @@ more_by line laid it these of_words false false of e f others =
   where
     aligned : (of_words : Bool) (size more : ℕ) → of_words ≡ true → of_words && not (size % 4 == 0) ≡ false → more % 4 ≡ 0 → (size + more) % 4 ≡ 0
     aligned false size more w e h = absurd cc
-    aligned true size more w e h = let here : size % 4 ≡ 0 = eqb-true _ _ (unnot (size % 4 == 0) e) in omega arith
-      where
-        unnot : (b : Bool) → not b ≡ false → b ≡ true
-        unnot true e = refl
-        unnot false e = absurd cc
+    aligned true size more w e h = let here : size % 4 ≡ 0 = eqb-true _ _ (not-false (size % 4 == 0) e) in omega arith
 
 even : (of_words : Bool) (size : ℕ) → (of_words ≡ true → size % 4 ≡ 0) → of_words && not (size % 4 == 0) ≡ false
 even false size h = refl
 even true size h = let e : (size % 4 == 0) ≡ true = eq-eqb _ _ (h refl) in rw e refl
 
-rest_placed : (line : ℕ) (of_words : Bool) (these : List Statement) (laid : Laid) → AreOf of_words these → laid.size ≤ image_room → (of_words ≡ true → laid.size % 4 ≡ 0)
+rest_placed : (line : ℕ) (of_words : Bool) (these : List Statement) (laid : LayoutSoFar) → AreOf of_words these → laid.size ≤ image_room → (of_words ≡ true → laid.size % 4 ≡ 0)
     → result_err (place_all line laid these) ≡ cond (nat_lt image_room (laid.size + sum_by size_of these)) (Some TooLarge) None
 unfolding place_all place
 rest_placed line of_words [] laid are le h = let e : nat_lt image_room (laid.size + 0) ≡ false = le-ltb _ _ (omega arith) in rw e refl
@@ -122,7 +118,7 @@ rest_placed line of_words (it ∷ these) laid are le h =
     ∙ more_by line laid it these of_words (of_words && not (laid.size % 4 == 0)) (nat_lt image_room (laid.size + size_of it)) are.0 refl refl (λ next e small w. rest_placed line of_words these next are.1 small w)
     ∙ ap (λ (b : Bool). cond b (Some Unaligned) (cond (nat_lt image_room (laid.size + sum_by size_of (it ∷ these))) (Some TooLarge) None)) (even of_words laid.size h)
 
-all_placed : (line : ℕ) (of_words : Bool) (it : Statement) (these : List Statement) (laid : Laid) → AreOf of_words (it ∷ these)
+all_placed : (line : ℕ) (of_words : Bool) (it : Statement) (these : List Statement) (laid : LayoutSoFar) → AreOf of_words (it ∷ these)
     → result_err (place_all line laid (it ∷ these)) ≡ room_kind laid.size of_words (sum_by size_of (it ∷ these))
 unfolding place_all place
 all_placed line of_words it these laid are =
@@ -157,29 +153,29 @@ pushed : (of_words : Bool) (these : List Statement) (it : Statement) → AreOf o
 pushed of_words [] it are of = (of, tt)
 pushed of_words (first ∷ these) it are of = (are.0, pushed of_words these it are.1 of)
 
-abbrev OkAre : Bool → ℕ → Result (List Statement) AsmKind → Type 0
-OkAre of_words count (Ok these) = AreOf of_words these × (length these ≡ count)
-OkAre of_words count (Err kind) = Unit {0}
+abbrev AreGathered : Bool → ℕ → Result (List Statement) AsmKind → Type 0
+AreGathered of_words count (Ok these) = AreOf of_words these × (length these ≡ count)
+AreGathered of_words count (Err kind) = Unit {0}
 
-gathered_are : (of_words : Bool) (count : ℕ) (so_far : Result (List Statement) AsmKind) (value : Result Statement AsmKind) → OkAre of_words count so_far → ((it : Statement) → value ≡ Ok it → IsOf of_words it) → OkAre of_words (count + 1) (gathered so_far value)
-unfolding gathered both
+gathered_are : (of_words : Bool) (count : ℕ) (so_far : Result (List Statement) AsmKind) (value : Result Statement AsmKind) → AreGathered of_words count so_far → ((it : Statement) → value ≡ Ok it → IsOf of_words it) → AreGathered of_words (count + 1) (with_judged so_far value)
+unfolding with_judged both
 gathered_are of_words count (Ok these) (Ok it) are h = (pushed of_words these it are.0 (h it refl), omega (arith, are.1, length-append these (it ∷ [])))
 gathered_are of_words count (Ok these) (Err kind) are h = tt
 gathered_are of_words count (Err kind) (Ok it) are h = tt
 gathered_are of_words count (Err kind) (Err other) are h = tt
 
-all_are : (of_words : Bool) (judge : List ℕ → Result Statement AsmKind) (texts : List (List ℕ)) (count : ℕ) (so_far : Result (List Statement) AsmKind) → ((text : List ℕ) (it : Statement) → judge text ≡ Ok it → IsOf of_words it) → OkAre of_words count so_far
-    → OkAre of_words (count + length texts) (fold gathered so_far (map judge texts))
-all_are of_words judge [] count so_far h are = subst (λ (n : ℕ). OkAre of_words n so_far) (omega arith) are
+all_are : (of_words : Bool) (judge : List ℕ → Result Statement AsmKind) (texts : List (List ℕ)) (count : ℕ) (so_far : Result (List Statement) AsmKind) → ((text : List ℕ) (it : Statement) → judge text ≡ Ok it → IsOf of_words it) → AreGathered of_words count so_far
+    → AreGathered of_words (count + length texts) (fold with_judged so_far (map judge texts))
+all_are of_words judge [] count so_far h are = subst (λ (n : ℕ). AreGathered of_words n so_far) (omega arith) are
 all_are of_words judge (text ∷ texts) count so_far h are =
-    let more = all_are of_words judge texts (count + 1) (gathered so_far (judge text)) h (gathered_are of_words count so_far (judge text) are (h text)) in
+    let more = all_are of_words judge texts (count + 1) (with_judged so_far (judge text)) h (gathered_are of_words count so_far (judge text) are (h text)) in
     let same : count + 1 + length texts ≡ count + length (text ∷ texts) = omega arith in
-    subst (λ (n : ℕ). OkAre of_words n (fold gathered so_far (map judge (text ∷ texts)))) same more
+    subst (λ (n : ℕ). AreGathered of_words n (fold with_judged so_far (map judge (text ∷ texts)))) same more
 
 listed_are : (of_words : Bool) (judge : List ℕ → Result Statement AsmKind) (operands : List ℕ) (these : List Statement) → ((text : List ℕ) (it : Statement) → judge text ≡ Ok it → IsOf of_words it) → all_of (map judge (pieces operands)) ≡ Ok these → AreAllOf of_words these
 unfolding all_of
 listed_are of_words judge operands these h e =
-    let are = subst (OkAre of_words (0 + length (pieces operands))) e (all_are of_words judge (pieces operands) 0 (Ok []) h (tt, refl)) in
+    let are = subst (AreGathered of_words (0 + length (pieces operands))) e (all_are of_words judge (pieces operands) 0 (Ok []) h (tt, refl)) in
     record { some = omega (arith, are.1, some_pieces operands); each = are.0 }
 
 value_named_is : (text : List ℕ) (meant : Option Symbol) → IsOf true (value_named text meant)
@@ -207,7 +203,7 @@ word_item names text it e = word_item_by (is_token text) (is_name text) text (na
 
 byte_item : (names : Names) (text : List ℕ) (it : Statement) → byte_value names text ≡ Ok it → IsOf false it
 unfolding byte_value
-byte_item names text it e = in_one (IsOf false) (ranged (negsuc 127) (pos 255) (number names text)) (λ n. statements.Byte (byte_of n)) it (λ n. byte_is _ refl) e
+byte_item names text it e = in_one (IsOf false) (number_in_range (negsuc 127) (pos 255) (number names text)) (λ n. statements.Byte (byte_of n)) it (λ n. byte_is _ refl) e
 
 module _ (names : Names) (operands : List ℕ) (these : List Statement) where
   statements_are : (mnemonic : Mnemonic) → statements_of mnemonic names operands ≡ Ok these → AreAllOf (is_of_words mnemonic) these
@@ -232,16 +228,16 @@ module _ (names : Names) (operands : List ℕ) (these : List Statement) where
 
 -- ---- a statement
 
-placed_so : (line : ℕ) (laid : Laid) (of_words : Bool) (these : List Statement) → AreAllOf of_words these → result_err (place_all line laid these) ≡ room_kind laid.size of_words (sum_by size_of these)
+placed_so : (line : ℕ) (laid : LayoutSoFar) (of_words : Bool) (these : List Statement) → AreAllOf of_words these → result_err (place_all line laid these) ≡ room_kind laid.size of_words (sum_by size_of these)
 placed_so line laid of_words [] are = absurd (omega (arith, are.some))
 placed_so line laid of_words (it ∷ these) are = all_placed line of_words it these laid are.each
 
-lay_room : (line : ℕ) (laid : Laid) (mnemonic : Mnemonic) (operands : List ℕ) (r : Result (List Statement) AsmKind) → statements_of mnemonic laid.names operands ≡ r
+lay_room : (line : ℕ) (laid : LayoutSoFar) (mnemonic : Mnemonic) (operands : List ℕ) (r : Result (List Statement) AsmKind) → statements_of mnemonic laid.names operands ≡ r
     → result_err (r >>= λ these. place_all line laid these) ≡ or_then (result_err r) (room_kind laid.size (is_of_words mnemonic) (sum_by size_of (laid_list r)))
 lay_room line laid mnemonic operands (Err kind) e = refl
 lay_room line laid mnemonic operands (Ok these) e = placed_so line laid (is_of_words mnemonic) these (statements_are laid.names operands these mnemonic e)
 
-lay_by : (line : ℕ) (laid : Laid) (found : Option Mnemonic) (operands : List ℕ)
+lay_by : (line : ℕ) (laid : LayoutSoFar) (found : Option Mnemonic) (operands : List ℕ)
     → result_err (or_fault found UnknownWord >>= λ mnemonic. statements_of mnemonic laid.names operands >>= λ these. place_all line laid these)
     ≡ cond (is_none found) (Some UnknownWord) (or_then (operand_kind laid.names false found operands) (place_kind laid.names laid.size false found operands))
 lay_by line laid None operands = refl
@@ -257,15 +253,15 @@ equ_then : (taken : Bool) (kind : Option AsmKind) → cond taken (Some NameTaken
 equ_then true kind = refl
 equ_then false kind = or_then_none kind
 
-module _ (line : ℕ) (laid : Laid) (word operands : List ℕ) where
+module _ (line : ℕ) (laid : LayoutSoFar) (word operands : List ℕ) where
   statement_by : (colon equ_word : Bool)
       → result_err (refuse colon UnknownWord >>= λ so. cond equ_word (equ laid operands) (lay line laid word operands))
-      ≡ cond colon (Some UnknownWord) (cond (equ_word && is_taken laid.names (trimmed (cut is_comma operands).0)) (Some NameTaken) (cond (not equ_word && is_none (mnemonic_of word)) (Some UnknownWord)
+      ≡ cond colon (Some UnknownWord) (cond (equ_word && is_taken laid.names (without_outer_blanks (cut is_comma operands).0)) (Some NameTaken) (cond (not equ_word && is_none (mnemonic_of word)) (Some UnknownWord)
       (or_then (operand_kind laid.names equ_word (mnemonic_of word) operands) (place_kind laid.names laid.size equ_word (mnemonic_of word) operands))))
   unfolding lay
   statement_by true equ_word = refl
   statement_by false true =
-      equ_fault laid operands ∙ equ_then (is_taken laid.names (trimmed (cut is_comma operands).0)) (operands_fault laid.names (a_name ∷ any_number ∷ []) (operand_texts operands))
+      equ_fault laid operands ∙ equ_then (is_taken laid.names (without_outer_blanks (cut is_comma operands).0)) (operands_fault laid.names (a_name ∷ any_number ∷ []) (operand_texts operands))
   statement_by false false = lay_by line laid (mnemonic_of word) operands
 
 -- the first fault of a statement, in the order of its steps
@@ -276,7 +272,7 @@ nothing_equ : is_equ [] ≡ false
 unfolding cut
 nothing_equ = refl
 
-statement_judged : (line : ℕ) (laid : Laid) (it : List ℕ) → result_err (statement line laid it) ≡ in_steps laid.names laid.size it
+statement_judged : (line : ℕ) (laid : LayoutSoFar) (it : List ℕ) → result_err (statement line laid it) ≡ in_steps laid.names laid.size it
 unfolding statement
 statement_judged line laid [] = rw nothing_equ refl
 statement_judged line laid (byte ∷ bytes) =
@@ -292,11 +288,11 @@ in_order false true strange kind = refl
 in_order false false true kind = refl
 in_order false false false kind = refl
 
-statement_in_order : (line : ℕ) (laid : Laid) (it : List ℕ) → result_err (statement line laid it)
+statement_in_order : (line : ℕ) (laid : LayoutSoFar) (it : List ℕ) → result_err (statement line laid it)
     ≡ cond (true && (false || (not (has_colon it) && takes_name laid.names it))) (Some NameTaken) (cond (false || (has_colon it || is_strange it)) (Some UnknownWord) (statement_kind laid.names laid.size it))
 statement_in_order line laid it = statement_judged line laid it ∙ in_order (has_colon it) (takes_name laid.names it) (is_strange it) (statement_kind laid.names laid.size it)
 
-module _ (line : ℕ) (laid : Laid) (label it : List ℕ) where
+module _ (line : ℕ) (laid : LayoutSoFar) (label it : List ℕ) where
   labelled_by : (named taken : Bool) → is_taken laid.names label ≡ taken
       → result_err (refuse (not named) UnknownWord >>= λ so. refuse taken NameTaken >>= λ free. statement line (laid_of (with_name laid.names label (Label (image_start + laid.size))) laid.statements laid.size) it)
       ≡ cond (not (not named) && (taken || (not (has_colon it) && takes_name (names_with laid (Some label)) it))) (Some NameTaken)
@@ -310,19 +306,19 @@ module _ (line : ℕ) (laid : Laid) (label it : List ℕ) where
   flat true = refl
   flat false = refl
 
-labelled_judged : (line : ℕ) (laid : Laid) (parts : List ℕ × Option (List ℕ)) → result_err (labelled line laid parts.0 parts.1) ≡ fault_behind laid (label_before parts) (statement_behind parts)
+labelled_judged : (line : ℕ) (laid : LayoutSoFar) (parts : List ℕ × Option (List ℕ)) → result_err (labelled_statement line laid parts.0 parts.1) ≡ fault_behind laid (label_before parts) (statement_behind parts)
 unfolding define
-labelled_judged line laid (front, None) = statement_in_order line laid (trimmed front)
+labelled_judged line laid (front, None) = statement_in_order line laid (without_outer_blanks front)
 labelled_judged line laid (front, Some rest) =
-    ap (λ (r : Result Laid AsmKind). result_err (refuse (not (is_name (trimmed front))) UnknownWord >>= λ so. r)) (flat line laid (trimmed front) (trimmed rest) (is_taken laid.names (trimmed front)))
-    ∙ labelled_by line laid (trimmed front) (trimmed rest) (is_name (trimmed front)) (is_taken laid.names (trimmed front)) refl
+    ap (λ (r : Result LayoutSoFar AsmKind). result_err (refuse (not (is_name (without_outer_blanks front))) UnknownWord >>= λ so. r)) (flat line laid (without_outer_blanks front) (without_outer_blanks rest) (is_taken laid.names (without_outer_blanks front)))
+    ∙ labelled_by line laid (without_outer_blanks front) (without_outer_blanks rest) (is_name (without_outer_blanks front)) (is_taken laid.names (without_outer_blanks front)) refl
 
-plain_by : (plain : Bool) (r : Result Laid AsmKind) → result_err (refuse (not plain) BadByte >>= λ so. r) ≡ cond (not plain) (Some BadByte) (result_err r)
+plain_by : (plain : Bool) (r : Result LayoutSoFar AsmKind) → result_err (refuse (not plain) BadByte >>= λ so. r) ≡ cond (not plain) (Some BadByte) (result_err r)
 plain_by true r = refl
 plain_by false r = refl
 
-pub lines_judged : (number : ℕ) (laid : Laid) (line : List ℕ) → result_err (line_laid number laid line) ≡ line_fault laid line
+pub lines_judged : (number : ℕ) (laid : LayoutSoFar) (line : List ℕ) → result_err (line_laid number laid line) ≡ line_fault laid line
 unfolding line_laid line_fault label_of
 lines_judged number laid line =
-    plain_by (list_all is_plain (before_comment line)) (labelled number laid (cut is_colon (before_comment line)).0 (cut is_colon (before_comment line)).1)
+    plain_by (list_all is_plain (before_comment line)) (labelled_statement number laid (cut is_colon (before_comment line)).0 (cut is_colon (before_comment line)).1)
     ∙ ap (λ (kind : Option AsmKind). cond (not (list_all is_plain (before_comment line))) (Some BadByte) kind) (labelled_judged number laid (cut is_colon (before_comment line)))

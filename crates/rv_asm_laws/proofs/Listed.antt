@@ -1,9 +1,9 @@
 -- A listing of instructions assembles to them.
 use Rattle.std.proofs.Common.{◌≡◌, ℕ, suc, ◌+◌, ◌*◌, ◌<◌, ◌≤◌, ◌%◌, Bool, true, false, T, cond, List, [], ◌∷◌, ◌++◌, length, map, Option, Some, None, Result, Ok, refl, sym, ap, ◌∙◌, subst, arith, inl, inr, append_assoc, ℤ, pos, negsuc, ◌≤ℤ◌}
-use Rattle.std.specs.Prelude.{◌||◌, ◌&&◌, bytes_eq, ◌^◌, codes, int_le, nat_lt}
+use Rattle.std.specs.Prelude.{◌&&◌, bytes_eq, ◌^◌, codes, int_le, nat_lt}
 use Rattle.std.specs.List.{list_all, list_any, position_or_len, before_first, after_first}
 use Rattle.std.specs.Cmp.Lexicographic.{bytes_decides}
-use Rattle.std.proofs.lemmas.Bool.{ltb-false, le-ltb, le-leb}
+use Rattle.std.proofs.lemmas.Bool.{and_parts, or_parts, ltb-false, le-ltb, le-leb}
 use Rattle.std.proofs.lemmas.List.{take_all, append-nil}
 use Rattle.std.proofs.lemmas.Int.{ints}
 use Rattle.rv_model.specs.Image.{image_start, image_room}
@@ -14,24 +14,24 @@ use Rattle.rv_model.specs.declared.inst.ImmOp.TheVariants.{Addi, Slti, Sltiu, Xo
 use Rattle.rv_inst.specs.Valid.{IsValid, IsUpper, IsTwelveBits, IsImmediateOf}
 use Rattle.rv_image.specs.Fault.{is_entry}
 use Rattle.ce_text.specs.Bytes.{is_blank, is_plain}
-use Rattle.ce_text.specs.Line.{cut, trimmed, lines, before_comment, onto_trimmed, without_front_blanks, without_end_blanks}
+use Rattle.ce_text.specs.Line.{cut, without_outer_blanks, lines, before_comment, onto_trimmed, without_front_blanks, without_end_blanks}
 use Rattle.rv_asm.specs.declared.fault.AsmKind.{AsmKind}
 use Rattle.rv_asm.specs.declared.mnemonic.Mnemonic.{Mnemonic}
 use Rattle.rv_asm.specs.declared.statement.Statement.{Statement}
 use Rattle.rv_asm.specs.declared.statement.Statement.TheVariants as statements
-use Rattle.rv_asm.specs.declared.statement.Placed.{Placed}
+use Rattle.rv_asm.specs.declared.statement.PlacedStatement.{PlacedStatement}
 use Rattle.rv_asm.specs.Line.{is_colon, is_token, is_opening, is_closing, pieces}
 use Rattle.rv_asm.specs.Names.{Names, no_names}
 use Rattle.ce_text.specs.Table.{look_up}
 use Rattle.rv_asm.specs.Register.{register_names, register_of}
 use Rattle.rv_asm.specs.Words.{mnemonics, mnemonic_of}
 use Rattle.rv_asm.specs.Faults.{◌>>=◌, both}
-use Rattle.rv_asm.specs.Operand.{no_piece, two_pieces, three_pieces, register, number, ranged, twelve_bits, memory, in_brackets}
+use Rattle.rv_asm.specs.Operand.{no_piece, two_pieces, three_pieces, register, number, number_in_range, twelve_bits, memory, in_brackets}
 use Rattle.rv_asm.specs.Sizes.{size_of}
 use Rattle.rv_asm.specs.Statements.{register_upper, register_memory, immediate, registers_immediate, three_registers, statements_of}
-use Rattle.rv_asm.specs.FirstPass.{Laid, laid_of, nothing_laid, place, place_all, lay, statement, labelled, line_laid, at_line, lines_laid, first_pass}
+use Rattle.rv_asm.specs.FirstPass.{LayoutSoFar, laid_of, nothing_laid, place, place_all, lay, statement, labelled_statement, line_laid, at_line, lines_laid, first_pass}
 use Rattle.rv_asm.specs.SecondPass.{Instruction, parts_of, second_pass}
-use Rattle.rv_asm.specs.Assembly.{assembled}
+use Rattle.rv_asm.specs.Assembly.{assembly_of}
 use Rattle.rv_asm_laws.specs.Before.{label_before, label_of}
 use Rattle.rv_asm_laws.specs.LineFaults.{statement_behind, statement_in, word_in, operands_in}
 use Rattle.rv_asm_laws.specs.Forms.{is_bracketed, base_behind, operand_texts}
@@ -45,10 +45,6 @@ all_tokens : List (List ℕ × ℕ) → Bool
 all_tokens [] = true
 all_tokens (row ∷ rows) = is_token row.0 && all_tokens rows
 
-both_true : (a b : Bool) → a && b ≡ true → (a ≡ true) × (b ≡ true)
-both_true true b e = (refl, e)
-both_true false b e = absurd cc
-
 token_by : (row : List ℕ) (text : List ℕ) (same : Bool) (n m : ℕ) (rest : Option ℕ) → bytes_eq row text ≡ same → is_token row ≡ true → (rest ≡ Some n → is_token text ≡ true)
     → cond same (Some m) rest ≡ Some n → is_token text ≡ true
 token_by row text true n m rest e t others h = subst (λ (bytes : List ℕ). is_token bytes ≡ true) ((bytes_decides row text).0 e) t
@@ -58,7 +54,7 @@ token_found : (rows : List (List ℕ × ℕ)) (text : List ℕ) (n : ℕ) → al
 unfolding all_tokens
 token_found [] text n all h = absurd cc
 token_found (row ∷ rows) text n all h =
-    let parts = both_true (is_token row.0) (all_tokens rows) all in
+    let parts = and_parts (is_token row.0) (all_tokens rows) all in
     token_by row.0 text (bytes_eq row.0 text) n row.1 (look_up rows text) refl parts.0 (token_found rows text n parts.1) h
 
 register_token : (n : ℕ) (text : List ℕ) → IsRegisterText n text → is_token text ≡ true
@@ -80,16 +76,16 @@ so_true false h = absurd h
 at_most : (a b : ℤ) → a ≤ℤ b → int_le a b ≡ true
 at_most a b h = so_true (int_le a b) h.le
 
-reads_ranged : (names : Names) (low high n : ℤ) (text : List ℕ) → low ≤ℤ n → n ≤ℤ high → IsNumberText n text → ranged low high (number names text) ≡ Ok n
-unfolding ranged
+reads_ranged : (names : Names) (low high n : ℤ) (text : List ℕ) → low ≤ℤ n → n ≤ℤ high → IsNumberText n text → number_in_range low high (number names text) ≡ Ok n
+unfolding number_in_range
 reads_ranged names low high n text l h w = rw (reads_number names n text w, at_most low n l, at_most n high h) refl
 
-memory_by : (names : Names) (n : ℤ) (rs1 : ℕ) → IsTwelveBits n → (front : List ℕ) (rest : Option (List ℕ)) → is_bracketed rest ≡ true → IsNumberText n (trimmed front) → IsRegisterText rs1 (base_behind rest)
+memory_by : (names : Names) (n : ℤ) (rs1 : ℕ) → IsTwelveBits n → (front : List ℕ) (rest : Option (List ℕ)) → is_bracketed rest ≡ true → IsNumberText n (without_outer_blanks front) → IsRegisterText rs1 (base_behind rest)
     → in_brackets names front rest ≡ Ok (n, rs1)
 unfolding twelve_bits both
 memory_by names n rs1 small front None e offset base = absurd cc
 memory_by names n rs1 small front (Some behind) e offset base =
-    rw (e, reads_ranged names (negsuc 2047) (pos 2047) n (trimmed front) small.0 small.1 offset, reads_register rs1 (trimmed (cut is_closing behind).0) base) refl
+    rw (e, reads_ranged names (negsuc 2047) (pos 2047) n (without_outer_blanks front) small.0 small.1 offset, reads_register rs1 (without_outer_blanks (cut is_closing behind).0) base) refl
 
 reads_memory : (names : Names) (n : ℤ) (rs1 : ℕ) (text : List ℕ) → IsTwelveBits n → IsMemoryText n rs1 text → memory names text ≡ Ok (n, rs1)
 unfolding memory
@@ -203,10 +199,6 @@ outside : (front behind : List ℕ) (within : Bool) → label_before (front, con
 outside front behind true e = absurd cc
 outside front behind false e = refl
 
-either_false : (a b : Bool) → a || b ≡ false → (a ≡ false) × (b ≡ false)
-either_false true b e = absurd cc
-either_false false b e = (refl, e)
-
 any_if : (test : ℕ → Bool) (blank : Bool) (first second : List ℕ) → list_any test first ≡ false → list_any test second ≡ false → list_any test (cond blank first second) ≡ false
 any_if test true first second e h = e
 any_if test false first second e h = h
@@ -215,7 +207,7 @@ any_front : (test : ℕ → Bool) (bytes : List ℕ) → list_any test bytes ≡
 unfolding without_front_blanks
 any_front test [] e = refl
 any_front test (byte ∷ bytes) e =
-    any_if test (is_blank byte) (without_front_blanks bytes) (byte ∷ bytes) (any_front test bytes (either_false (test byte) (list_any test bytes) e).1) e
+    any_if test (is_blank byte) (without_front_blanks bytes) (byte ∷ bytes) (any_front test bytes (or_parts (test byte) (list_any test bytes) e).1) e
 
 any_onto : (test : ℕ → Bool) (byte : ℕ) (rest : List ℕ) → test byte ≡ false → list_any test rest ≡ false → list_any test (onto_trimmed byte rest) ≡ false
 any_onto test byte [] e h = any_if test (is_blank byte) [] (byte ∷ []) refl (rw e refl)
@@ -225,17 +217,17 @@ any_end : (test : ℕ → Bool) (bytes : List ℕ) → list_any test bytes ≡ f
 unfolding without_end_blanks
 any_end test [] e = refl
 any_end test (byte ∷ bytes) e =
-    let parts = either_false (test byte) (list_any test bytes) e in
+    let parts = or_parts (test byte) (list_any test bytes) e in
     any_onto test byte (without_end_blanks bytes) parts.0 (any_end test bytes parts.1)
 
-any_trimmed : (test : ℕ → Bool) (bytes : List ℕ) → list_any test bytes ≡ false → list_any test (trimmed bytes) ≡ false
-unfolding trimmed
+any_trimmed : (test : ℕ → Bool) (bytes : List ℕ) → list_any test bytes ≡ false → list_any test (without_outer_blanks bytes) ≡ false
+unfolding without_outer_blanks
 any_trimmed test bytes e = any_end test (without_front_blanks bytes) (any_front test bytes e)
 
 -- a line without a label: no colon, and all of it is the statement
 record IsUnlabelled (code : List ℕ) : Type 0 where
   none : (cut is_colon code).1 ≡ None
-  no_colon : list_any is_colon (trimmed (cut is_colon code).0) ≡ false
+  no_colon : list_any is_colon (without_outer_blanks (cut is_colon code).0) ≡ false
 
 unlabelled_by : (code : List ℕ) (within : Bool) → nat_lt (position_or_len is_colon code) (length code) ≡ within → label_before (cut is_colon code) ≡ None → IsUnlabelled code
 unfolding cut
@@ -253,22 +245,22 @@ unlabelled : (line : List ℕ) → label_of line ≡ None → IsUnlabelled (befo
 unfolding label_of
 unlabelled line e = unlabelled_by (before_comment line) (nat_lt (position_or_len is_colon (before_comment line)) (length (before_comment line))) refl e
 
-behind_by : (front : List ℕ) (rest : Option (List ℕ)) → rest ≡ None → statement_behind (front, rest) ≡ trimmed front
+behind_by : (front : List ℕ) (rest : Option (List ℕ)) → rest ≡ None → statement_behind (front, rest) ≡ without_outer_blanks front
 behind_by front None e = refl
 behind_by front (Some rest) e = absurd cc
 
-labelled_by : (number : ℕ) (laid : Laid) (front : List ℕ) (rest : Option (List ℕ)) → rest ≡ None → labelled number laid front rest ≡ statement number laid (trimmed front)
+labelled_by : (number : ℕ) (laid : LayoutSoFar) (front : List ℕ) (rest : Option (List ℕ)) → rest ≡ None → labelled_statement number laid front rest ≡ statement number laid (without_outer_blanks front)
 labelled_by number laid front None e = refl
 labelled_by number laid front (Some rest) e = absurd cc
 
 -- a line without a label is its statement
-line_is : (number : ℕ) (laid : Laid) (line : List ℕ) → list_all is_plain (before_comment line) ≡ true → label_of line ≡ None
+line_is : (number : ℕ) (laid : LayoutSoFar) (line : List ℕ) → list_all is_plain (before_comment line) ≡ true → label_of line ≡ None
     → (list_any is_colon (statement_in line) ≡ false) × (line_laid number laid line ≡ statement number laid (statement_in line))
 unfolding line_laid
 line_is number laid line plain none =
     let code = before_comment line in
     let u = unlabelled line none in
-    let same : statement_in line ≡ trimmed (cut is_colon code).0 = behind_by (cut is_colon code).0 (cut is_colon code).1 u.none in
+    let same : statement_in line ≡ without_outer_blanks (cut is_colon code).0 = behind_by (cut is_colon code).0 (cut is_colon code).1 u.none in
     (ap (list_any is_colon) same ∙ u.no_colon, rw plain (labelled_by number laid (cut is_colon code).0 (cut is_colon code).1 u.none ∙ ap (statement number laid) (sym same)))
 
 no_equ : (word : List ℕ) (mnemonic : Mnemonic) (same : Bool) → bytes_eq word (codes ".equ") ≡ same → mnemonic_of word ≡ Some mnemonic → same ≡ false
@@ -279,7 +271,7 @@ no_equ word mnemonic true e h =
 no_equ word mnemonic false e h = refl
 
 -- what a statement with a known mnemonic lays
-statement_by : (number : ℕ) (laid : Laid) (bytes : List ℕ) (mnemonic : Mnemonic) (these : List Statement) → list_any is_colon bytes ≡ false → mnemonic_of (word_in bytes) ≡ Some mnemonic
+statement_by : (number : ℕ) (laid : LayoutSoFar) (bytes : List ℕ) (mnemonic : Mnemonic) (these : List Statement) → list_any is_colon bytes ≡ false → mnemonic_of (word_in bytes) ≡ Some mnemonic
     → statements_of mnemonic laid.names (operands_in bytes) ≡ Ok these → statement number laid bytes ≡ place_all number laid these
 unfolding statement lay mnemonic_of mnemonics cut
 statement_by number laid [] mnemonic these colon known e = absurd cc
@@ -290,79 +282,79 @@ statement_by number laid (byte ∷ bytes) mnemonic these colon known e =
 -- ---- a listing
 
 -- one more instruction
-with_instruction : ℕ → Laid → Inst → Laid
+with_instruction : ℕ → LayoutSoFar → Inst → LayoutSoFar
 with_instruction number laid inst = laid_of laid.names (laid.statements ++ record { line = number; statement = statements.Inst inst } ∷ []) (laid.size + 4)
 
 -- there is room for so many words
-record HasRoom (laid : Laid) (count : ℕ) : Type 0 where
+record HasRoom (laid : LayoutSoFar) (count : ℕ) : Type 0 where
   aligned : laid.size % 4 ≡ 0
   fits : laid.size + 4 * count ≤ image_room
 
-placed_so : (number : ℕ) (laid : Laid) (inst : Inst) (count : ℕ) → HasRoom laid (suc count) → place_all number laid (statements.Inst inst ∷ []) ≡ Ok (with_instruction number laid inst)
+placed_so : (number : ℕ) (laid : LayoutSoFar) (inst : Inst) (count : ℕ) → HasRoom laid (suc count) → place_all number laid (statements.Inst inst ∷ []) ≡ Ok (with_instruction number laid inst)
 unfolding place_all place with_instruction
 placed_so number laid inst count room =
     let fits : nat_lt image_room (laid.size + 4) ≡ false = le-ltb _ _ (omega (arith, room.fits)) in
     rw (room.aligned, fits) refl
 
-line_written : (number : ℕ) (laid : Laid) (line : List ℕ) (inst : Inst) (count : ℕ) → HasRoom laid (suc count) → IsWrittenAs inst line → line_laid number laid line ≡ Ok (with_instruction number laid inst)
+line_written : (number : ℕ) (laid : LayoutSoFar) (line : List ℕ) (inst : Inst) (count : ℕ) → HasRoom laid (suc count) → IsWrittenAs inst line → line_laid number laid line ≡ Ok (with_instruction number laid inst)
 line_written number laid line inst count room w =
     let is = line_is number laid line w.plain w.unlabelled in
     is.1
     ∙ statement_by number laid (statement_in line) (mnemonic_for inst) (statements.Inst inst ∷ []) is.0 w.mnemonic (reads laid.names (operands_in (statement_in line)) inst w.valid w.operands)
     ∙ placed_so number laid inst count room
 
-line_empty : (number : ℕ) (laid : Laid) (line : List ℕ) → IsEmptyLine line → line_laid number laid line ≡ Ok laid
+line_empty : (number : ℕ) (laid : LayoutSoFar) (line : List ℕ) → IsEmptyLine line → line_laid number laid line ≡ Ok laid
 unfolding statement
 line_empty number laid line w = (line_is number laid line w.plain w.unlabelled).1 ∙ ap (statement number laid) w.nothing
 
 -- placed statements that are these instructions
-ArePlaced : List Placed → List Inst → Type 0
+ArePlaced : List PlacedStatement → List Inst → Type 0
 ArePlaced [] [] = Unit {0}
 ArePlaced [] (inst ∷ insts) = ⊥
 ArePlaced (it ∷ placed) [] = ⊥
 ArePlaced (it ∷ placed) (inst ∷ insts) = (it.statement ≡ statements.Inst inst) × ArePlaced placed insts
 
-record AreWritten (before : ℕ) (laid : Laid) (these : List (List ℕ)) (insts : List Inst) : Type 0 where
-  placed : List Placed
+record AreWritten (before : ℕ) (laid : LayoutSoFar) (these : List (List ℕ)) (insts : List Inst) : Type 0 where
+  placed : List PlacedStatement
   laid_are : lines_laid before laid these ≡ Ok (laid_of laid.names (laid.statements ++ placed) (laid.size + 4 * length insts))
   are : ArePlaced placed insts
 
-are_none : (before : ℕ) (laid : Laid) → AreWritten before laid [] []
+are_none : (before : ℕ) (laid : LayoutSoFar) → AreWritten before laid [] []
 unfolding lines_laid ArePlaced
 are_none before laid = record {
   placed = [];
-  laid_are = ap (λ (placed : List Placed). Ok (laid_of laid.names placed laid.size)) (sym (append-nil laid.statements)) ∙ ap (λ (n : ℕ). Ok (laid_of laid.names (laid.statements ++ []) n)) (omega arith);
+  laid_are = ap (λ (placed : List PlacedStatement). Ok (laid_of laid.names placed laid.size)) (sym (append-nil laid.statements)) ∙ ap (λ (n : ℕ). Ok (laid_of laid.names (laid.statements ++ []) n)) (omega arith);
   are = tt;
 }
 
-are_behind_empty : (before : ℕ) (laid : Laid) (line : List ℕ) (these : List (List ℕ)) (insts : List Inst) → IsEmptyLine line → AreWritten (before + 1) laid these insts → AreWritten before laid (line ∷ these) insts
+are_behind_empty : (before : ℕ) (laid : LayoutSoFar) (line : List ℕ) (these : List (List ℕ)) (insts : List Inst) → IsEmptyLine line → AreWritten (before + 1) laid these insts → AreWritten before laid (line ∷ these) insts
 unfolding lines_laid
 are_behind_empty before laid line these insts w rest = record {
   placed = rest.placed;
-  laid_are = ap (λ (r : Result Laid AsmKind). at_line (before + 1) r >>= λ one. lines_laid (before + 1) one these) (line_empty (before + 1) laid line w) ∙ rest.laid_are;
+  laid_are = ap (λ (r : Result LayoutSoFar AsmKind). at_line (before + 1) r >>= λ one. lines_laid (before + 1) one these) (line_empty (before + 1) laid line w) ∙ rest.laid_are;
   are = rest.are;
 }
 
-are_behind : (before : ℕ) (laid : Laid) (line : List ℕ) (these : List (List ℕ)) (inst : Inst) (insts : List Inst) → HasRoom laid (suc (length insts)) → IsWrittenAs inst line
+are_behind : (before : ℕ) (laid : LayoutSoFar) (line : List ℕ) (these : List (List ℕ)) (inst : Inst) (insts : List Inst) → HasRoom laid (suc (length insts)) → IsWrittenAs inst line
     → AreWritten (before + 1) (with_instruction (before + 1) laid inst) these insts → AreWritten before laid (line ∷ these) (inst ∷ insts)
 unfolding lines_laid with_instruction ArePlaced
 are_behind before laid line these inst insts room w rest =
-    let one : Placed = record { line = before + 1; statement = statements.Inst inst } in
+    let one : PlacedStatement = record { line = before + 1; statement = statements.Inst inst } in
     record {
       placed = one ∷ rest.placed;
       laid_are =
-          ap (λ (r : Result Laid AsmKind). at_line (before + 1) r >>= λ next. lines_laid (before + 1) next these) (line_written (before + 1) laid line inst (length insts) room w)
+          ap (λ (r : Result LayoutSoFar AsmKind). at_line (before + 1) r >>= λ next. lines_laid (before + 1) next these) (line_written (before + 1) laid line inst (length insts) room w)
           ∙ rest.laid_are
-          ∙ ap (λ (placed : List Placed). Ok (laid_of laid.names placed (laid.size + 4 + 4 * length insts))) (append_assoc laid.statements (one ∷ []) rest.placed)
+          ∙ ap (λ (placed : List PlacedStatement). Ok (laid_of laid.names placed (laid.size + 4 + 4 * length insts))) (append_assoc laid.statements (one ∷ []) rest.placed)
           ∙ ap (λ (n : ℕ). Ok (laid_of laid.names (laid.statements ++ one ∷ rest.placed) n)) (omega arith);
       are = (refl, rest.are);
     }
 
-room_behind : (number : ℕ) (laid : Laid) (inst : Inst) (count : ℕ) → HasRoom laid (suc count) → HasRoom (with_instruction number laid inst) count
+room_behind : (number : ℕ) (laid : LayoutSoFar) (inst : Inst) (count : ℕ) → HasRoom laid (suc count) → HasRoom (with_instruction number laid inst) count
 unfolding with_instruction
 room_behind number laid inst count room = record { aligned = omega (arith, room.aligned); fits = omega (arith, room.fits) }
 
-are_written : (before : ℕ) (laid : Laid) (these : List (List ℕ)) (insts : List Inst) → HasRoom laid (length insts) → IsListing these insts → AreWritten before laid these insts
+are_written : (before : ℕ) (laid : LayoutSoFar) (these : List (List ℕ)) (insts : List Inst) → HasRoom laid (length insts) → IsListing these insts → AreWritten before laid these insts
 are_written before laid [] [] room h = are_none before laid
 are_written before laid [] (inst ∷ insts) room h = absurd h
 are_written before laid (line ∷ these) [] room h = are_behind_empty before laid line these [] h.0 (are_written (before + 1) laid these [] room h.1)
@@ -372,7 +364,7 @@ are_written before laid (line ∷ these) (inst ∷ insts) room (inl h) =
 are_written before laid (line ∷ these) (inst ∷ insts) room (inr h) =
     are_behind_empty before laid line these (inst ∷ insts) h.0 (are_written (before + 1) laid these (inst ∷ insts) room h.1)
 
-parts_so : (names : Names) (address : ℕ) (placed : List Placed) (insts : List Inst) → ArePlaced placed insts → second_pass names address placed ≡ Ok (map Instruction insts)
+parts_so : (names : Names) (address : ℕ) (placed : List PlacedStatement) (insts : List Inst) → ArePlaced placed insts → second_pass names address placed ≡ Ok (map Instruction insts)
 unfolding second_pass ArePlaced parts_of
 parts_so names address [] [] h = refl
 parts_so names address [] (inst ∷ insts) h = absurd h
@@ -382,7 +374,7 @@ parts_so names address (it ∷ placed) (inst ∷ insts) h =
     ∙ rw (parts_so names (address + 4) placed insts h.1) refl
 
 pub listing_assembles : (text : List ℕ) (insts : List Inst) → IsListing (lines text) insts → 0 < length insts → 4 * length insts ≤ image_room
-    → assembled text ≡ Ok (record { entry = image_start; parts = map Instruction insts })
+    → assembly_of text ≡ Ok (record { entry = image_start; parts = map Instruction insts })
 unfolding first_pass
 listing_assembles text insts h some fits =
     let all = are_written 0 nothing_laid (lines text) insts (record { aligned = refl; fits = omega (arith, fits) }) h in

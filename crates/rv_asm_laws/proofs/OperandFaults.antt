@@ -14,15 +14,15 @@ use Rattle.rv_asm.specs.declared.symbols.Symbol.TheVariants.{Label, Number}
 use Rattle.rv_asm.specs.declared.mnemonic.Mnemonic.{Mnemonic}
 use Rattle.rv_asm.specs.declared.mnemonic.Mnemonic.TheVariants as words
 use Rattle.rv_asm.specs.declared.statement.Statement.{Statement}
-use Rattle.ce_text.specs.Line.{cut, without_front_blanks, without_end_blanks, trimmed}
+use Rattle.ce_text.specs.Line.{cut, without_front_blanks, without_end_blanks, without_outer_blanks}
 use Rattle.rv_asm.specs.Line.{pieces, is_comma, is_token, is_opening, is_closing}
 use Rattle.ce_text.specs.Name as text
 use Rattle.rv_asm.specs.Name.{is_name}
 use Rattle.rv_asm.specs.Register.{register_of}
 use Rattle.rv_asm.specs.Literal.{literal_of}
 use Rattle.rv_asm.specs.Names.{Names}
-use Rattle.rv_asm.specs.Faults.{◌>>=◌, refuse, or_fault, both, gathered, all_of}
-use Rattle.rv_asm.specs.Operand.{one_of, two_of, three_of, one_piece, two_pieces, three_pieces, no_piece, register, number, number_named, ranged, name_piece, twelve_bits, closed, in_brackets, memory, least_immediate, greatest_immediate}
+use Rattle.rv_asm.specs.Faults.{◌>>=◌, refuse, or_fault, both, with_judged, all_of}
+use Rattle.rv_asm.specs.Operand.{one_of, two_of, three_of, one_piece, two_pieces, three_pieces, no_piece, register, number, number_named, number_in_range, name_piece, twelve_bits, is_closed, in_brackets, memory, least_immediate, greatest_immediate}
 use Rattle.rv_asm.specs.Statements.{register_upper, register_memory, immediate, registers_immediate, three_registers, two_registers, register_word, register_label, registers_label, one_label, value_named, word_value, byte_value, zero_count, statements_of}
 use Rattle.rv_asm_laws.specs.Forms.{Form, a_register, any_number, a_number, a_memory, a_name, a_value, number_meant, number_given, is_no_number, is_unknown, is_outside, is_bracketed, base_behind, is_malformed, lacks_register, lacks_number, lacks_name, first_kind, any_operand, operands_fault, operand_texts, statement_fault}
 use Rattle.rv_asm_laws.proofs.FirstKinds.{earliest, first_kind-joined, or_assoc, or_false}
@@ -71,12 +71,12 @@ ranged_by least greatest true false meant None = refl
 ranged_by least greatest true false meant (Some n) = inside_by (int_le least n && int_le n greatest) n
 
 -- a number in a range
-in_range : (names : Names) (least greatest : ℤ) (text : List ℕ) → result_err (ranged least greatest (number names text))
+in_range : (names : Names) (least greatest : ℤ) (text : List ℕ) → result_err (number_in_range least greatest (number names text))
     ≡ first_kind (not (is_token text)) false (is_no_number text || is_outside least greatest (number_given names text)) (is_unknown names text)
-unfolding ranged number
+unfolding number_in_range number
 in_range names least greatest text = ranged_by least greatest (is_token text) (is_name text) (names text) (literal_of text)
 
-ranged_fault : (names : Names) (least greatest : ℤ) (text : List ℕ) → result_err (ranged least greatest (number names text)) ≡ operand_fault names (a_number least greatest) text
+ranged_fault : (names : Names) (least greatest : ℤ) (text : List ℕ) → result_err (number_in_range least greatest (number names text)) ≡ operand_fault names (a_number least greatest) text
 unfolding operand_fault is_malformed lacks_register lacks_number lacks_name
 ranged_fault names least greatest text = in_range names least greatest text
 
@@ -116,7 +116,7 @@ err_both (Err first) (Err second) = refl
 
 byte_fault : (names : Names) (text : List ℕ) → result_err (byte_value names text) ≡ operand_fault names (a_number (negsuc 127) (pos 255)) text
 unfolding byte_value
-byte_fault names text = err_ok (ranged (negsuc 127) (pos 255) (number names text)) _ ∙ ranged_fault names (negsuc 127) (pos 255) text
+byte_fault names text = err_ok (number_in_range (negsuc 127) (pos 255) (number names text)) _ ∙ ranged_fault names (negsuc 127) (pos 255) text
 
 -- ---- `n(rs1)`
 
@@ -135,15 +135,15 @@ brackets_by : (closes : Bool) (names : Names) (offset base : List ℕ)
 unfolding twelve_bits register
 brackets_by false names offset base = refl
 brackets_by true names offset base =
-    err_both (ranged (negsuc 2047) (pos 2047) (number names offset)) (refuse (not (is_token base)) Operands >>= λ it. or_fault (register_of base) BadRegister)
+    err_both (number_in_range (negsuc 2047) (pos 2047) (number names offset)) (refuse (not (is_token base)) Operands >>= λ it. or_fault (register_of base) BadRegister)
     ∙ rw (in_range names (negsuc 2047) (pos 2047) offset, register_by (is_token base) (register_of base))
     (bools (is_token offset) (is_token base) (is_none (register_of base)) (is_no_number offset || is_outside (negsuc 2047) (pos 2047) (number_given names offset)) (is_unknown names offset))
 
 memory_by : (names : Names) (front : List ℕ) (rest : Option (List ℕ)) → result_err (in_brackets names front rest)
-    ≡ first_kind (not (is_bracketed rest && is_token (trimmed front) && is_token (base_behind rest))) (is_none (register_of (base_behind rest)))
-    (is_no_number (trimmed front) || is_outside (negsuc 2047) (pos 2047) (number_given names (trimmed front))) (is_unknown names (trimmed front))
+    ≡ first_kind (not (is_bracketed rest && is_token (without_outer_blanks front) && is_token (base_behind rest))) (is_none (register_of (base_behind rest)))
+    (is_no_number (without_outer_blanks front) || is_outside (negsuc 2047) (pos 2047) (number_given names (without_outer_blanks front))) (is_unknown names (without_outer_blanks front))
 memory_by names front None = refl
-memory_by names front (Some behind) = brackets_by (closed (cut is_closing behind).1) names (trimmed front) (trimmed (cut is_closing behind).0)
+memory_by names front (Some behind) = brackets_by (is_closed (cut is_closing behind).1) names (without_outer_blanks front) (without_outer_blanks (cut is_closing behind).0)
 
 memory_fault : (names : Names) (text : List ℕ) → result_err (memory names text) ≡ operand_fault names a_memory text
 unfolding memory operand_fault is_malformed lacks_register lacks_number lacks_name
@@ -220,13 +220,13 @@ module _ (names : Names) where
   -- any number of operands
   all_faults : {A : Type 0} (f : Form) (judge : List ℕ → Result A AsmKind) → ((t : List ℕ) → result_err (judge t) ≡ operand_fault names f t) → (texts : List (List ℕ)) (so_far : Result (List A) AsmKind) (a b c d : Bool)
       → result_err so_far ≡ first_kind a b c d
-      → result_err (fold gathered so_far (map judge texts))
+      → result_err (fold with_judged so_far (map judge texts))
       ≡ first_kind (a || any_operand is_malformed (replicate (length texts) f) texts) (b || any_operand lacks_register (replicate (length texts) f) texts) (c || any_operand (lacks_number names) (replicate (length texts) f) texts) (d || any_operand (lacks_name names) (replicate (length texts) f) texts)
-  unfolding gathered operand_fault
+  unfolding with_judged operand_fault
   all_faults f judge h [] so_far a b c d e = e ∙ sym (rw (or_false a, or_false b, or_false c, or_false d) refl)
   all_faults f judge h (t ∷ texts) so_far a b c d e =
       let here = err_ok (both so_far (judge t)) _ ∙ err_both so_far (judge t) ∙ rw (e, h t) (first_kind-joined a b c d (is_malformed f t) (lacks_register f t) (lacks_number names f t) (lacks_name names f t)) in
-      all_faults f judge h texts (gathered so_far (judge t)) (a || is_malformed f t) (b || lacks_register f t) (c || lacks_number names f t) (d || lacks_name names f t) here
+      all_faults f judge h texts (with_judged so_far (judge t)) (a || is_malformed f t) (b || lacks_register f t) (c || lacks_number names f t) (d || lacks_name names f t) here
       ∙ rw (
         or_assoc a (is_malformed f t) (any_operand is_malformed (replicate (length texts) f) texts),
         or_assoc b (lacks_register f t) (any_operand lacks_register (replicate (length texts) f) texts),
@@ -237,7 +237,7 @@ module _ (names : Names) where
 -- ---- what is written, as operands
 
 pieces_nil : pieces [] ≡ [] ∷ []
-unfolding pieces trimmed without_front_blanks without_end_blanks
+unfolding pieces without_outer_blanks without_front_blanks without_end_blanks
 pieces_nil = refl
 
 -- where nothing is written there is one empty piece and no operand: a statement that takes operands refuses both
@@ -271,7 +271,7 @@ written_one names f operands e = written names (f ∷ []) operands (blank_one na
 
 pub some_pieces : (operands : List ℕ) → 0 < length (pieces operands)
 unfolding pieces
-some_pieces operands = omega (arith, length-map (slice_split is_comma operands) trimmed, length-slice_split is_comma operands)
+some_pieces operands = omega (arith, length-map (slice_split is_comma operands) without_outer_blanks, length-slice_split is_comma operands)
 
 listed_by : (names : Names) (f : Form) (texts : List (List ℕ)) → 0 < length texts
     → first_kind (false || any_operand is_malformed (replicate (length texts) f) texts) (false || any_operand lacks_register (replicate (length texts) f) texts) (false || any_operand (lacks_number names) (replicate (length texts) f) texts) (false || any_operand (lacks_name names) (replicate (length texts) f) texts)
@@ -322,7 +322,7 @@ none_taken names (byte ∷ bytes) make = wrong names [] (pieces (byte ∷ bytes)
 module _ (names : Names) (operands : List ℕ) where
   upper_fault : result_err (register_upper names operands) ≡ operands_fault names (a_register ∷ a_number (pos 0) (pos 1048575) ∷ []) (operand_texts operands)
   unfolding register_upper two_pieces
-  upper_fault = two_fault names a_register (a_number (pos 0) (pos 1048575)) register (λ t. ranged (pos 0) (pos 1048575) (number names t)) _ (register_fault names) (ranged_fault names (pos 0) (pos 1048575)) (pieces operands) ∙ written_two names _ _ operands
+  upper_fault = two_fault names a_register (a_number (pos 0) (pos 1048575)) register (λ t. number_in_range (pos 0) (pos 1048575) (number names t)) _ (register_fault names) (ranged_fault names (pos 0) (pos 1048575)) (pieces operands) ∙ written_two names _ _ operands
 
   place_fault : result_err (register_memory names operands) ≡ operands_fault names (a_register ∷ a_memory ∷ []) (operand_texts operands)
   unfolding register_memory two_pieces
@@ -330,7 +330,7 @@ module _ (names : Names) (operands : List ℕ) where
 
   immediate_fault : (op : ImmOp) → result_err (registers_immediate names op operands) ≡ operands_fault names (a_register ∷ a_register ∷ a_number (least_immediate op) (greatest_immediate op) ∷ []) (operand_texts operands)
   unfolding registers_immediate three_pieces immediate
-  immediate_fault op = three_fault names a_register a_register (a_number (least_immediate op) (greatest_immediate op)) register register (λ t. ranged (least_immediate op) (greatest_immediate op) (number names t)) _ (register_fault names) (register_fault names) (ranged_fault names (least_immediate op) (greatest_immediate op)) (pieces operands) ∙ written_three names _ _ _ operands
+  immediate_fault op = three_fault names a_register a_register (a_number (least_immediate op) (greatest_immediate op)) register register (λ t. number_in_range (least_immediate op) (greatest_immediate op) (number names t)) _ (register_fault names) (register_fault names) (ranged_fault names (least_immediate op) (greatest_immediate op)) (pieces operands) ∙ written_three names _ _ _ operands
 
   registers_fault : result_err (three_registers operands) ≡ operands_fault names (a_register ∷ a_register ∷ a_register ∷ []) (operand_texts operands)
   unfolding three_registers three_pieces
@@ -358,7 +358,7 @@ module _ (names : Names) (operands : List ℕ) where
 
   zeros_fault : result_err (zero_count names operands) ≡ operands_fault names (a_number (pos 0) (pos 122880) ∷ []) (operand_texts operands)
   unfolding zero_count one_piece
-  zeros_fault = one_fault names (a_number (pos 0) (pos 122880)) (λ t. ranged (pos 0) (pos 122880) (number names t)) _ (ranged_fault names (pos 0) (pos 122880)) (pieces operands) ∙ written_one names _ operands (malformed_number (pos 0) (pos 122880))
+  zeros_fault = one_fault names (a_number (pos 0) (pos 122880)) (λ t. number_in_range (pos 0) (pos 122880) (number names t)) _ (ranged_fault names (pos 0) (pos 122880)) (pieces operands) ∙ written_one names _ operands (malformed_number (pos 0) (pos 122880))
 
 pub operands_judged : (mnemonic : Mnemonic) (names : Names) (operands : List ℕ) → result_err (statements_of mnemonic names operands) ≡ statement_fault names mnemonic operands
 unfolding statements_of

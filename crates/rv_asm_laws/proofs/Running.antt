@@ -11,7 +11,7 @@ use Rattle.rv_model.specs.declared.inst.ImmOp.TheVariants.{Addi}
 use Rattle.rv_model.specs.declared.inst.BranchOp.{BranchOp}
 use Rattle.rv_model.specs.Word.{wrapping_sum}
 use Rattle.rv_model.specs.Words.{dec}
-use Rattle.rv_model.specs.Exec.{Access, Outcome, went, exec, performed, reg, with_reg, next_pc, offset_by, jumped, is_taken}
+use Rattle.rv_model.specs.Exec.{Access, Outcome, went, exec, effect_of, reg, with_reg, next_pc, offset_by, jump_outcome, is_taken}
 use Rattle.rv_inst.specs.Valid.{IsRegister}
 use Rattle.rv_asm.specs.declared.fault.AsmKind.{AsmKind}
 use Rattle.rv_asm.specs.declared.symbols.Symbol.TheVariants.{Label}
@@ -72,7 +72,7 @@ short_sum word false e short fits =
 
 -- ---- one step
 
-step_is : (A : Access (List ℕ)) (x m : List ℕ) (pc word : ℕ) (inst : Inst) → A.fetched m pc ≡ Ok word → dec word ≡ Some inst → exec A x pc m ≡ performed A inst x pc m
+step_is : (A : Access (List ℕ)) (x m : List ℕ) (pc word : ℕ) (inst : Inst) → A.fetched m pc ≡ Ok word → dec word ≡ Some inst → exec A x pc m ≡ effect_of A inst x pc m
 unfolding exec
 step_is A x m pc word inst f d = rw (f, d) refl
 
@@ -87,7 +87,7 @@ written_by x rd first second word false e lt sum =
 
 two_load : (A : Access (List ℕ)) (x m : List ℕ) (pc rd word : ℕ) → length x ≡ 32 → IsRegister rd → word < 2 ^ 32 → HasInstructions A m pc (two_instructions rd word)
     → steps 2 A x pc m ≡ went (with_reg x rd word) (pc_behind 2 pc) m
-unfolding performed
+unfolding effect_of
 two_load A x m pc rd word len register fits h =
     let x1 = with_reg x rd (high_part word) in
     ap (then_steps (steps 1 A)) (step_is A x m pc h.0 _ h.1 h.2)
@@ -96,7 +96,7 @@ two_load A x m pc rd word len register fits h =
 
 one_load : (A : Access (List ℕ)) (x m : List ℕ) (pc rd word : ℕ) → is_short word ≡ true → word < 2 ^ 32 → HasInstructions A m pc (OpImm Addi rd 0 (low_part word) ∷ [])
     → steps 1 A x pc m ≡ went (with_reg x rd word) (pc_behind 1 pc) m
-unfolding performed
+unfolding effect_of
 one_load A x m pc rd word short fits h =
     ap (then_steps (steps 0 A)) (step_is A x m pc h.0 _ h.1 h.2)
     ∙ ap (λ (n : ℕ). went (with_reg x rd n) (pc_behind 1 pc) m) (short_sum word (nat_lt word 2048) refl short fits)
@@ -146,12 +146,12 @@ reaches reach names label pc address make parts known e =
 pub jal_jumps : (A : Access (List ℕ)) (names : Names) (x m label : List ℕ) (pc rd address : ℕ) (parts : List Part)
     → pc < 2 ^ 32 → address < 2 ^ 32 → names label ≡ Some (Label address)
     → parts_of names pc (statements.Jal rd label) ≡ Ok parts → HasParts A m pc parts
-    → exec A x pc m ≡ jumped pc address (with_reg x rd (next_pc pc)) m
-unfolding parts_of performed
+    → exec A x pc m ≡ jump_outcome pc address (with_reg x rd (next_pc pc)) m
+unfolding parts_of effect_of
 jal_jumps A names x m label pc rd address parts low fits known e h =
     let these = reaches jump_reach names label pc address (λ it. Jal rd it) parts known e in
     let has = subst (HasParts A m pc) (sym these) h in
-    step_is A x m pc has.0 _ has.1 has.2 ∙ ap (λ (n : ℕ). jumped pc n (with_reg x rd (next_pc pc)) m) (lands pc address low fits)
+    step_is A x m pc has.0 _ has.1 has.2 ∙ ap (λ (n : ℕ). jump_outcome pc n (with_reg x rd (next_pc pc)) m) (lands pc address low fits)
 
 taken_by : {M : Type 0} (taken : Bool) (then_out else_out : Outcome M) → IsTrue taken → cond taken then_out else_out ≡ then_out
 taken_by true then_out else_out h = refl
@@ -160,11 +160,11 @@ taken_by false then_out else_out h = absurd cc
 pub branch_jumps : (A : Access (List ℕ)) (names : Names) (x m label : List ℕ) (pc rs1 rs2 address : ℕ) (op : BranchOp) (parts : List Part)
     → pc < 2 ^ 32 → address < 2 ^ 32 → names label ≡ Some (Label address)
     → parts_of names pc (statements.Branch op rs1 rs2 label) ≡ Ok parts → HasParts A m pc parts
-    → IsTrue (is_taken op (reg x rs1) (reg x rs2)) → exec A x pc m ≡ jumped pc address x m
-unfolding parts_of performed
+    → IsTrue (is_taken op (reg x rs1) (reg x rs2)) → exec A x pc m ≡ jump_outcome pc address x m
+unfolding parts_of effect_of
 branch_jumps A names x m label pc rs1 rs2 address op parts low fits known e h taken =
     let these = reaches branch_reach names label pc address (λ it. Branch op rs1 rs2 it) parts known e in
     let has = subst (HasParts A m pc) (sym these) h in
     step_is A x m pc has.0 _ has.1 has.2
     ∙ taken_by (is_taken op (reg x rs1) (reg x rs2)) _ _ taken
-    ∙ ap (λ (n : ℕ). jumped pc n x m) (lands pc address low fits)
+    ∙ ap (λ (n : ℕ). jump_outcome pc n x m) (lands pc address low fits)

@@ -3,29 +3,29 @@ use Rattle.std.specs.Prelude.{◌≡◌, ℕ, ◌+◌, ◌<◌, List, [], ◌∷
 use Rattle.rv_model.specs.Image.{image_start}
 use Rattle.rv_asm.specs.declared.fault.AsmKind.{AsmKind}
 use Rattle.rv_asm.specs.declared.fault.AsmFault.{AsmFault}
-use Rattle.ce_text.specs.Line.{cut, before_comment, trimmed}
+use Rattle.ce_text.specs.Line.{cut, before_comment, without_outer_blanks}
 use Rattle.rv_asm.specs.Line.{is_colon}
-use Rattle.rv_asm.specs.FirstPass.{Laid, nothing_laid, line_laid}
+use Rattle.rv_asm.specs.FirstPass.{LayoutSoFar, nothing_laid, line_laid}
 
 abbrev pub label_before : List ℕ × Option (List ℕ) → Option (List ℕ)
 label_before (front, None) = None
-label_before (front, Some rest) = Some (trimmed front)
+label_before (front, Some rest) = Some (without_outer_blanks front)
 
 -- the label of a line: what stands before its first colon
 unfoldable pub label_of : List ℕ → Option (List ℕ)
 label_of line = label_before (cut is_colon (before_comment line))
 
-abbrev pub laid_or : Laid → Result Laid AsmKind → Laid
+abbrev pub laid_or : LayoutSoFar → Result LayoutSoFar AsmKind → LayoutSoFar
 laid_or laid (Ok next) = next
 laid_or laid (Err kind) = laid
 
 -- what is laid once lines are done, of which the first has the number behind this one: a line with a fault lays nothing
-unfoldable pub laid_by : ℕ → Laid → List (List ℕ) → Laid
+unfoldable pub laid_by : ℕ → LayoutSoFar → List (List ℕ) → LayoutSoFar
 laid_by before laid [] = laid
 laid_by before laid (line ∷ lines) = laid_by (before + 1) (laid_or laid (line_laid (before + 1) laid line)) lines
 
 -- what stands before a line of a text, which is counted from 0
-abbrev pub laid_before : List (List ℕ) → ℕ → Laid
+abbrev pub laid_before : List (List ℕ) → ℕ → LayoutSoFar
 laid_before lines i = laid_by 0 nothing_laid (take i lines)
 
 -- a line of a text, counted from 0
@@ -33,7 +33,7 @@ abbrev pub line_at : List (List ℕ) → ℕ → List ℕ
 line_at lines i = slice_index_or lines i []
 
 -- the judgment of a line, after those before it: what is laid then, or the fault of the line
-abbrev pub judged_line : List (List ℕ) → ℕ → Result Laid AsmKind
+abbrev pub judged_line : List (List ℕ) → ℕ → Result LayoutSoFar AsmKind
 judged_line lines i = line_laid (i + 1) (laid_before lines i) (line_at lines i)
 
 -- the line of a fault is the first that has one, and the kind is that line's
@@ -45,7 +45,7 @@ pub record IsFirstFault (lines : List (List ℕ)) (fault : AsmFault) : Type 0 wh
   pub before : (i : ℕ) → i < place → IsOk (judged_line lines i)
 
 -- no line has a fault, and this is what they lay
-pub record AreLaid (lines : List (List ℕ)) (laid : Laid) : Type 0 where
+pub record AreLaid (lines : List (List ℕ)) (laid : LayoutSoFar) : Type 0 where
   pub each : (i : ℕ) → i < length lines → IsOk (judged_line lines i)
   pub all : laid_before lines (length lines) ≡ laid
 

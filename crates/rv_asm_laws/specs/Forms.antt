@@ -7,13 +7,13 @@ use Rattle.rv_asm.specs.declared.symbols.Symbol.{Symbol}
 use Rattle.rv_asm.specs.declared.symbols.Symbol.TheVariants.{Label, Number}
 use Rattle.rv_asm.specs.declared.mnemonic.Mnemonic.{Mnemonic}
 use Rattle.rv_asm.specs.declared.mnemonic.Mnemonic.TheVariants as words
-use Rattle.ce_text.specs.Line.{cut, trimmed}
+use Rattle.ce_text.specs.Line.{cut, without_outer_blanks}
 use Rattle.rv_asm.specs.Line.{pieces, is_token, is_opening, is_closing}
 use Rattle.rv_asm.specs.Name.{is_name}
 use Rattle.rv_asm.specs.Register.{register_of}
 use Rattle.rv_asm.specs.Literal.{literal_of}
 use Rattle.rv_asm.specs.Names.{Names}
-use Rattle.rv_asm.specs.Operand.{closed, least_immediate, greatest_immediate}
+use Rattle.rv_asm.specs.Operand.{is_closed, least_immediate, greatest_immediate}
 
 -- what belongs in the place of an operand
 pub data Form : Type 0 where
@@ -55,15 +55,15 @@ is_outside least greatest (Some n) = not (int_le least n && int_le n greatest)
 
 abbrev pub is_bracketed : Option (List ℕ) → Bool
 is_bracketed None = false
-is_bracketed (Some behind) = closed (cut is_closing behind).1
+is_bracketed (Some behind) = is_closed (cut is_closing behind).1
 
 -- what stands before the opening bracket
 abbrev pub offset_text : List ℕ → List ℕ
-offset_text text = trimmed (cut is_opening text).0
+offset_text text = without_outer_blanks (cut is_opening text).0
 
 abbrev pub base_behind : Option (List ℕ) → List ℕ
 base_behind None = []
-base_behind (Some behind) = trimmed (cut is_closing behind).0
+base_behind (Some behind) = without_outer_blanks (cut is_closing behind).0
 
 -- what stands between the brackets
 abbrev pub base_text : List ℕ → List ℕ

@@ -7,7 +7,7 @@ use Rattle.rv_asm.specs.declared.symbols.Symbol.{Symbol}
 use Rattle.rv_asm.specs.declared.symbols.Symbol.TheVariants.{Label, Number}
 use Rattle.rv_asm.specs.declared.statement.Statement.{Statement}
 use Rattle.rv_asm.specs.declared.statement.Statement.TheVariants as statements
-use Rattle.rv_asm.specs.declared.statement.Placed.{Placed}
+use Rattle.rv_asm.specs.declared.statement.PlacedStatement.{PlacedStatement}
 use Rattle.rv_asm.specs.Names.{Names}
 use Rattle.rv_asm.specs.Sizes.{size_of}
 use Rattle.rv_asm.specs.SecondPass.{is_reached, jump_reach, branch_reach}
@@ -44,23 +44,23 @@ label_fault names address statement =
     if lacks_label names statement then Some UnknownName else (if goes_too_far names address statement then Some TooFar else None)
 
 -- the address of a statement among those that are laid from an address on
-abbrev pub statement_address : ℕ → List Placed → ℕ → ℕ
+abbrev pub statement_address : ℕ → List PlacedStatement → ℕ → ℕ
 statement_address address placed i = address + sum_by (λ it. size_of it.statement) (take i placed)
 
 -- the fault of a statement among those, counted from 0
-abbrev pub label_fault_at : Names → ℕ → List Placed → ℕ → Placed → Option AsmKind
+abbrev pub label_fault_at : Names → ℕ → List PlacedStatement → ℕ → PlacedStatement → Option AsmKind
 label_fault_at names address placed i it = label_fault names (statement_address address placed i) it.statement
 
 -- The line and kind of a fault are those of the first statement whose label has one.
-pub record IsFirstLabelFault (names : Names) (address : ℕ) (placed : List Placed) (fault : AsmFault) : Type 0 where
+pub record IsFirstLabelFault (names : Names) (address : ℕ) (placed : List PlacedStatement) (fault : AsmFault) : Type 0 where
   pub place : ℕ
-  pub it : Placed
+  pub it : PlacedStatement
   pub here : slice_get placed place ≡ Some it
   pub line : fault.line ≡ it.line
   pub kind : label_fault_at names address placed place it ≡ Some fault.kind
-  pub before : (i : ℕ) (other : Placed) → i < place → slice_get placed i ≡ Some other → label_fault_at names address placed i other ≡ None
+  pub before : (i : ℕ) (other : PlacedStatement) → i < place → slice_get placed i ≡ Some other → label_fault_at names address placed i other ≡ None
 
 -- no statement's label has a fault
-abbrev pub HasLabels : Names → ℕ → List Placed → Type 0
+abbrev pub HasLabels : Names → ℕ → List PlacedStatement → Type 0
 HasLabels names address placed =
-    (i : ℕ) (it : Placed) → slice_get placed i ≡ Some it → label_fault_at names address placed i it ≡ None
+    (i : ℕ) (it : PlacedStatement) → slice_get placed i ≡ Some it → label_fault_at names address placed i it ≡ None

@@ -1,16 +1,16 @@
 -- What holds of the assembler, a law at a time.
 use Rattle.std.specs.Prelude.{◌≡◌, ◌<◌, ◌≤◌, ◌+◌, ◌*◌, ◌^◌, map, ℕ, List, length, Some, Ok, IsTrue, Err, ◌≢◌, codes, ◌++◌, ◌∷◌, [], true, false}
-use Rattle.rv_model.specs.Exec.{Access, went, with_reg, reg, exec, jumped, is_taken, next_pc}
+use Rattle.rv_model.specs.Exec.{Access, went, with_reg, reg, exec, jump_outcome, is_taken, next_pc}
 use Rattle.rv_model.specs.declared.inst.BranchOp.{BranchOp}
 use Rattle.rv_inst.specs.Valid.{IsRegister}
 use Rattle.rv_asm_laws.specs.Effects.{HasInstructions, HasParts, steps, pc_behind}
 use Rattle.rv_model.specs.Image.{image_start, image_room}
-use Rattle.rv_asm.specs.Assembly.{assembled, entry_of}
+use Rattle.rv_asm.specs.Assembly.{assembly_of, entry_of}
 use Rattle.rv_asm_laws.specs.Listing.{IsListing}
 use Rattle.rv_asm.specs.Sizes.{statements_size}
 use Rattle.rv_model.specs.declared.inst.Inst.{Inst}
 use Rattle.ce_text.specs.Line.{lines}
-use Rattle.rv_asm.specs.FirstPass.{Laid, statement, line_laid, first_pass}
+use Rattle.rv_asm.specs.FirstPass.{LayoutSoFar, statement, line_laid, first_pass}
 use Rattle.rv_asm_laws.specs.Before.{label_of, line_at, address_at, laid_before, IsFirstFault, AreLaid}
 use Rattle.rv_asm.specs.Line.{is_colon, is_opening, is_closing}
 use Rattle.rv_asm.specs.Operand.{memory}
@@ -22,7 +22,7 @@ use Rattle.rv_asm_laws.specs.LabelFaults.{label_fault, IsFirstLabelFault, HasLab
 use Rattle.ce_text.specs.Bytes.{is_hash, is_blank}
 use Rattle.std.specs.List.{list_all, list_any}
 use Rattle.rv_asm.specs.declared.statement.Statement.{Statement}
-use Rattle.rv_asm.specs.declared.statement.Placed.{Placed}
+use Rattle.rv_asm.specs.declared.statement.PlacedStatement.{PlacedStatement}
 use Rattle.rv_asm.specs.Statements.{load_word, statements_of}
 use Rattle.std.specs.Result.{result_err}
 use Rattle.rv_asm.specs.SecondPass.{Part, Instruction, parts_of, second_pass}
@@ -51,7 +51,7 @@ JumpsReach = (A : Access (List ℕ)) (names : Names) (x m label : List ℕ)
     (pc rd address : ℕ) (parts : List Part)
     → pc < 2 ^ 32 → address < 2 ^ 32 → names label ≡ Some (Label address)
     → parts_of names pc (statements.Jal rd label) ≡ Ok parts → HasParts A m pc parts
-    → exec A x pc m ≡ jumped pc address (with_reg x rd (next_pc pc)) m
+    → exec A x pc m ≡ jump_outcome pc address (with_reg x rd (next_pc pc)) m
 
 -- so does a branch that is taken
 abbrev pub BranchesReach : Type 0
@@ -59,7 +59,7 @@ BranchesReach = (A : Access (List ℕ)) (names : Names) (x m label : List ℕ)
     (pc rs1 rs2 address : ℕ) (op : BranchOp) (parts : List Part)
     → pc < 2 ^ 32 → address < 2 ^ 32 → names label ≡ Some (Label address)
     → parts_of names pc (statements.Branch op rs1 rs2 label) ≡ Ok parts → HasParts A m pc parts
-    → IsTrue (is_taken op (reg x rs1) (reg x rs2)) → exec A x pc m ≡ jumped pc address x m
+    → IsTrue (is_taken op (reg x rs1) (reg x rs2)) → exec A x pc m ≡ jump_outcome pc address x m
 
 -- the address of a line is the start of the image and the sizes of all that is laid before it
 abbrev pub AddressesAreSizes : Type 0
@@ -68,19 +68,19 @@ AddressesAreSizes = (text : List (List ℕ)) (i : ℕ)
 
 -- a label's address is that of its line
 abbrev pub LabelsHaveAddresses : Type 0
-LabelsHaveAddresses = (text name : List ℕ) (laid : Laid) (i : ℕ) → first_pass text ≡ Ok laid
+LabelsHaveAddresses = (text name : List ℕ) (laid : LayoutSoFar) (i : ℕ) → first_pass text ≡ Ok laid
     → i < length (lines text) → label_of (line_at (lines text) i) ≡ Some name
     → laid.names name ≡ Some (Label (address_at (lines text) i))
 
 -- the entry is the address of the line with the label `start`
 abbrev pub EntriesAreLabelled : Type 0
-EntriesAreLabelled = (text : List ℕ) (laid : Laid) (i : ℕ) → first_pass text ≡ Ok laid
+EntriesAreLabelled = (text : List ℕ) (laid : LayoutSoFar) (i : ℕ) → first_pass text ≡ Ok laid
     → i < length (lines text) → label_of (line_at (lines text) i) ≡ Some (codes "start")
     → entry_of laid.names ≡ address_at (lines text) i
 
 -- the entry is the start of the image where no line has this label
 abbrev pub EntriesWithoutLabel : Type 0
-EntriesWithoutLabel = (text : List ℕ) (laid : Laid) → first_pass text ≡ Ok laid
+EntriesWithoutLabel = (text : List ℕ) (laid : LayoutSoFar) → first_pass text ≡ Ok laid
     → ((i : ℕ) → i < length (lines text)
     → label_of (line_at (lines text) i) ≢ Some (codes "start"))
     → entry_of laid.names ≡ image_start
@@ -92,7 +92,7 @@ FirstFaultsAreAnswered = (text : List ℕ) (fault : AsmFault) → first_pass tex
 
 -- and what the lines lay, where none has one
 abbrev pub AllLinesAreLaid : Type 0
-AllLinesAreLaid = (text : List ℕ) (laid : Laid) → first_pass text ≡ Ok laid
+AllLinesAreLaid = (text : List ℕ) (laid : LayoutSoFar) → first_pass text ≡ Ok laid
     → AreLaid (lines text) laid
 
 -- the fault of operands is the first kind that some operand has
@@ -103,7 +103,7 @@ OperandFaultsAreInOrder = (mnemonic : Mnemonic) (names : Names) (operands : List
 
 -- the fault of a line is the first kind that it has
 abbrev pub LineFaultsAreInOrder : Type 0
-LineFaultsAreInOrder = (number : ℕ) (laid : Laid) (line : List ℕ)
+LineFaultsAreInOrder = (number : ℕ) (laid : LayoutSoFar) (line : List ℕ)
     → result_err (line_laid number laid line) ≡ line_fault laid line
 
 -- the fault of a statement's label is the first kind that it has
@@ -113,32 +113,32 @@ LabelFaultsAreInOrder = (names : Names) (address : ℕ) (statement : Statement)
 
 -- the second pass answers the first statement whose label has a fault
 abbrev pub FirstLabelFaultsAreAnswered : Type 0
-FirstLabelFaultsAreAnswered = (names : Names) (address : ℕ) (placed : List Placed) (fault : AsmFault)
+FirstLabelFaultsAreAnswered = (names : Names) (address : ℕ) (placed : List PlacedStatement) (fault : AsmFault)
     → second_pass names address placed ≡ Err fault
     → IsFirstLabelFault names address placed fault
 
 -- where it answers parts, none has one
 abbrev pub AllLabelsAreThere : Type 0
-AllLabelsAreThere = (names : Names) (address : ℕ) (placed : List Placed) (parts : List Part)
+AllLabelsAreThere = (names : Names) (address : ℕ) (placed : List PlacedStatement) (parts : List Part)
     → second_pass names address placed ≡ Ok parts → HasLabels names address placed
 
 -- a listing assembles to its instructions, and is entered at the first
 abbrev pub ListingsAreAssembled : Type 0
 ListingsAreAssembled = (text : List ℕ) (insts : List Inst) → IsListing (lines text) insts
     → 0 < length insts → 4 * length insts ≤ image_room
-    → assembled text ≡ Ok (record { entry = image_start; parts = map Instruction insts })
+    → assembly_of text ≡ Ok (record { entry = image_start; parts = map Instruction insts })
 
 -- ---- blanks change nothing
 
 -- at the ends of a line
 abbrev pub EndBlanksGo : Type 0
-EndBlanksGo = (number : ℕ) (laid : Laid) (before line after : List ℕ)
+EndBlanksGo = (number : ℕ) (laid : LayoutSoFar) (before line after : List ℕ)
     → list_all is_blank before ≡ true → list_all is_blank after ≡ true
     → line_laid number laid (before ++ line ++ after) ≡ line_laid number laid line
 
 -- round a colon
 abbrev pub ColonBlanksGo : Type 0
-ColonBlanksGo = (number : ℕ) (laid : Laid) (label before after rest : List ℕ)
+ColonBlanksGo = (number : ℕ) (laid : LayoutSoFar) (label before after rest : List ℕ)
     → list_any is_hash label ≡ false → list_any is_colon label ≡ false
     → list_all is_blank before ≡ true → list_all is_blank after ≡ true
     → line_laid number laid (label ++ before ++ 58 ∷ (after ++ rest))
@@ -146,7 +146,7 @@ ColonBlanksGo = (number : ℕ) (laid : Laid) (label before after rest : List ℕ
 
 -- behind a mnemonic
 abbrev pub WordBlanksGo : Type 0
-WordBlanksGo = (number : ℕ) (laid : Laid) (word : List ℕ) (blank : ℕ) (blanks operands : List ℕ)
+WordBlanksGo = (number : ℕ) (laid : LayoutSoFar) (word : List ℕ) (blank : ℕ) (blanks operands : List ℕ)
     → list_any is_blank word ≡ false → is_blank blank ≡ true → list_all is_blank blanks ≡ true
     → statement number laid (word ++ blank ∷ (blanks ++ operands))
     ≡ statement number laid (word ++ blank ∷ operands)
@@ -175,5 +175,5 @@ ClosingBlanksGo = (names : Names) (number base before after : List ℕ)
 
 -- a comment changes nothing
 abbrev pub CommentsGo : Type 0
-CommentsGo = (number : ℕ) (laid : Laid) (line comment : List ℕ) → list_any is_hash line ≡ false
+CommentsGo = (number : ℕ) (laid : LayoutSoFar) (line comment : List ℕ) → list_any is_hash line ≡ false
     → line_laid number laid (line ++ 35 ∷ comment) ≡ line_laid number laid line

@@ -10,7 +10,7 @@ use Rattle.rv_asm.specs.declared.mnemonic.Mnemonic.{Mnemonic}
 use Rattle.rv_asm.specs.declared.mnemonic.Mnemonic.TheVariants as words
 use Rattle.rv_asm.specs.declared.statement.Statement.{Statement}
 use Rattle.ce_text.specs.Bytes.{is_plain, is_blank}
-use Rattle.ce_text.specs.Line.{cut, trimmed, before_comment}
+use Rattle.ce_text.specs.Line.{cut, without_outer_blanks, before_comment}
 use Rattle.rv_asm.specs.Line.{is_colon, is_comma}
 use Rattle.rv_asm.specs.Name.{is_name}
 use Rattle.rv_asm.specs.Names.{Names, with_name, is_taken}
@@ -18,14 +18,14 @@ use Rattle.rv_asm.specs.Words.{mnemonic_of}
 use Rattle.rv_asm.specs.Sizes.{size_of}
 use Rattle.rv_asm.specs.Statements.{statements_of}
 use Rattle.rv_asm_laws.specs.Forms.{a_name, any_number, operand_texts, operands_fault, statement_fault}
-use Rattle.rv_asm.specs.FirstPass.{Laid, operands_of}
+use Rattle.rv_asm.specs.FirstPass.{LayoutSoFar, operands_of}
 use Rattle.rv_asm_laws.specs.Before.{label_of}
 
 -- ---- the parts of a line
 
 abbrev pub statement_behind : List ℕ × Option (List ℕ) → List ℕ
-statement_behind (front, None) = trimmed front
-statement_behind (front, Some rest) = trimmed rest
+statement_behind (front, None) = without_outer_blanks front
+statement_behind (front, Some rest) = without_outer_blanks rest
 
 -- what a line has behind its label
 abbrev pub statement_in : List ℕ → List ℕ
@@ -43,7 +43,7 @@ abbrev pub is_equ : List ℕ → Bool
 is_equ statement = bytes_eq (word_in statement) (codes ".equ")
 
 -- what names mean once a line's label is defined
-abbrev pub names_with : Laid → Option (List ℕ) → Names
+abbrev pub names_with : LayoutSoFar → Option (List ℕ) → Names
 names_with laid None = laid.names
 names_with laid (Some label) = with_name laid.names label (Label (image_start + laid.size))
 
@@ -62,7 +62,7 @@ is_of_words mnemonic = true
 
 -- `.equ` gives a name that means something already
 abbrev pub takes_name : Names → List ℕ → Bool
-takes_name names statement = is_equ statement && is_taken names (trimmed (cut is_comma (operands_in statement)).0)
+takes_name names statement = is_equ statement && is_taken names (without_outer_blanks (cut is_comma (operands_in statement)).0)
 
 -- a second colon, or a word that begins nothing
 abbrev pub is_strange : List ℕ → Bool
@@ -113,13 +113,13 @@ abbrev pub has_colon : List ℕ → Bool
 has_colon statement = list_any is_colon statement
 
 -- the fault of a line, from its label and what stands behind it
-abbrev pub fault_behind : Laid → Option (List ℕ) → List ℕ → Option AsmKind
+abbrev pub fault_behind : LayoutSoFar → Option (List ℕ) → List ℕ → Option AsmKind
 fault_behind laid label statement =
     let names = names_with laid label in
     if not (is_bad_label label) && (is_taken_label laid.names label || (not (has_colon statement) && takes_name names statement)) then Some NameTaken
     else (if is_bad_label label || (has_colon statement || is_strange statement) then Some UnknownWord else statement_kind names laid.size statement)
 
 -- the fault of a line, once this is laid
-unfoldable pub line_fault : Laid → List ℕ → Option AsmKind
+unfoldable pub line_fault : LayoutSoFar → List ℕ → Option AsmKind
 line_fault laid line =
     if not (list_all is_plain (before_comment line)) then Some BadByte else fault_behind laid (label_of line) (statement_in line)

@@ -3,6 +3,7 @@ use Rattle.std.proofs.Common.{◌≡◌, ℕ, ◌≤◌, Bool, true, false, not,
 use Rattle.std.specs.Prelude.{filter, find, option_map, All, IsTrue}
 use Rattle.std.specs.List.{list_any, list_all, AllByRecursion}
 use Rattle.std.proofs.lemmas.List.Elements.{All-from_recursion, recursion_from_All}
+use Rattle.std.proofs.lemmas.Bool.{and_parts, and_right}
 use Rattle.std.proofs.lemmas.Bool.Decides.{nat_tests}
 use Rattle.rv_model.specs.Words.{cut, Fixed, Row, matches, table, dec}
 
@@ -23,44 +24,32 @@ all_apart (r ∷ rs) = list_all (apart r) rs && all_apart rs
 clash_fails : (w : ℕ) (f g : Fixed) → clash f g ≡ true → holds w f ≡ true → holds w g ≡ false
 clash_fails w f g c h = grind (arith, nat_tests)
 
-and_false : (b : Bool) → b && false ≡ false
-and_false true = refl
-and_false false = refl
-
-left : (a b : Bool) → a && b ≡ true → a ≡ true
-left true b h = refl
-left false b h = absurd cc
-
-right : (a b : Bool) → a && b ≡ true → b ≡ true
-right true b h = h
-right false b h = absurd cc
-
 clashes_fail : (w : ℕ) (f : Fixed) (gs : List Fixed) → list_any (clash f) gs ≡ true → holds w f ≡ true → list_all (holds w) gs ≡ false
 clashes_fail w f [] c h = absurd cc
 clashes_fail w f (g ∷ gs) c h =
     elim (clash f g) as (λ b. clash f g ≡ b → b || list_any (clash f) gs ≡ true → holds w g && list_all (holds w) gs ≡ false) [
       | true ↦ λ here _. rw (clash_fails w f g here h) refl
-      | false ↦ λ _ later. rw (clashes_fail w f gs later h) (and_false (holds w g))
+      | false ↦ λ _ later. rw (clashes_fail w f gs later h) (and_right (holds w g) false refl)
     ] refl c
 
 apart_fails : (w : ℕ) (fs gs : List Fixed) → list_any (λ f. list_any (clash f) gs) fs ≡ true → list_all (holds w) fs ≡ true → list_all (holds w) gs ≡ false
 apart_fails w [] gs c h = absurd cc
 apart_fails w (f ∷ fs) gs c h =
     elim (list_any (clash f) gs) as (λ b. list_any (clash f) gs ≡ b → b || list_any (λ e. list_any (clash e) gs) fs ≡ true → list_all (holds w) gs ≡ false) [
-      | true ↦ λ here _. clashes_fail w f gs here (left (holds w f) (list_all (holds w) fs) h)
-      | false ↦ λ _ later. apart_fails w fs gs later (right (holds w f) (list_all (holds w) fs) h)
+      | true ↦ λ here _. clashes_fail w f gs here (and_parts (holds w f) (list_all (holds w) fs) h).0
+      | false ↦ λ _ later. apart_fails w fs gs later (and_parts (holds w f) (list_all (holds w) fs) h).1
     ] refl c
 
 none_left : (w : ℕ) (r : Row) (rs : List Row) → list_all (apart r) rs ≡ true → matches w r ≡ true → filter (matches w) rs ≡ []
 none_left w r [] c h = refl
-none_left w r (s ∷ rs) c h = rw (apart_fails w r.fixed s.fixed (left (apart r s) (list_all (apart r) rs) c) h) (none_left w r rs (right (apart r s) (list_all (apart r) rs) c) h)
+none_left w r (s ∷ rs) c h = rw (apart_fails w r.fixed s.fixed (and_parts (apart r s) (list_all (apart r) rs) c).0 h) (none_left w r rs (and_parts (apart r s) (list_all (apart r) rs) c).1 h)
 
 at_most_one : (w : ℕ) (rs : List Row) → all_apart rs ≡ true → length (filter (matches w) rs) ≤ 1
 at_most_one w [] c = omega arith
 at_most_one w (r ∷ rs) c =
     elim (matches w r) as (λ b. matches w r ≡ b → length (cond b (r ∷ filter (matches w) rs) (filter (matches w) rs)) ≤ 1) [
-      | true ↦ λ m. rw (none_left w r rs (left (list_all (apart r) rs) (all_apart rs) c) m) (omega arith)
-      | false ↦ λ m. at_most_one w rs (right (list_all (apart r) rs) (all_apart rs) c)
+      | true ↦ λ m. rw (none_left w r rs (and_parts (list_all (apart r) rs) (all_apart rs) c).0 m) (omega arith)
+      | false ↦ λ m. at_most_one w rs (and_parts (list_all (apart r) rs) (all_apart rs) c).1
     ] refl
 
 pub table_at_most_one : (w : ℕ) → length (filter (matches w) table) ≤ 1
@@ -69,26 +58,26 @@ table_at_most_one w = at_most_one w table refl
 
 -- ---- so the order of the rows does not matter
 
-abbrev Contained : Row → List Row → Type 0
-Contained s [] = ⊥
-Contained s (r ∷ rs) = (r ≡ s) ⊎ Contained s rs
+abbrev IsAmong : Row → List Row → Type 0
+IsAmong s [] = ⊥
+IsAmong s (r ∷ rs) = (r ≡ s) ⊎ IsAmong s rs
 
-all_at : (p : Row → Bool) (rs : List Row) (s : Row) → list_all p rs ≡ true → Contained s rs → p s ≡ true
+all_at : (p : Row → Bool) (rs : List Row) (s : Row) → list_all p rs ≡ true → IsAmong s rs → p s ≡ true
 all_at p [] s h k = absurd k
-all_at p (r ∷ rs) s h (inl e) = rw (← e) (left (p r) (list_all p rs) h)
-all_at p (r ∷ rs) s h (inr k) = all_at p rs s (right (p r) (list_all p rs) h) k
+all_at p (r ∷ rs) s h (inl e) = rw (← e) (and_parts (p r) (list_all p rs) h).0
+all_at p (r ∷ rs) s h (inr k) = all_at p rs s (and_parts (p r) (list_all p rs) h).1 k
 
-found : (w : ℕ) (rs : List Row) → all_apart rs ≡ true → (s : Row) → Contained s rs → matches w s ≡ true → find (matches w) rs ≡ Some s
+found : (w : ℕ) (rs : List Row) → all_apart rs ≡ true → (s : Row) → IsAmong s rs → matches w s ≡ true → find (matches w) rs ≡ Some s
 found w [] c s k m = absurd k
 found w (r ∷ rs) c s (inl e) m = let t : matches w r ≡ true = ap (matches w) e ∙ m in rw t (ap (λ (q : Row). Some q) e)
 found w (r ∷ rs) c s (inr k) m =
-    let clashes : apart r s ≡ true = all_at (apart r) rs s (left (list_all (apart r) rs) (all_apart rs) c) k in
+    let clashes : apart r s ≡ true = all_at (apart r) rs s (and_parts (list_all (apart r) rs) (all_apart rs) c).0 k in
     elim (matches w r) as (λ b. matches w r ≡ b → cond b (Some r) (find (matches w) rs) ≡ Some s) [
       | true ↦ λ t. let f : matches w s ≡ false = apart_fails w r.fixed s.fixed clashes t in absurd cc
-      | false ↦ λ _. found w rs (right (list_all (apart r) rs) (all_apart rs) c) s k m
+      | false ↦ λ _. found w rs (and_parts (list_all (apart r) rs) (all_apart rs) c).1 s k m
     ] refl
 
-each : (P : Row → Type 0) (rs : List Row) → ((s : Row) → Contained s rs → P s) → AllByRecursion P rs
+each : (P : Row → Type 0) (rs : List Row) → ((s : Row) → IsAmong s rs → P s) → AllByRecursion P rs
 each P [] h = tt
 each P (r ∷ rs) h = (h r (inl refl), each P rs (λ s k. h s (inr k)))
 

@@ -136,7 +136,8 @@ fn shift_word(funct3: u32, funct7: u32, rd: u8, rs1: u8, amount: i32) -> u32
 #[tactic(auto, unfolding(rv_model::specs::Words::dec, rv_model::specs::Words::table))]
 fn op_functs(op: RegOp) -> (u32, u32)
     ensures small { (result.0 < 8) × (result.1 < 128) }
-    ensures row { (word : ℕ) → opcode_of word ≡ OP → funct3_of word ≡ result.0 → funct7_of word ≡ result.1
+    ensures row { (word : ℕ) → opcode_of word ≡ OP → funct3_of word ≡ result.0
+        → funct7_of word ≡ result.1
         → dec word ≡ Some (Op op (rd_of word) (rs1_of word) (rs2_of word)) }
 {
     match op {

@@ -15,7 +15,8 @@ pub fn table_is_unambiguous()
 pub fn table_decides()
     ensures matched { (word : ℕ)
         → All (λ row. IsTrue (matches word row) → dec word ≡ Some (row.meaning word)) table }
-    ensures unmatched { (word : ℕ) → All (λ row. ¬ IsTrue (matches word row)) table → dec word ≡ None }
+    ensures unmatched { (word : ℕ) → All (λ row. ¬ IsTrue (matches word row)) table
+        → dec word ≡ None }
 {}
 
 /// Encoding is unambiguous: no two words are decoded to one instruction.

@@ -103,12 +103,12 @@ store_size Sh = 2
 store_size Sw = 4
 
 -- what a load writes to rd, of the number that stood in memory: LB and LH extend its sign
-abbrev pub extended : LoadOp → ℕ → ℕ
-extended Lb n = cast_unsigned w32 (cast_signed w8 n)
-extended Lh n = cast_unsigned w32 (cast_signed w16 n)
-extended Lw n = n
-extended Lbu n = n
-extended Lhu n = n
+abbrev pub loaded_number : LoadOp → ℕ → ℕ
+loaded_number Lb n = cast_unsigned w32 (cast_signed w8 n)
+loaded_number Lh n = cast_unsigned w32 (cast_signed w16 n)
+loaded_number Lw n = n
+loaded_number Lbu n = n
+loaded_number Lhu n = n
 
 -- ---- instructions
 
@@ -121,35 +121,35 @@ abbrev pub offset_by : ℕ → ℤ → ℕ
 offset_by a imm = wrapping_sum a (cast_unsigned w32 imm)
 
 -- a jump at `pc` to `target`, which leaves the registers x
-abbrev pub jumped : {M : Type 0} → ℕ → ℕ → List ℕ → M → Outcome M
-jumped pc target x m = if target % 4 == 0 then went x target m else stopped (Target pc)
+abbrev pub jump_outcome : {M : Type 0} → ℕ → ℕ → List ℕ → M → Outcome M
+jump_outcome pc target x m = if target % 4 == 0 then went x target m else stopped (Target pc)
 
 -- what an instruction at `pc` does to the registers x and the memory m
-unfoldable pub performed : {M : Type 0} → Access M → Inst → List ℕ → ℕ → M → Outcome M
-performed A (Lui rd imm) x pc m = went (with_reg x rd imm) (next_pc pc) m
-performed A (Auipc rd imm) x pc m = went (with_reg x rd (wrapping_sum pc imm)) (next_pc pc) m
-performed A (Jal rd offset) x pc m = jumped pc (offset_by pc offset) (with_reg x rd (next_pc pc)) m
-performed A (Jalr rd rs1 imm) x pc m =
-    jumped pc (offset_by (reg x rs1) imm / 2 * 2) (with_reg x rd (next_pc pc)) m
-performed A (Branch op rs1 rs2 offset) x pc m =
-    if is_taken op (reg x rs1) (reg x rs2) then jumped pc (offset_by pc offset) x m else went x (next_pc pc) m
-performed A (Load op rd rs1 imm) x pc m = do
+unfoldable pub effect_of : {M : Type 0} → Access M → Inst → List ℕ → ℕ → M → Outcome M
+effect_of A (Lui rd imm) x pc m = went (with_reg x rd imm) (next_pc pc) m
+effect_of A (Auipc rd imm) x pc m = went (with_reg x rd (wrapping_sum pc imm)) (next_pc pc) m
+effect_of A (Jal rd offset) x pc m = jump_outcome pc (offset_by pc offset) (with_reg x rd (next_pc pc)) m
+effect_of A (Jalr rd rs1 imm) x pc m =
+    jump_outcome pc (offset_by (reg x rs1) imm / 2 * 2) (with_reg x rd (next_pc pc)) m
+effect_of A (Branch op rs1 rs2 offset) x pc m =
+    if is_taken op (reg x rs1) (reg x rs2) then jump_outcome pc (offset_by pc offset) x m else went x (next_pc pc) m
+effect_of A (Load op rd rs1 imm) x pc m = do
   n ← A.loaded m (offset_by (reg x rs1) imm) (load_size op)
-  went (with_reg x rd (extended op n)) (next_pc pc) m
-performed A (Store op rs1 rs2 imm) x pc m = do
+  went (with_reg x rd (loaded_number op n)) (next_pc pc) m
+effect_of A (Store op rs1 rs2 imm) x pc m = do
   left ← A.stored m (offset_by (reg x rs1) imm) (store_size op) (reg x rs2 % 256 ^ store_size op)
   went x (next_pc pc) left
-performed A (OpImm op rd rs1 imm) x pc m =
+effect_of A (OpImm op rd rs1 imm) x pc m =
     went (with_reg x rd (imm_result op (reg x rs1) (cast_unsigned w32 imm))) (next_pc pc) m
-performed A (Op op rd rs1 rs2) x pc m =
+effect_of A (Op op rd rs1 rs2) x pc m =
     went (with_reg x rd (reg_result op (reg x rs1) (reg x rs2))) (next_pc pc) m
-performed A (Fence word) x pc m = went x (next_pc pc) m
-performed A Ecall x pc m = called x (next_pc pc) m
-performed A Ebreak x pc m = stopped (Break pc)
+effect_of A (Fence word) x pc m = went x (next_pc pc) m
+effect_of A Ecall x pc m = called x (next_pc pc) m
+effect_of A Ebreak x pc m = stopped (Break pc)
 
 -- one step: the word at `pc` is fetched, decoded, and done
 unfoldable pub exec : {M : Type 0} → Access M → List ℕ → ℕ → M → Outcome M
 exec A x pc m = do
   word ← A.fetched m pc
   inst ← ok_or (dec word) (Illegal pc word)
-  performed A inst x pc m
+  effect_of A inst x pc m

@@ -50,7 +50,8 @@ pub fn put_number(bytes: &mut [u8], offset: usize, size: u32, value: u32)
 /// Writes `part` from `offset` on.
 fn put(bytes: &mut [u8], offset: usize, part: &[u8])
     requires { offset + length part.now ≤ length bytes.old }
-    ensures { bytes.new ≡ take offset bytes.old ++ (part.now ++ drop (offset + length part.now) bytes.old) }
+    ensures { bytes.new ≡ take offset bytes.old
+        ++ (part.now ++ drop (offset + length part.now) bytes.old) }
 {
     bytes[offset..offset + part.len()].copy_from_slice(part);
 }

@@ -12,7 +12,7 @@ use Rattle.rv_model.specs.declared.inst.StoreOp.TheVariants.{Sb, Sh, Sw}
 use Rattle.rv_model.specs.declared.stop.Stop.{Stop}
 use Rattle.rv_model.specs.declared.stop.Stop.TheVariants.{Illegal, Target, Misaligned, Unmapped}
 use Rattle.rv_model.specs.LittleEndian.{with_number_at}
-use Rattle.rv_model.specs.Exec.{◌>>=◌, IsAccessSize, exec, performed, jumped, is_taken, reg, next_pc, offset_by, store_size, went, stopped}
+use Rattle.rv_model.specs.Exec.{◌>>=◌, IsAccessSize, exec, effect_of, jump_outcome, is_taken, reg, next_pc, offset_by, store_size, went, stopped}
 use Rattle.rv_model.specs.Private.{private_access, private_size, is_private}
 use Rattle.rv_model.specs.Words.{dec}
 use Rattle.rv_step.specs.Changed.{HasChangedAtMost, memory_left}
@@ -92,7 +92,7 @@ jump_by : (bytes x : List ℕ) (pc target : ℕ) (aligned : Bool) → HasChanged
 jump_by bytes x pc target true = stays bytes
 jump_by bytes x pc target false = stays bytes
 
-branch_by : (bytes x : List ℕ) (pc target next : ℕ) (taken : Bool) → HasChangedAtMost 4 bytes (memory_left bytes (cond taken (jumped pc target x bytes) (went x next bytes)))
+branch_by : (bytes x : List ℕ) (pc target next : ℕ) (taken : Bool) → HasChangedAtMost 4 bytes (memory_left bytes (cond taken (jump_outcome pc target x bytes) (went x next bytes)))
 branch_by bytes x pc target next true = jump_by bytes x pc target (target % 4 == 0)
 branch_by bytes x pc target next false = stays bytes
 
@@ -100,8 +100,8 @@ load_by : (bytes : List ℕ) (pc : ℕ) (regs : ℕ → List ℕ) (loaded : Resu
 load_by bytes pc regs (Ok n) = stays bytes
 load_by bytes pc regs (Err cause) = stays bytes
 
-performed_changes : (inst : Inst) (x bytes : List ℕ) (pc : ℕ) → length bytes ≡ private_size → HasChangedAtMost 4 bytes (memory_left bytes (performed private_access inst x pc bytes))
-unfolding performed
+performed_changes : (inst : Inst) (x bytes : List ℕ) (pc : ℕ) → length bytes ≡ private_size → HasChangedAtMost 4 bytes (memory_left bytes (effect_of private_access inst x pc bytes))
+unfolding effect_of
 performed_changes (Lui rd imm) x bytes pc len = stays bytes
 performed_changes (Auipc rd imm) x bytes pc len = stays bytes
 performed_changes (Jal rd offset) x bytes pc len = jump_by bytes _ pc (offset_by pc offset) (offset_by pc offset % 4 == 0)
@@ -116,12 +116,12 @@ performed_changes Ecall x bytes pc len = stays bytes
 performed_changes Ebreak x bytes pc len = stays bytes
 
 decoded_by : (found : Option Inst) (x bytes : List ℕ) (pc word : ℕ) → length bytes ≡ private_size
-    → HasChangedAtMost 4 bytes (memory_left bytes (ok_or found (Illegal pc word) >>= λ inst. performed private_access inst x pc bytes))
+    → HasChangedAtMost 4 bytes (memory_left bytes (ok_or found (Illegal pc word) >>= λ inst. effect_of private_access inst x pc bytes))
 decoded_by None x bytes pc word len = stays bytes
 decoded_by (Some inst) x bytes pc word len = performed_changes inst x bytes pc len
 
 fetched_by : (fetched : Result ℕ Stop) (x bytes : List ℕ) (pc : ℕ) → length bytes ≡ private_size
-    → HasChangedAtMost 4 bytes (memory_left bytes (fetched >>= λ word. ok_or (dec word) (Illegal pc word) >>= λ inst. performed private_access inst x pc bytes))
+    → HasChangedAtMost 4 bytes (memory_left bytes (fetched >>= λ word. ok_or (dec word) (Illegal pc word) >>= λ inst. effect_of private_access inst x pc bytes))
 fetched_by (Err cause) x bytes pc len = stays bytes
 fetched_by (Ok word) x bytes pc len = decoded_by (dec word) x bytes pc word len
 

@@ -1,6 +1,6 @@
 //! What instructions compute from the values of registers.
 ghost use Rattle.std.specs.Prelude.{◌≡◌, ◌^◌, ◌<◌};
-ghost use Rattle.rv_model.specs.Exec.{is_taken, imm_result, reg_result, extended, load_size};
+ghost use Rattle.rv_model.specs.Exec.{is_taken, imm_result, reg_result, loaded_number, load_size};
 ghost use Rattle.rv_model.specs.Word.{shifted_right_signed};
 
 use rv_model::{BranchOp, ImmOp, LoadOp, RegOp};
@@ -63,7 +63,7 @@ fn shifted_right_signed(a: u32, amount: u32) -> u32
 /// What a load writes to rd, of the number that stood in memory.
 pub(crate) fn extended(op: LoadOp, n: u32) -> u32
     requires { n < 256 ^ load_size op }
-    ensures { result ≡ extended op n }
+    ensures { result ≡ loaded_number op n }
 {
     match op {
         LoadOp::Lb => i32::from((n as u8).cast_signed()).cast_unsigned(),

@@ -1,7 +1,7 @@
 //! What one decoded instruction does.
 ghost use Rattle.std.specs.Prelude.{◌≡◌, ◌%◌, ◌==◌, if◌then◌else◌};
 ghost use Rattle.rv_inst.specs.Valid.{IsValid, IsRegister};
-ghost use Rattle.rv_model.specs.Exec.{performed, with_reg, next_pc};
+ghost use Rattle.rv_model.specs.Exec.{effect_of, with_reg, next_pc};
 ghost use Rattle.rv_step.specs.Stepped.{outcome_of, OnStopped};
 
 use crate::compute::{extended, imm_result, is_taken, reg_result};
@@ -9,11 +9,11 @@ use crate::{Event, Memory, Regs};
 use rv_model::{Inst, LoadOp, Stop, StoreOp};
 
 /// Does the instruction `inst`, which stands at `pc`.
-#[tactic(auto, unfolding(rv_model::specs::Exec::performed))]
+#[tactic(auto, unfolding(rv_model::specs::Exec::effect_of))]
 pub(crate) fn execute<M: Memory>(inst: Inst, regs: &mut Regs, pc: &mut u32, memory: &mut M) -> Event
     requires { IsValid inst }
     ensures done { outcome_of result regs.new.x pc.new (M.holds memory.new)
-        ≡ performed M.access inst regs.old.x pc.old (M.holds memory.old) }
+        ≡ effect_of M.access inst regs.old.x pc.old (M.holds memory.old) }
     ensures regs_stay { OnStopped result (regs.new.x ≡ regs.old.x) }
     ensures pc_stays { OnStopped result (pc.new ≡ pc.old) }
     ensures memory_stays { OnStopped result (M.holds memory.new ≡ M.holds memory.old) }
@@ -79,8 +79,10 @@ fn write(rd: u8, value: u32, regs: &mut Regs, pc: &mut u32) -> Event
 /// multiple of 4.
 fn jump(rd: u8, target: u32, regs: &mut Regs, pc: &mut u32) -> Event
     requires { IsRegister rd }
-    ensures event { result ≡ (if target % 4 == 0 then Event.Went else Event.Stopped (Stop.Target pc.old)) }
-    ensures regs { regs.new.x ≡ (if target % 4 == 0 then with_reg regs.old.x rd (next_pc pc.old) else regs.old.x) }
+    ensures event { result
+        ≡ (if target % 4 == 0 then Event.Went else Event.Stopped (Stop.Target pc.old)) }
+    ensures regs { regs.new.x
+        ≡ (if target % 4 == 0 then with_reg regs.old.x rd (next_pc pc.old) else regs.old.x) }
     ensures pc { pc.new ≡ (if target % 4 == 0 then target else pc.old) }
 {
     if target % 4 != 0 {
@@ -92,7 +94,7 @@ fn jump(rd: u8, target: u32, regs: &mut Regs, pc: &mut u32) -> Event
 }
 
 /// Does a load.
-#[tactic(auto, unfolding(rv_model::specs::Exec::performed))]
+#[tactic(auto, unfolding(rv_model::specs::Exec::effect_of))]
 fn load<M: Memory>(
     op: LoadOp,
     rd: u8,
@@ -105,7 +107,7 @@ fn load<M: Memory>(
     requires rd { IsRegister rd }
     requires rs1 { IsRegister rs1 }
     ensures done { outcome_of result regs.new.x pc.new (M.holds memory.now)
-        ≡ performed M.access (Inst.Load op rd rs1 imm) regs.old.x pc.old (M.holds memory.now) }
+        ≡ effect_of M.access (Inst.Load op rd rs1 imm) regs.old.x pc.old (M.holds memory.now) }
     ensures regs_stay { OnStopped result (regs.new.x ≡ regs.old.x) }
     ensures pc_stays { OnStopped result (pc.new ≡ pc.old) }
 {
@@ -122,7 +124,7 @@ fn load<M: Memory>(
 }
 
 /// Does a store.
-#[tactic(auto, unfolding(rv_model::specs::Exec::performed))]
+#[tactic(auto, unfolding(rv_model::specs::Exec::effect_of))]
 fn store<M: Memory>(
     op: StoreOp,
     rs1: u8,
@@ -135,7 +137,7 @@ fn store<M: Memory>(
     requires rs1 { IsRegister rs1 }
     requires rs2 { IsRegister rs2 }
     ensures done { outcome_of result regs.now.x pc.new (M.holds memory.new)
-        ≡ performed M.access (Inst.Store op rs1 rs2 imm) regs.now.x pc.old (M.holds memory.old) }
+        ≡ effect_of M.access (Inst.Store op rs1 rs2 imm) regs.now.x pc.old (M.holds memory.old) }
     ensures pc_stays { OnStopped result (pc.new ≡ pc.old) }
     ensures memory_stays { OnStopped result (M.holds memory.new ≡ M.holds memory.old) }
     ensures rest { M.rest memory.new ≡ M.rest memory.old }

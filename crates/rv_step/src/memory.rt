@@ -33,8 +33,10 @@ pub trait Memory {
     /// Stores the lowest `size` bytes of `value`, which are 1, 2 or 4, from `addr` on, little-endian.
     fn store(&mut self, addr: u32, size: u32, value: u32) -> Result<(), Stop>
         requires { IsAccessSize size }
-        ensures stored { OnOk result (access.stored (holds self.old) addr size value ≡ Ok (holds self.new)) }
-        ensures refused { IfErr result (λ cause. access.stored (holds self.old) addr size value ≡ Err cause) }
+        ensures stored { OnOk result
+            (access.stored (holds self.old) addr size value ≡ Ok (holds self.new)) }
+        ensures refused { IfErr result
+            (λ cause. access.stored (holds self.old) addr size value ≡ Err cause) }
         ensures unchanged { OnErr result (holds self.new ≡ holds self.old) }
         ensures rest { rest self.new ≡ rest self.old };
 }

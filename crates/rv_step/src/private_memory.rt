@@ -135,7 +135,8 @@ impl Memory for PrivateMemory {
 #[inline]
 fn offset_of(addr: u32, size: u32) -> Option<usize>
     requires { IsAccessSize size }
-    ensures value { result ≡ (if addr % size == 0 && is_private addr then Some (addr - PRIVATE_START) else None) }
+    ensures value { result
+        ≡ (if addr % size == 0 && is_private addr then Some (addr - PRIVATE_START) else None) }
     ensures within { IfSome result (λ offset. offset + size ≤ PRIVATE_SIZE) }
 {
     let offset = addr.wrapping_sub(PRIVATE_START);

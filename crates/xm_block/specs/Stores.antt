@@ -5,7 +5,7 @@ use Rattle.ce_model.specs.Blocks.{Block, precedes}
 use Rattle.xm_block.specs.Rising.{put_in}
 
 -- a store: its blocks by rising name, and how many more it has room for
-pub record Kept : Type 0 where
+pub record KeptBlock : Type 0 where
   pub blocks : List Block
   pub spare : ℕ
 

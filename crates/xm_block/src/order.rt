@@ -19,7 +19,8 @@ fn precedes(a: BlockId, b: BlockId) -> bool
 pub(crate) fn place_of(blocks: &VecDeque<Block>, block: &Block) -> usize
     requires { IsRising is_before blocks.now.items }
     ensures within { result ≤ length blocks.now.items }
-    ensures passed { AllWithin (λ other. is_before block.now other ≡ false) blocks.now.items 0 result }
+    ensures passed { AllWithin
+        (λ other. is_before block.now other ≡ false) blocks.now.items 0 result }
     ensures ahead { AllWithin (λ other. is_before block.now other ≡ true)
         blocks.now.items result (length blocks.now.items) }
 {

@@ -21,13 +21,16 @@ pub struct Store {
 
 impl Model for Store {
     ghost use Rattle.std.specs.Prelude.{◌-◌, length};
-    ghost use Rattle.xm_block.specs.Stores.{Kept};
+    ghost use Rattle.xm_block.specs.Stores.{KeptBlock};
 
-    ghost Value = { Kept };
+    ghost Value = { KeptBlock };
 
     ghost use Rattle.xm_block.specs.Tables.{IsTable};
 
-    ghost view = { λ store. record { blocks = store.blocks.items; spare = store.room - length store.blocks.items } };
+    ghost view = { λ store. record {
+      blocks = store.blocks.items;
+      spare = store.room - length store.blocks.items;
+    } };
 
     ghost invariant = { IsTable };
 }
@@ -71,7 +74,8 @@ impl Store {
     pub fn take_least(&mut self) -> Option<Block>
         ensures empty { IsNone result ↔ (self.old.blocks ≡ []) }
         ensures taken { IfSome result (λ block. self.old.blocks ≡ block ∷ self.new.blocks) }
-        ensures least { IfSome result (λ block. All (λ other. IsTrue (is_before block other)) self.new.blocks) }
+        ensures least { IfSome result
+            (λ block. All (λ other. IsTrue (is_before block other)) self.new.blocks) }
         ensures room { IfSome result (λ _. self.new.spare ≡ self.old.spare + 1) }
         ensures unchanged { IfNone result (self.new ≡ self.old) }
     {
@@ -82,7 +86,8 @@ impl Store {
     pub fn give(&mut self, block: Block)
         requires room { 1 ≤ self.old.spare }
         requires apart { ¬ (Contains (ids_of self.old.blocks) block.id) }
-        ensures after { self.new ≡ record { blocks = with_block block self.old.blocks; spare = self.old.spare - 1 } }
+        ensures after { self.new
+            ≡ record { blocks = with_block block self.old.blocks; spare = self.old.spare - 1 } }
         ensures ids { ids_of self.new.blocks ≡ put block.id (ids_of self.old.blocks) }
     {
         let place = place_of(&self.blocks, &block);

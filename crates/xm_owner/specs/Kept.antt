@@ -2,7 +2,7 @@
 use Rattle.std.specs.Prelude.{◌≡◌, ◌≤◌, ◌<◌, ◌^◌, length, vec_capacity}
 use Rattle.xm_block.specs.Rising.{IsRising}
 use Rattle.xm_owner.specs.Tables.{key_before}
-use Rattle.xm_owner.specs.declared.held.Held.TheInside.{Inside}
+use Rattle.xm_owner.specs.declared.held.HeldBlocks.TheInside.{Inside}
 
 -- the keys rise, each has its block, and memory for all that there is room for is there
 pub record IsKept (held : Inside) : Type 0 where

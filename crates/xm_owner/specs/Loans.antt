@@ -4,7 +4,7 @@ use Rattle.std.specs.Borrow.{LendsIf, MutBor, Fml}
 use Rattle.ce_model.specs.Blocks.{Block}
 use Rattle.xm_block.specs.contracts.block.Block.{the_row as block_row}
 use Rattle.xm_owner.specs.Holdings.{Holding, with_block_at}
-use Rattle.xm_owner.specs.contracts.held.Held.{the_row}
+use Rattle.xm_owner.specs.contracts.held.HeldBlocks.{the_row}
 
 -- the map holds what was left in the block; where there was none, it stays
 abbrev pub LendsBlock : MutBor Holding → ℕ → ℕ → Option (MutBor Block) → Fml

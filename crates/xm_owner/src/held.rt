@@ -16,13 +16,13 @@ use xm_block::{Block, Store};
 /// The blocks that the processes of a node hold, each in a window of a process, with room for a number of them.
 /// Contracts see a finite map, by process and window.
 #[derive(Drop)]
-pub struct Held {
+pub struct HeldBlocks {
     keys: Vec<Key>,
     blocks: Vec<Block>,
     room: usize,
 }
 
-impl Model for Held {
+impl Model for HeldBlocks {
     ghost use Rattle.std.specs.Prelude.{◌-◌, length};
     ghost use Rattle.xm_owner.specs.Holdings.{Holding};
 
@@ -31,18 +31,21 @@ impl Model for Held {
     ghost use Rattle.xm_owner.specs.Tables.{mappings_of};
     ghost use Rattle.xm_owner.specs.Kept.{IsKept};
 
-    ghost view = { λ held. record { mappings = mappings_of held.keys.items held.blocks.items; spare = held.room - length held.keys.items } };
+    ghost view = { λ held. record {
+      mappings = mappings_of held.keys.items held.blocks.items;
+      spare = held.room - length held.keys.items;
+    } };
 
     ghost invariant = { IsKept };
 }
 
-impl Held {
+impl HeldBlocks {
     /// An empty map with room for so many blocks. `NoMemory` may come at any time.
-    pub fn new(alloc: Global, room: u32) -> Result<Held, NoMemory>
+    pub fn new(alloc: Global, room: u32) -> Result<HeldBlocks, NoMemory>
         ensures { IfOk result (λ held. held ≡ record { mappings = []; spare = room }) }
     {
         let room = room as usize;
-        Ok(Held {
+        Ok(HeldBlocks {
             keys: Vec::with_capacity(alloc, room)?,
             blocks: Vec::with_capacity(alloc, room)?,
             room,
@@ -62,10 +65,12 @@ impl Held {
         requires room { 1 ≤ self.old.spare }
         requires vacant { held_at self.old.mappings pid window ≡ None }
         ensures after { self.new ≡ record {
-          mappings = with_mapping (record { pid = pid; window = window; block = block }) self.old.mappings;
+          mappings = with_mapping (record { pid = pid; window = window; block = block })
+              self.old.mappings;
           spare = self.old.spare - 1;
         } }
-        ensures change { HasChangedOnly self.old.mappings self.new.mappings pid window (Some block) }
+        ensures change { HasChangedOnly self.old.mappings self.new.mappings pid window
+            (Some block) }
     {
         let key = Key { pid, window };
         let place = place_of(&self.keys, key);

@@ -24,7 +24,8 @@ fn place_in(keys: &[Key], key: Key) -> usize
     requires { IsRising key_before keys.now }
     ensures within { result ≤ length keys.now }
     ensures passed { AllWithin (λ other. key_before other key ≡ true) keys.now 0 result }
-    ensures ahead { AllWithin (λ other. key_before other key ≡ false) keys.now result (length keys.now) }
+    ensures ahead { AllWithin
+        (λ other. key_before other key ≡ false) keys.now result (length keys.now) }
 {
     keys.partition_point(|other| key_before(*other, key))
 }
@@ -47,7 +48,8 @@ pub(crate) fn place_of(keys: &Vec<Key>, key: Key) -> usize
     requires { IsRising key_before keys.now.items }
     ensures within { result ≤ length keys.now.items }
     ensures passed { AllWithin (λ other. key_before other key ≡ true) keys.now.items 0 result }
-    ensures ahead { AllWithin (λ other. key_before other key ≡ false) keys.now.items result (length keys.now.items) }
+    ensures ahead { AllWithin
+        (λ other. key_before other key ≡ false) keys.now.items result (length keys.now.items) }
 {
     place_in(keys.as_slice(), key)
 }
@@ -65,7 +67,8 @@ fn count_in(keys: &[Key], limit: u64) -> usize
     requires { IsRising key_before keys.now }
     ensures within { result ≤ length keys.now }
     ensures passed { AllWithin (λ other. nat_lt other.pid limit ≡ true) keys.now 0 result }
-    ensures ahead { AllWithin (λ other. nat_lt other.pid limit ≡ false) keys.now result (length keys.now) }
+    ensures ahead { AllWithin
+        (λ other. nat_lt other.pid limit ≡ false) keys.now result (length keys.now) }
 {
     keys.partition_point(|other| u64::from(other.pid) < limit)
 }
@@ -75,7 +78,8 @@ fn count_below(keys: &Vec<Key>, limit: u64) -> usize
     requires { IsRising key_before keys.now.items }
     ensures within { result ≤ length keys.now.items }
     ensures passed { AllWithin (λ other. nat_lt other.pid limit ≡ true) keys.now.items 0 result }
-    ensures ahead { AllWithin (λ other. nat_lt other.pid limit ≡ false) keys.now.items result (length keys.now.items) }
+    ensures ahead { AllWithin
+        (λ other. nat_lt other.pid limit ≡ false) keys.now.items result (length keys.now.items) }
 {
     count_in(keys.as_slice(), limit)
 }

@@ -4,7 +4,7 @@
 mod held;
 mod key;
 
-pub use held::Held;
+pub use held::HeldBlocks;
 
 #[cfg(test)]
 mod tests;

@@ -14,7 +14,7 @@ fn block(alloc: Global, index: u32) -> Result<Block, Fail>
 
 #[test]
 fn openings(rt: HostRuntime) -> Result<(), Fail> {
-    let held = Held::new(rt.alloc(), 2080)?;
+    let held = HeldBlocks::new(rt.alloc(), 2080)?;
     assert_eq!(rt; held.count(), 0);
     assert!(rt; held.get(0, 0).is_none());
     Ok(())
@@ -23,7 +23,7 @@ fn openings(rt: HostRuntime) -> Result<(), Fail> {
 #[test]
 #[tactic(auto, unfolding(ce_model::specs::Limits::block_room))]
 fn mapped_and_unmapped(rt: HostRuntime) -> Result<(), Fail> {
-    let mut held = Held::new(rt.alloc(), 2)?;
+    let mut held = HeldBlocks::new(rt.alloc(), 2)?;
     held.map(3, 7, block(rt.alloc(), 5)?);
     assert_eq!(rt; held.count(), 1);
     assert!(rt; held.get(3, 6).is_none());
@@ -47,7 +47,7 @@ fn mapped_and_unmapped(rt: HostRuntime) -> Result<(), Fail> {
 
 #[test]
 fn drained_by_process(rt: HostRuntime) -> Result<(), Fail> {
-    let mut held = Held::new(rt.alloc(), 2)?;
+    let mut held = HeldBlocks::new(rt.alloc(), 2)?;
     let mut store = Store::new(rt.alloc(), 1)?;
     held.map(1, 0, block(rt.alloc(), 9)?);
     held.map(2, 0, block(rt.alloc(), 4)?);

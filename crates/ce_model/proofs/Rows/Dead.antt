@@ -1,70 +1,47 @@
 -- The worked row `dead`: mail for a process that has stopped goes to its node's store. The trace is the one that the cube gives
 -- alone.
-use Rattle.std.proofs.Common.{◌≡◌, ℕ, List, [], ◌∷◌, None, true, refl}
+use Rattle.std.proofs.Common.{◌≡◌, List, [], ◌∷◌, ◌++◌, None, refl}
 use Rattle.rv_model.specs.Image.{ImageParts}
 use Rattle.ce_model.specs.declared.topology.TheConstants.{HOST}
 use Rattle.ce_model.specs.declared.entry.Entry.{Entry}
-use Rattle.ce_model.specs.declared.entry.What.TheVariants.{Arm, Look, Send, Spawn, Note, Take}
-use Rattle.ce_model.specs.declared.entry.Found.TheVariants.{Quiet}
-use Rattle.ce_model.specs.declared.entry.Given.TheVariants.{Start, Mail, Idle}
-use Rattle.ce_model.specs.Lists.{EachAfter}
-use Rattle.ce_model.specs.Limits.{process_count, home_blocks, host_home}
-use Rattle.ce_model.specs.Node.{Node, takes, notes}
+use Rattle.ce_model.specs.declared.entry.What.TheVariants.{Arm, Look, Send, Take}
+use Rattle.ce_model.specs.declared.entry.LookResult.TheVariants.{Quiet}
+use Rattle.ce_model.specs.declared.entry.TakeResult.TheVariants.{Mail, Idle}
+use Rattle.ce_model.specs.Literals.{aa}
+use Rattle.ce_model.specs.Node.{Node, takes}
 use Rattle.ce_model.specs.Saying.{says}
-use Rattle.ce_model.specs.Hearing.{start_of, mail_of, nothing}
-use Rattle.ce_model.specs.Trace.{sent_to, taken_by, waiting, spawned, killed, mark, armed, dispatched, parcels}
-use Rattle.ce_model.specs.Answers.{is_quiet, answer}
-use Rattle.ce_model.specs.Cube.{opening, state, hoststore, next_entry, IsNext, IsAlone}
+use Rattle.ce_model.specs.Hearing.{mail_of, nothing}
+use Rattle.ce_model.specs.Cube.{opening, IsAlone}
 use Rattle.ce_model.proofs.AloneByEntries.{alone_by_entries}
-use Rattle.ce_model.proofs.Rows.Cubes.{one_cube, by, place_0, host_block, host_parcel, fresh_node, after_hearing}
+use Rattle.ce_model.proofs.Rows.Cubes.{one_cube, by, place_0, host_block, host_parcel, after_hearing, row_computes}
+use Rattle.ce_model.proofs.Rows.Hello as hello
 
-abbrev pub aa : List ℕ
-aa = 0xAA ∷ []
-
--- the node once it was given the start
-abbrev pub begun : ImageParts → Node
-begun image = after_hearing image fresh_node (start_of 0 0)
-
--- and once the word is noted
-abbrev pub noted : ImageParts → Node
-noted image = after_hearing image (begun image) nothing
-
--- and once it was found idle
+-- the node of the row `hello` once it was found idle
 abbrev pub rested : ImageParts → Node
-rested image = after_hearing image (noted image) nothing
+rested image = after_hearing image (hello.noted image) nothing
 
 -- and once it was given the mail
 abbrev pub mailed : ImageParts → Node
 mailed image = after_hearing image (rested image) (mail_of (host_parcel 0 0 aa))
 
--- the row's trace
+-- the row's trace, which goes on where `hello` ends
 abbrev pub row : List Entry
 row =
-    by HOST (Spawn 0 0 place_0 true)
-    ∷ by HOST (Arm 10)
-    ∷ by 0 (Take 0 0 None (Start 0 0))
-    ∷ by 0 (Note 0 42)
-    ∷ by 0 (Take 0 1 None Idle)
-    ∷ by HOST (Look Quiet)
-    ∷ by HOST (Send 0 0 ((place_0, host_block 0) ∷ []) aa)
+    hello.row
+    ++ by HOST (Send 0 0 ((place_0, host_block 0) ∷ []) aa)
     ∷ by HOST (Arm 10)
     ∷ by 0 (Take 0 1 None (Mail 0 0))
     ∷ by 0 (Take 0 1 None Idle)
     ∷ by HOST (Look Quiet)
     ∷ []
 
--- what the row's node says, at first and after each answer
-pub record SaysRow (image : ImageParts) : Type 0 where
-  pub asks : (says fresh_node).call ≡ takes 0 0 None
-  pub notes : (says (begun image)).call ≡ notes 0 42
-  pub ends : (says (noted image)).call ≡ takes 0 1 None
+-- what the row's node says, as in `hello` and after each further answer
+pub record HasSaidRow (image : ImageParts) : Type 0 where
+  pub begins : hello.HasSaidRow image
   pub rests : (says (rested image)).call ≡ takes 0 1 None
   pub rests_on : (says (mailed image)).call ≡ takes 0 1 None
 
-row_by_entries : (image : ImageParts) → SaysRow image → EachAfter (IsNext (one_cube image) (opening (one_cube image))) [] row
-unfolding next_entry state hoststore sent_to taken_by waiting spawned killed mark armed dispatched parcels is_quiet answer process_count home_blocks host_home
-row_by_entries image h =
-    (refl, (refl, (rw h.asks refl, (rw h.notes refl, (rw h.ends refl, (refl, (refl, (refl, (rw h.rests refl, (rw h.rests_on refl, (refl, tt)))))))))))
-
-pub row_alone : (image : ImageParts) → SaysRow image → IsAlone (one_cube image) row
-row_alone image h = alone_by_entries (one_cube image) (opening (one_cube image)) row (row_by_entries image h)
+pub row_alone : (image : ImageParts) → HasSaidRow image → IsAlone (one_cube image) row
+unfolding row_computes
+row_alone image h = alone_by_entries (one_cube image) (opening (one_cube image)) row
+    (refl, (refl, (rw h.begins.asks refl, (rw h.begins.notes refl, (rw h.begins.ends refl, (refl, (refl, (refl, (rw h.rests refl, (rw h.rests_on refl, (refl, tt)))))))))))

@@ -3,27 +3,29 @@
 use Rattle.std.proofs.Common.{◌≡◌, ℕ, List, [], ◌∷◌, ◌++◌, map, Some, None, refl}
 use Rattle.rv_model.specs.Image.{ImageParts}
 use Rattle.ce_model.specs.declared.topology.TheConstants.{HOST}
+use Rattle.ce_model.specs.declared.topology.Subcube.{Subcube}
 use Rattle.ce_model.specs.declared.entry.Entry.{Entry}
 use Rattle.ce_model.specs.declared.entry.What.TheVariants.{Getcube, Drain, Freecube}
 use Rattle.ce_model.specs.Limits.{greatest_dim}
+use Rattle.ce_model.specs.Literals.{machine, of_host, sub_at}
 use Rattle.ce_model.specs.Subcubes.{extract, deposit, subcubes, first_free, node_of}
-use Rattle.ce_model.specs.Machine.{after, answered, getcube, free_count, held_grants}
-use Rattle.ce_model.proofs.Rows.Machines.{machine, of_host, sub_at}
+use Rattle.ce_model.specs.Machine.{after, what_of_request, getcube, free_count, held_grants}
 
--- three users of a machine of four nodes get one node each
+-- three users get a cube of this dimension each
+abbrev pub three_cubes : ℕ → Subcube → Subcube → Subcube → List Entry
+three_cubes dim first second third =
+    of_host 0 (Getcube dim (Some first)) ∷ of_host 1 (Getcube dim (Some second)) ∷ of_host 2 (Getcube dim (Some third)) ∷ []
+
+-- one node each, of a machine of four
 abbrev pub three_nodes : List Entry
-three_nodes =
-    of_host 0 (Getcube 0 (Some (sub_at 0 0)))
-    ∷ of_host 1 (Getcube 0 (Some (sub_at 0 1)))
-    ∷ of_host 2 (Getcube 0 (Some (sub_at 0 2)))
-    ∷ []
+three_nodes = three_cubes 0 (sub_at 0 0) (sub_at 0 1) (sub_at 0 2)
 
 -- this user gives its cube back
 abbrev pub given_back : ℕ → List Entry
 given_back user = of_host user Drain ∷ of_host user Freecube ∷ []
 
 -- nodes 0 and 3 are free, which are no subcube, so a cube of two nodes is refused
-pub no_fit : (image : ImageParts) → answered (machine 2 4 image) (after (three_nodes ++ given_back 0)) 3 HOST (getcube 1) ≡ Some (Getcube 1 None)
+pub no_fit : (image : ImageParts) → what_of_request (machine 2 4 image) (after (three_nodes ++ given_back 0)) 3 HOST (getcube 1) ≡ Some (Getcube 1 None)
 unfolding after extract deposit subcubes first_free greatest_dim
 no_fit image = refl
 
@@ -40,21 +42,17 @@ no_fit_held = refl
 
 -- nodes 1 and 3 are free, which are the subcube of mask 2 and base 1
 pub not_contiguous : (image : ImageParts)
-    → answered (machine 2 4 image) (after (three_nodes ++ given_back 1)) 3 HOST (getcube 1) ≡ Some (Getcube 1 (Some (sub_at 2 1)))
+    → what_of_request (machine 2 4 image) (after (three_nodes ++ given_back 1)) 3 HOST (getcube 1) ≡ Some (Getcube 1 (Some (sub_at 2 1)))
 unfolding after extract deposit subcubes first_free greatest_dim
 not_contiguous image = refl
 
 -- three users of a machine of eight nodes get two nodes each
 abbrev pub three_pairs : List Entry
-three_pairs =
-    of_host 0 (Getcube 1 (Some (sub_at 1 0)))
-    ∷ of_host 1 (Getcube 1 (Some (sub_at 1 2)))
-    ∷ of_host 2 (Getcube 1 (Some (sub_at 1 4)))
-    ∷ []
+three_pairs = three_cubes 1 (sub_at 1 0) (sub_at 1 2) (sub_at 1 4)
 
 -- nodes 2, 3, 6 and 7 are free: the subcube of mask 5 and base 2
 pub renaming : (image : ImageParts)
-    → answered (machine 3 4 image) (after (three_pairs ++ given_back 1)) 3 HOST (getcube 2) ≡ Some (Getcube 2 (Some (sub_at 5 2)))
+    → what_of_request (machine 3 4 image) (after (three_pairs ++ given_back 1)) 3 HOST (getcube 2) ≡ Some (Getcube 2 (Some (sub_at 5 2)))
 unfolding after extract deposit subcubes first_free greatest_dim
 renaming image = refl
 

@@ -8,7 +8,7 @@ use Rattle.ce_model.specs.declared.entry.What.TheVariants.{HostTake, Send}
 use Rattle.ce_model.specs.Limits.{host_home}
 use Rattle.ce_model.specs.Blocks.{Block}
 use Rattle.ce_model.specs.Node.{Node, host_place}
-use Rattle.ce_model.specs.Trace.{blank_record, sent_to, taken_by, waiting, standing}
+use Rattle.ce_model.specs.Trace.{blank_record, sent_to, taken_by, waiting_items, standing}
 use Rattle.ce_model.specs.Cube.{CubeState, hoststore}
 use Rattle.ce_model.specs.Owners.{in_store, in_window, in_parcel, in_hoststore, holdings, holders}
 use Rattle.ce_model.proofs.Rows.Cubes.{by, block_0, host_block}
@@ -53,14 +53,14 @@ unfolding holders holdings host_home
 in_its_window = refl
 
 pub in_its_parcel : holders 0 (after (sends_it ∷ [])) (block_0 0) ≡ in_parcel HOST 0 ∷ []
-unfolding holders holdings host_home sent_to taken_by waiting hoststore
+unfolding holders holdings host_home sent_to taken_by waiting_items hoststore
 in_its_parcel = refl
 
 pub in_the_hosts_store : holders 0 (after (sends_it ∷ takes_it ∷ [])) (block_0 0) ≡ in_hoststore ∷ []
-unfolding holders holdings host_home sent_to taken_by waiting hoststore
+unfolding holders holdings host_home sent_to taken_by waiting_items hoststore
 in_the_hosts_store = refl
 
 -- the others stay where they are
 pub others_stay : holders 0 (after (sends_it ∷ takes_it ∷ [])) (block_0 1) ≡ in_store 0 ∷ []
-unfolding holders holdings host_home sent_to taken_by waiting hoststore
+unfolding holders holdings host_home sent_to taken_by waiting_items hoststore
 others_stay = refl

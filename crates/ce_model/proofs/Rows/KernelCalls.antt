@@ -10,7 +10,7 @@ use Rattle.ce_model.specs.Blocks.{Block}
 use Rattle.ce_model.specs.Space.{Space, spot, block_named, loaded_at}
 use Rattle.ce_model.specs.Process.{Process, argument}
 use Rattle.ce_model.specs.Node.{Turn, Node, process_at, sends, Call}
-use Rattle.ce_model.specs.Kernel.{Did, goes_on, leaves, turn_ends, kernel, kernel_calls}
+use Rattle.ce_model.specs.Kernel.{CallOutcome, goes_on, leaves, turn_ends, kernel, kernel_calls}
 
 -- a process of this memory that makes a call: its number, and three arguments
 abbrev pub calling : Space → ℕ → ℕ → ℕ → ℕ → Process
@@ -44,14 +44,14 @@ pub record Returned : Type 0 where
   pub windows : List (Option Block)
   pub store : List BlockId
 
-abbrev pub returned : Did → Option Returned
+abbrev pub returned : CallOutcome → Option Returned
 returned (goes_on node turn) =
     Some (record { value = argument (process_at node 0) 0; windows = (process_at node 0).space.windows; store = node.store })
 returned (leaves node call) = None
 returned (turn_ends node) = None
 
 -- the call that leaves the node, and what is left of the store and of the windows then
-abbrev pub left : Did → Option (Call × List (Option Block) × List BlockId)
+abbrev pub left : CallOutcome → Option (Call × List (Option Block) × List BlockId)
 left (leaves node call) = Some (call, (process_at node 0).space.windows, node.store)
 left other = None
 

@@ -1,23 +1,20 @@
 -- The machine's six entries: a user's message waits in a node when its cube is drained and given back, and the next owner of the
 -- node finds nothing. What the node says is a premise.
-use Rattle.std.proofs.Common.{◌≡◌, ℕ, List, [], ◌∷◌, Some, None, option_map, refl, inl, inr, arith}
+use Rattle.std.proofs.Common.{◌≡◌, List, [], ◌∷◌, Some, None, option_map, refl, inl, inr, arith}
 use Rattle.rv_model.specs.Image.{ImageParts}
 use Rattle.ce_model.specs.declared.entry.Entry.{Entry}
 use Rattle.ce_model.specs.declared.entry.What.TheVariants.{Getcube, Drain, Freecube, Send, Take}
-use Rattle.ce_model.specs.declared.entry.Given.TheVariants.{Idle}
+use Rattle.ce_model.specs.declared.entry.TakeResult.TheVariants.{Idle}
 use Rattle.ce_model.specs.Limits.{greatest_dim, block_room, process_count, home_blocks, host_home}
+use Rattle.ce_model.specs.Literals.{machine, of_actor, of_host, sub_at, place, block, aa}
 use Rattle.ce_model.specs.Node.{fresh, takes, sends, host_place}
 use Rattle.ce_model.specs.Saying.{says}
-use Rattle.ce_model.specs.Trace.{sent_to, taken_by, waiting, spawned, killed, mark, armed, dispatched, parcels}
+use Rattle.ce_model.specs.Trace.{sent_to, taken_by, waiting_items, spawned_ids, killed_ids, mark, allowed_dispatches, made_dispatches, parcels}
 use Rattle.ce_model.specs.Answers.{answer}
 use Rattle.ce_model.specs.Cube.{state, hoststore, next_entry}
 use Rattle.ce_model.specs.Subcubes.{extract, relative, deposit, subcubes, first_free}
 use Rattle.ce_model.specs.Views.{view}
 use Rattle.ce_model.specs.Machine.{after, getcube, drain, freecube, in_cube, all_parcels, held_by, IsLawful}
-use Rattle.ce_model.proofs.Rows.Machines.{machine, of_host, of_node, sub_at, place, block}
-
-abbrev pub aa : List ℕ
-aa = 0xAA ∷ []
 
 abbrev pub row : List Entry
 row =
@@ -26,11 +23,11 @@ row =
     ∷ of_host 0 Drain
     ∷ of_host 0 Freecube
     ∷ of_host 1 (Getcube 0 (Some (sub_at 0 0)))
-    ∷ of_node 1 0 (Take 0 0 None Idle)
+    ∷ of_actor 1 0 (Take 0 0 None Idle)
     ∷ []
 
 pub row_is_lawful : (image : ImageParts) → (says (fresh 0 0 1)).call ≡ takes 0 0 None → IsLawful (machine 0 2 image) row
-unfolding after view relative extract deposit subcubes first_free next_entry state hoststore sent_to taken_by waiting spawned killed mark armed dispatched parcels answer greatest_dim block_room process_count home_blocks host_home
+unfolding after view relative extract deposit subcubes first_free next_entry state hoststore sent_to taken_by waiting_items spawned_ids killed_ids mark allowed_dispatches made_dispatches parcels answer greatest_dim block_room process_count home_blocks host_home
 row_is_lawful image asks = (
   record { request = getcube 0; fits = (omega arith, (refl, omega arith, refl)); answer = refl },
   (

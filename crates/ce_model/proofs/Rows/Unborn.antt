@@ -1,32 +1,19 @@
 -- The worked row `unborn`: two messages come before the process that echoes them is started. The trace is the one that the cube gives
 -- alone.
-use Rattle.std.proofs.Common.{◌≡◌, ℕ, List, [], ◌∷◌, Some, None, true, refl}
+use Rattle.std.proofs.Common.{◌≡◌, List, [], ◌∷◌, Some, None, true, refl}
 use Rattle.rv_model.specs.Image.{ImageParts}
 use Rattle.ce_model.specs.declared.topology.TheConstants.{HOST}
 use Rattle.ce_model.specs.declared.entry.Entry.{Entry}
 use Rattle.ce_model.specs.declared.entry.What.TheVariants.{Arm, Look, HostTake, Send, Spawn, Take}
-use Rattle.ce_model.specs.declared.entry.Found.TheVariants.{Quiet}
-use Rattle.ce_model.specs.declared.entry.Given.TheVariants.{Start, Mail, Idle}
-use Rattle.ce_model.specs.Lists.{EachAfter}
-use Rattle.ce_model.specs.Limits.{process_count, home_blocks, host_home}
+use Rattle.ce_model.specs.declared.entry.LookResult.TheVariants.{Quiet}
+use Rattle.ce_model.specs.declared.entry.TakeResult.TheVariants.{Start, Mail, Idle}
+use Rattle.ce_model.specs.Literals.{aa, bb}
 use Rattle.ce_model.specs.Node.{Node, takes, sends, host_place}
 use Rattle.ce_model.specs.Saying.{says}
-use Rattle.ce_model.specs.Hearing.{start_of, mail_of, told}
-use Rattle.ce_model.specs.Trace.{sent_to, taken_by, waiting, spawned, killed, mark, armed, dispatched, parcels}
-use Rattle.ce_model.specs.Answers.{is_quiet, answer}
-use Rattle.ce_model.specs.Cube.{opening, state, hoststore, next_entry, IsNext, IsAlone}
+use Rattle.ce_model.specs.Hearing.{mail_of, told}
+use Rattle.ce_model.specs.Cube.{opening, IsAlone}
 use Rattle.ce_model.proofs.AloneByEntries.{alone_by_entries}
-use Rattle.ce_model.proofs.Rows.Cubes.{one_cube, by, place_0, host_block, host_parcel, fresh_node, after_hearing}
-
-abbrev pub aa : List ℕ
-aa = 0xAA ∷ []
-
-abbrev pub bb : List ℕ
-bb = 0xBB ∷ []
-
--- the node once it was given the start
-abbrev pub begun : ImageParts → Node
-begun image = after_hearing image fresh_node (start_of 0 0)
+use Rattle.ce_model.proofs.Rows.Cubes.{one_cube, by, place_0, host_block, host_parcel, fresh_node, after_hearing, begun, row_computes}
 
 -- the node with the first message, and once that is sent back
 abbrev pub first : ImageParts → Node
@@ -70,7 +57,7 @@ row =
     ∷ []
 
 -- what the row's node says, at first and after each answer
-pub record SaysRow (image : ImageParts) : Type 0 where
+pub record HasSaidRow (image : ImageParts) : Type 0 where
   pub asks : (says fresh_node).call ≡ takes 0 0 None
   pub waits : (says (begun image)).call ≡ takes 1 0 None
   pub sends_first : (says (first image)).call ≡ sends 0 ((host_place, host_block 0) ∷ []) aa
@@ -78,10 +65,7 @@ pub record SaysRow (image : ImageParts) : Type 0 where
   pub sends_second : (says (second image)).call ≡ sends 0 ((host_place, host_block 1) ∷ []) bb
   pub waits_on : (says (second_back image)).call ≡ takes 1 0 None
 
-row_by_entries : (image : ImageParts) → SaysRow image → EachAfter (IsNext (one_cube image) (opening (one_cube image))) [] row
-unfolding next_entry state hoststore sent_to taken_by waiting spawned killed mark armed dispatched parcels is_quiet answer process_count home_blocks host_home
-row_by_entries image h =
+pub row_alone : (image : ImageParts) → HasSaidRow image → IsAlone (one_cube image) row
+unfolding row_computes
+row_alone image h = alone_by_entries (one_cube image) (opening (one_cube image)) row
     (refl, (refl, (refl, (refl, (refl, (rw h.asks refl, (refl, (rw h.waits refl, (rw h.sends_first refl, (refl, (refl, (refl, (rw h.waits_again refl, (rw h.sends_second refl, (refl, (refl, (refl, (rw h.waits_on refl, (refl, (refl, tt))))))))))))))))))))
-
-pub row_alone : (image : ImageParts) → SaysRow image → IsAlone (one_cube image) row
-row_alone image h = alone_by_entries (one_cube image) (opening (one_cube image)) row (row_by_entries image h)

@@ -4,38 +4,33 @@ use Rattle.std.proofs.Common.{◌≡◌, ℕ, List, [], ◌∷◌, ◌++◌, Som
 use Rattle.rv_model.specs.Image.{ImageParts}
 use Rattle.ce_model.specs.declared.entry.Entry.{Entry}
 use Rattle.ce_model.specs.declared.entry.What.TheVariants.{Getcube, Drain, Freecube, Arm, Look, Send, Spawn, Take}
-use Rattle.ce_model.specs.declared.entry.Found.TheVariants.{Quiet}
-use Rattle.ce_model.specs.declared.entry.Given.TheVariants.{Start, Idle}
+use Rattle.ce_model.specs.declared.entry.LookResult.TheVariants.{Quiet}
+use Rattle.ce_model.specs.declared.entry.TakeResult.TheVariants.{Start, Idle}
 use Rattle.ce_model.specs.Lists.{EachAfter}
 use Rattle.ce_model.specs.Limits.{greatest_dim, greatest_count, block_room, process_count, home_blocks, host_home}
+use Rattle.ce_model.specs.Literals.{machine, of_actor, of_host, sub_at, place, block, aa, bb, cc_}
 use Rattle.ce_model.specs.Node.{fresh, takes, sends, spawns, arms, looks}
 use Rattle.ce_model.specs.Saying.{says}
 use Rattle.ce_model.specs.Hearing.{hears, start_of}
-use Rattle.ce_model.specs.Trace.{sent_to, taken_by, waiting, spawned, killed, mark, armed, dispatched, parcels}
+use Rattle.ce_model.specs.Trace.{sent_to, taken_by, waiting_items, spawned_ids, killed_ids, mark, allowed_dispatches, made_dispatches, parcels}
 use Rattle.ce_model.specs.Answers.{is_quiet, answer}
 use Rattle.ce_model.specs.Cube.{state, hoststore, next_entry}
 use Rattle.ce_model.specs.Subcubes.{extract, relative, deposit, subcubes, first_free}
 use Rattle.ce_model.specs.Views.{view}
 use Rattle.ce_model.specs.Machine.{after, getcube, drain, freecube, in_cube, IsLawfulEntry, IsLawful}
 use Rattle.ce_model.proofs.Walked.{each_joined}
-use Rattle.ce_model.proofs.Rows.Machines.{machine, of_host, of_node, sub_at, place, block}
 
-abbrev pub aa : List ℕ
-aa = 0xAA ∷ []
-
-abbrev pub bb : List ℕ
-bb = 0xBB ∷ []
-
-abbrev pub cc_ : List ℕ
-cc_ = 0xCC ∷ []
+-- the first user's host sends the message of this number in its block of the same index
+abbrev pub first_sends : ℕ → List ℕ → Entry
+first_sends number bytes = of_host 0 (Send 0 number ((place 0 0, block 256 number) ∷ []) bytes)
 
 -- the first user sends three messages to a process that is never started, and gives the cube back
 abbrev pub first_cube : List Entry
 first_cube =
     of_host 0 (Getcube 0 (Some (sub_at 0 0)))
-    ∷ of_host 0 (Send 0 0 ((place 0 0, block 256 0) ∷ []) aa)
-    ∷ of_host 0 (Send 0 1 ((place 0 0, block 256 1) ∷ []) bb)
-    ∷ of_host 0 (Send 0 2 ((place 0 0, block 256 2) ∷ []) cc_)
+    ∷ first_sends 0 aa
+    ∷ first_sends 1 bb
+    ∷ first_sends 2 cc_
     ∷ of_host 0 Drain
     ∷ of_host 0 Freecube
     ∷ []
@@ -46,18 +41,18 @@ second_cube =
     of_host 1 (Getcube 0 (Some (sub_at 0 0)))
     ∷ of_host 1 (Spawn 0 0 (place 0 0) true)
     ∷ of_host 1 (Arm 10)
-    ∷ of_node 1 0 (Take 0 0 None (Start 0 0))
-    ∷ of_node 1 0 (Take 1 0 None Idle)
+    ∷ of_actor 1 0 (Take 0 0 None (Start 0 0))
+    ∷ of_actor 1 0 (Take 1 0 None Idle)
     ∷ of_host 1 (Look Quiet)
     ∷ []
 
 -- what the second cube's node says, at first and once it was given the start
-pub record SaysRow (image : ImageParts) : Type 0 where
+pub record HasSaidRow (image : ImageParts) : Type 0 where
   pub asks : (says (fresh 0 0 1)).call ≡ takes 0 0 None
   pub waits : (says (hears (image ∷ []) (says (fresh 0 0 1)).node (start_of 0 0))).call ≡ takes 1 0 None
 
 first_is_lawful : (image : ImageParts) → EachAfter (IsLawfulEntry (machine 0 2 image)) [] first_cube
-unfolding after view relative extract deposit subcubes first_free next_entry state hoststore sent_to taken_by waiting spawned killed mark armed dispatched parcels is_quiet answer greatest_dim greatest_count block_room process_count home_blocks host_home
+unfolding after view relative extract deposit subcubes first_free next_entry state hoststore sent_to taken_by waiting_items spawned_ids killed_ids mark allowed_dispatches made_dispatches parcels is_quiet answer greatest_dim greatest_count block_room process_count home_blocks host_home
 first_is_lawful image = (
   record { request = getcube 0; fits = (omega arith, (refl, omega arith, refl)); answer = refl },
   (
@@ -78,8 +73,8 @@ first_is_lawful image = (
   ),
 )
 
-second_is_lawful : (image : ImageParts) → SaysRow image → EachAfter (IsLawfulEntry (machine 0 2 image)) first_cube second_cube
-unfolding after view relative extract deposit subcubes first_free next_entry state hoststore sent_to taken_by waiting spawned killed mark armed dispatched parcels is_quiet answer greatest_dim greatest_count block_room process_count home_blocks host_home
+second_is_lawful : (image : ImageParts) → HasSaidRow image → EachAfter (IsLawfulEntry (machine 0 2 image)) first_cube second_cube
+unfolding after view relative extract deposit subcubes first_free next_entry state hoststore sent_to taken_by waiting_items spawned_ids killed_ids mark allowed_dispatches made_dispatches parcels is_quiet answer greatest_dim greatest_count block_room process_count home_blocks host_home
 second_is_lawful image h = (
   record { request = getcube 0; fits = (omega arith, (refl, omega arith, refl)); answer = refl },
   (
@@ -100,20 +95,20 @@ second_is_lawful image h = (
   ),
 )
 
-pub row_is_lawful : (image : ImageParts) → SaysRow image → IsLawful (machine 0 2 image) (first_cube ++ second_cube)
+pub row_is_lawful : (image : ImageParts) → HasSaidRow image → IsLawful (machine 0 2 image) (first_cube ++ second_cube)
 row_is_lawful image h = each_joined (IsLawfulEntry (machine 0 2 image)) [] first_cube second_cube (first_is_lawful image) (second_is_lawful image h)
 
 -- the traces of the two cubes: the second one has no mail of the first
 pub first_view :
     view (first_cube ++ second_cube) 0
-    ≡ of_host 0 (Send 0 0 ((place 0 0, block 256 0) ∷ []) aa) ∷ of_host 0 (Send 0 1 ((place 0 0, block 256 1) ∷ []) bb)
-    ∷ of_host 0 (Send 0 2 ((place 0 0, block 256 2) ∷ []) cc_) ∷ []
+    ≡ first_sends 0 aa ∷ first_sends 1 bb
+    ∷ first_sends 2 cc_ ∷ []
 unfolding view relative extract host_home greatest_dim
 first_view = refl
 
 pub second_view :
     view (first_cube ++ second_cube) 1
-    ≡ of_host 1 (Spawn 0 0 (place 0 0) true) ∷ of_host 1 (Arm 10) ∷ of_node 1 0 (Take 0 0 None (Start 0 0)) ∷ of_node 1 0 (Take 1 0 None Idle)
+    ≡ of_host 1 (Spawn 0 0 (place 0 0) true) ∷ of_host 1 (Arm 10) ∷ of_actor 1 0 (Take 0 0 None (Start 0 0)) ∷ of_actor 1 0 (Take 1 0 None Idle)
     ∷ of_host 1 (Look Quiet) ∷ []
 unfolding view relative extract host_home greatest_dim
 second_view = refl

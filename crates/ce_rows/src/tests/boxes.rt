@@ -5,36 +5,8 @@ ghost use Rattle.ce_daemon.specs.Boxes.{AreBoxes};
 use ce_daemon::Homed;
 use ce_model::GREATEST_BLOCKS;
 use rk_node::NodeBox;
-use std::alloc::{AllocError, Global};
+use std::alloc::Global;
 use std::test::Fail;
-
-// A box that knows its home and is always clean.
-#[derive(Debug, Drop)]
-pub(crate) struct Plain {
-    home: u32,
-}
-
-impl Homed for Plain {
-    ghost use Rattle.std.specs.Prelude.{⊤};
-
-    ghost home = { λ one. one.home };
-
-    ghost clean = { λ _. ⊤ };
-
-    fn home(&self) -> u32 {
-        self.home
-    }
-}
-
-// The box of a machine of one node.
-pub(crate) fn plain_boxes(alloc: Global) -> Result<Vec<Plain>, AllocError>
-    ensures { IfOk result (λ made. AreBoxes ⟦<Plain as Homed>⟧.home ⟦<Plain as Homed>⟧.clean
-        (2 ^ 0) (λ node. node) made.items) }
-{
-    let mut all = Vec::new(alloc);
-    all.push(Plain { home: 0 })?;
-    Ok(all)
-}
 
 // The nodes of a machine, in boxes.
 #[tactic(auto, using(ce_model::specs::Limits::greatest_blocks_lem))]

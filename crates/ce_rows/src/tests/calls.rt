@@ -1,4 +1,4 @@
-ghost use Rattle.std.specs.Prelude.{◌≡◌, [], ◌∷◌, IfOk};
+ghost use Rattle.std.specs.Prelude.{◌≡◌, [], ◌∷◌, Result, IfOk};
 ghost use Rattle.ce_model.specs.declared.topology.TheConstants.{HOST};
 ghost use Rattle.ce_model.specs.Node.{sends, host_place};
 ghost use Rattle.ce_model.specs.Machine.{in_cube};
@@ -16,24 +16,31 @@ use std::alloc::Global;
 use std::test::Fail;
 use xm_block::Block;
 
-// A user's host.
-fn host(user: u32) -> Who
-    ensures { result ≡ record { family = user; actor = HOST } }
-{
-    Who {
-        family: user,
-        actor: HOST,
-    }
+// Who makes a call, and the call.
+#[derive(Drop)]
+pub(crate) struct Made<N: Homed> {
+    pub(crate) who: Who,
+    pub(crate) call: Call<N>,
 }
 
-// A node that a user holds.
-fn node(user: u32, node: u32) -> Who
-    ensures { result ≡ record { family = user; actor = node } }
+// A call of a user's host.
+fn by_host<N: Homed>(user: u32, call: Call<N>) -> Result<Made<N>, Fail>
+    ensures { result
+        ≡ Result.Ok (record { who = record { family = user; actor = HOST }; call = call }) }
 {
-    Who {
+    by_node(user, HOST, call)
+}
+
+// A call of a node that a user holds.
+fn by_node<N: Homed>(user: u32, node: u32, call: Call<N>) -> Result<Made<N>, Fail>
+    ensures { result
+        ≡ Result.Ok (record { who = record { family = user; actor = node }; call = call }) }
+{
+    let who = Who {
         family: user,
         actor: node,
-    }
+    };
+    Ok(Made { who, call })
 }
 
 // A message of one block of this home to a place.
@@ -120,38 +127,16 @@ fn note<N: Homed>() -> Call<N>
     Call::Say(Say::Note { pid: 0, word: 42 })
 }
 
-// Who makes a call, and the call.
-#[derive(Drop)]
-pub(crate) struct Made<N: Homed> {
-    pub(crate) who: Who,
-    pub(crate) call: Call<N>,
-}
-
 // A call of the row of the next owner, but the one that brings boxes.
 fn next_owner_call<N: Homed>(alloc: Global, count: usize) -> Result<Made<N>, Fail>
     ensures { IfOk result (λ made. IsCallAt WorkedRow.NextOwner count made.who made.call) }
 {
     match count {
-        0 => Ok(Made {
-            who: host(0),
-            call: Call::Getcube { dim: 0 },
-        }),
-        1 => Ok(Made {
-            who: host(0),
-            call: host_sends(alloc, Place { node: 0, pid: 0 }, 0)?,
-        }),
-        2 => Ok(Made {
-            who: host(0),
-            call: Call::Drain,
-        }),
-        4 => Ok(Made {
-            who: host(1),
-            call: Call::Getcube { dim: 0 },
-        }),
-        5 => Ok(Made {
-            who: node(1, 0),
-            call: take(0, 0, None),
-        }),
+        0 => by_host(0, Call::Getcube { dim: 0 }),
+        1 => by_host(0, host_sends(alloc, Place { node: 0, pid: 0 }, 0)?),
+        2 => by_host(0, Call::Drain),
+        4 => by_host(1, Call::Getcube { dim: 0 }),
+        5 => by_node(1, 0, take(0, 0, None)),
         _ => Err(Fail::from("no such call")),
     }
 }
@@ -161,50 +146,17 @@ fn replies_call<N: Homed>(alloc: Global, count: usize) -> Result<Made<N>, Fail>
     ensures { IfOk result (λ made. IsCallAt WorkedRow.Replies count made.who made.call) }
 {
     match count {
-        0 => Ok(Made {
-            who: host(1),
-            call: Call::Peek,
-        }),
-        1 => Ok(Made {
-            who: host(0),
-            call: Call::Getcube { dim: 0 },
-        }),
-        2 => Ok(Made {
-            who: host(1),
-            call: Call::Getcube { dim: 0 },
-        }),
-        3 | 7 | 10 => Ok(Made {
-            who: host(0),
-            call: Call::Look,
-        }),
-        4 | 11 | 12 => Ok(Made {
-            who: host(0),
-            call: kill(),
-        }),
-        5 | 6 => Ok(Made {
-            who: host(0),
-            call: spawn(0),
-        }),
-        8 | 15 => Ok(Made {
-            who: node(0, 0),
-            call: take(0, 0, None),
-        }),
-        9 => Ok(Made {
-            who: host(0),
-            call: Call::Arm { count: 3 },
-        }),
-        13 => Ok(Made {
-            who: host(0),
-            call: host_sends(alloc, Place { node: 0, pid: 0 }, 0)?,
-        }),
-        14 => Ok(Made {
-            who: host(0),
-            call: Call::HostTake,
-        }),
-        16 => Ok(Made {
-            who: host(0),
-            call: Call::Drain,
-        }),
+        0 => by_host(1, Call::Peek),
+        1 => by_host(0, Call::Getcube { dim: 0 }),
+        2 => by_host(1, Call::Getcube { dim: 0 }),
+        3 | 7 | 10 => by_host(0, Call::Look),
+        4 | 11 | 12 => by_host(0, kill()),
+        5 | 6 => by_host(0, spawn(0)),
+        8 | 15 => by_node(0, 0, take(0, 0, None)),
+        9 => by_host(0, Call::Arm { count: 3 }),
+        13 => by_host(0, host_sends(alloc, Place { node: 0, pid: 0 }, 0)?),
+        14 => by_host(0, Call::HostTake),
+        16 => by_host(0, Call::Drain),
         _ => Err(Fail::from("no such call")),
     }
 }
@@ -214,50 +166,17 @@ fn told_call<N: Homed>(alloc: Global, count: usize) -> Result<Made<N>, Fail>
     ensures { IfOk result (λ made. IsCallAt WorkedRow.Told count made.who made.call) }
 {
     match count {
-        0 => Ok(Made {
-            who: host(0),
-            call: Call::Getcube { dim: 0 },
-        }),
-        1 => Ok(Made {
-            who: host(0),
-            call: spawn(0),
-        }),
-        2 => Ok(Made {
-            who: host(0),
-            call: Call::Arm { count: 10 },
-        }),
-        3 => Ok(Made {
-            who: node(0, 0),
-            call: take(0, 0, None),
-        }),
-        4 => Ok(Made {
-            who: node(0, 0),
-            call: note(),
-        }),
-        5 => Ok(Made {
-            who: node(0, 0),
-            call: node_sends(alloc, 0)?,
-        }),
-        6 | 8 | 11 => Ok(Made {
-            who: node(0, 0),
-            call: take(1, 0, Some(0)),
-        }),
-        7 => Ok(Made {
-            who: host(0),
-            call: host_sends(alloc, Place { node: 0, pid: 0 }, 0)?,
-        }),
-        9 => Ok(Made {
-            who: host(0),
-            call: Call::HostTake,
-        }),
-        10 => Ok(Made {
-            who: host(0),
-            call: kill(),
-        }),
-        12 => Ok(Made {
-            who: node(0, 0),
-            call: take(0, 1, None),
-        }),
+        0 => by_host(0, Call::Getcube { dim: 0 }),
+        1 => by_host(0, spawn(0)),
+        2 => by_host(0, Call::Arm { count: 10 }),
+        3 => by_node(0, 0, take(0, 0, None)),
+        4 => by_node(0, 0, note()),
+        5 => by_node(0, 0, node_sends(alloc, 0)?),
+        6 | 8 | 11 => by_node(0, 0, take(1, 0, Some(0))),
+        7 => by_host(0, host_sends(alloc, Place { node: 0, pid: 0 }, 0)?),
+        9 => by_host(0, Call::HostTake),
+        10 => by_host(0, kill()),
+        12 => by_node(0, 0, take(0, 1, None)),
         _ => Err(Fail::from("no such call")),
     }
 }
@@ -267,46 +186,37 @@ fn drained_call<N: Homed>(alloc: Global, count: usize) -> Result<Made<N>, Fail>
     ensures { IfOk result (λ made. IsCallAt WorkedRow.Drained count made.who made.call) }
 {
     match count {
-        0 => Ok(Made {
-            who: host(0),
-            call: Call::Getcube { dim: 2 },
-        }),
-        1 => Ok(Made {
-            who: host(0),
-            call: spawn(1),
-        }),
-        2 => Ok(Made {
-            who: host(0),
-            call: Call::Arm { count: 10 },
-        }),
-        3 => Ok(Made {
-            who: node(0, 1),
-            call: take(0, 0, None),
-        }),
-        4 => Ok(Made {
-            who: node(0, 1),
-            call: note(),
-        }),
-        5 => Ok(Made {
-            who: node(0, 1),
-            call: node_sends(alloc, 1)?,
-        }),
-        6 => Ok(Made {
-            who: host(0),
-            call: host_sends(alloc, Place { node: 2, pid: 0 }, 0)?,
-        }),
-        7 => Ok(Made {
-            who: host(0),
-            call: host_sends(alloc, Place { node: 0, pid: 0 }, 1)?,
-        }),
-        8 => Ok(Made {
-            who: host(0),
-            call: host_sends(alloc, Place { node: 3, pid: 1 }, 2)?,
-        }),
-        9 => Ok(Made {
-            who: host(0),
-            call: Call::Drain,
-        }),
+        0 => by_host(0, Call::Getcube { dim: 2 }),
+        1 => by_host(0, spawn(1)),
+        2 => by_host(0, Call::Arm { count: 10 }),
+        3 => by_node(0, 1, take(0, 0, None)),
+        4 => by_node(0, 1, note()),
+        5 => by_node(0, 1, node_sends(alloc, 1)?),
+        6 => by_host(0, host_sends(alloc, Place { node: 2, pid: 0 }, 0)?),
+        7 => by_host(0, host_sends(alloc, Place { node: 0, pid: 0 }, 1)?),
+        8 => by_host(0, host_sends(alloc, Place { node: 3, pid: 1 }, 2)?),
+        9 => by_host(0, Call::Drain),
+        _ => Err(Fail::from("no such call")),
+    }
+}
+
+// A call of the row of the first cube.
+fn first_cube_call<N: Homed>(count: usize) -> Result<Made<N>, Fail>
+    ensures { IfOk result (λ made. IsCallAt WorkedRow.FirstCube count made.who made.call) }
+{
+    match count {
+        0 => by_host(1, Call::Getcube { dim: 1 }),
+        1 => by_host(0, Call::Peek),
+        _ => Err(Fail::from("no such call")),
+    }
+}
+
+// A call of the row of the greatest cube.
+fn greatest_cube_call<N: Homed>(count: usize) -> Result<Made<N>, Fail>
+    ensures { IfOk result (λ made. IsCallAt WorkedRow.GreatestCube count made.who made.call) }
+{
+    match count {
+        0 => by_host(7, Call::Getcube { dim: 6 }),
         _ => Err(Fail::from("no such call")),
     }
 }
@@ -320,6 +230,8 @@ pub(crate) fn call_at<N: Homed>(
     ensures { IfOk result (λ made. IsCallAt row count made.who made.call) }
 {
     match row {
+        WorkedRow::FirstCube => first_cube_call(count),
+        WorkedRow::GreatestCube => greatest_cube_call(count),
         WorkedRow::NextOwner => next_owner_call(alloc, count),
         WorkedRow::Replies => replies_call(alloc, count),
         WorkedRow::Told => told_call(alloc, count),

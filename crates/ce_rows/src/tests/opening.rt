@@ -55,7 +55,8 @@ fn dim_of(row: WorkedRow) -> u32
 {
     match row {
         WorkedRow::NextOwner | WorkedRow::Replies | WorkedRow::Told => 0,
-        WorkedRow::Drained => 2,
+        WorkedRow::FirstCube | WorkedRow::Drained => 2,
+        WorkedRow::GreatestCube => 6,
     }
 }
 
@@ -64,7 +65,8 @@ fn users_of(row: WorkedRow) -> u32
     ensures { result ≡ (row_of row).parts.users }
 {
     match row {
-        WorkedRow::NextOwner | WorkedRow::Replies => 2,
+        WorkedRow::FirstCube | WorkedRow::NextOwner | WorkedRow::Replies => 2,
+        WorkedRow::GreatestCube => 8,
         WorkedRow::Told | WorkedRow::Drained => 1,
     }
 }

@@ -11,7 +11,7 @@ use crate::asking::ask_in_cube;
 use ce_cube::{SerialCrew, round_serial};
 use ce_host::Answer;
 use ce_machine::{Call, Machine, Reply};
-use ce_model::{Bytes, Found, NoMemory, Place};
+use ce_model::{Bytes, LookResult, NoMemory, Place};
 use rk_node::NodeBox;
 use rv_image::Image;
 use std::alloc::Global;
@@ -34,9 +34,9 @@ pub(crate) fn run(
     allow(alloc, machine, crew, count)?;
     run_rounds(alloc, machine, images, crew)?;
     match look(alloc, machine, crew)? {
-        Found::Quiet => Ok(Answer::Quiet),
-        Found::Spent => Ok(Answer::Spent),
-        Found::Busy => unreachable!(),
+        LookResult::Quiet => Ok(Answer::Quiet),
+        LookResult::Spent => Ok(Answer::Spent),
+        LookResult::Busy => unreachable!(),
     }
 }
 
@@ -68,9 +68,9 @@ pub(crate) fn receive(
         working = round_serial(alloc, machine, crew, images)?;
     }
     match look(alloc, machine, crew)? {
-        Found::Quiet => Ok(Answer::None),
-        Found::Spent => Ok(Answer::Spent),
-        Found::Busy => unreachable!(),
+        LookResult::Quiet => Ok(Answer::None),
+        LookResult::Spent => Ok(Answer::Spent),
+        LookResult::Busy => unreachable!(),
     }
 }
 
@@ -111,15 +111,15 @@ fn look(
     alloc: Global,
     machine: &mut Machine<NodeBox>,
     crew: &mut SerialCrew,
-) -> Result<Found, NoMemory>
+) -> Result<LookResult, NoMemory>
     requires user { HasUser machine.old crew.old.grant.user }
     requires crew { IsCrewInStep machine.old.parts machine.old.history crew.old }
     ensures { IfOk result (HasLooked machine.old machine.new crew.old crew.new) }
 {
     match ask_in_cube(alloc, machine, crew, Call::Look)? {
-        Reply::Quiet => Ok(Found::Quiet),
-        Reply::Spent => Ok(Found::Spent),
-        Reply::Busy => Ok(Found::Busy),
+        Reply::Quiet => Ok(LookResult::Quiet),
+        Reply::Spent => Ok(LookResult::Spent),
+        Reply::Busy => Ok(LookResult::Busy),
         _ => unreachable!(),
     }
 }

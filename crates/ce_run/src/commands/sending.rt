@@ -4,7 +4,7 @@ ghost use Rattle.ce_model.specs.Node.{is_place};
 ghost use Rattle.ce_host.specs.declared.command.Command.TheVariants.{Kill, Send, Spawn};
 ghost use Rattle.ce_cube.specs.Crews.{IsCrewInStep};
 ghost use Rattle.rk_mail.specs.Talk.{call_said};
-ghost use Rattle.rk_mail.specs.declared.talk.Heard.TheVariants.{Posted};
+ghost use Rattle.rk_mail.specs.declared.talk.Hearing.TheVariants.{Posted};
 ghost use Rattle.ce_record.specs.Asked.{heard_reply};
 ghost use Rattle.ce_machine.specs.declared.call.Call.TheVariants as call;
 ghost use Rattle.ce_run.specs.Asking.{IsHostCall, IsStartOrEnd};
@@ -16,7 +16,7 @@ use ce_cube::SerialCrew;
 use ce_host::Answer;
 use ce_machine::{Call, Machine, Reply};
 use ce_model::{Bytes, NoMemory, PROCESS_COUNT, Place};
-use rk_mail::{Batch, Heard, Say};
+use rk_mail::{Batch, Hearing, Say};
 use rk_node::NodeBox;
 use std::alloc::Global;
 
@@ -88,12 +88,12 @@ pub(crate) fn send(
 }
 
 /// The empty batch that comes back from a message.
-fn batch_of(heard: Heard) -> Batch
+fn batch_of(heard: Hearing) -> Batch
     requires { heard ≡ Posted [] }
     ensures { result ≡ [] }
 {
     match heard {
-        Heard::Posted(batch) => batch,
+        Hearing::Posted(batch) => batch,
         _ => unreachable!(),
     }
 }
@@ -129,15 +129,15 @@ fn tell(
 }
 
 /// What a host is told that hears so of what it started or ended.
-fn answer_of_heard(heard: Heard) -> Answer
+fn answer_of_heard(heard: Hearing) -> Answer
     requires { IsSome (heard_reply heard) }
     ensures { heard_reply heard ≡ Some result }
 {
     match heard {
-        Heard::Posted(_) | Heard::Spawned | Heard::Killed => Answer::Ok,
-        Heard::Used => Answer::Used,
-        Heard::Unused => Answer::Unused,
-        Heard::Already => Answer::Already,
+        Hearing::Posted(_) | Hearing::Spawned | Hearing::Killed => Answer::Ok,
+        Hearing::Used => Answer::Used,
+        Hearing::Unused => Answer::Unused,
+        Hearing::Already => Answer::Already,
         _ => unreachable!(),
     }
 }

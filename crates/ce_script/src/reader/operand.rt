@@ -5,7 +5,7 @@ ghost use Rattle.ce_script.specs.Spellings.{number_to, data_in, greatest_number}
 ghost use Rattle.ce_script.specs.Statements.{operand};
 ghost use Rattle.ce_script.specs.Sayings.{number_at, place_at, command_by};
 ghost use Rattle.ce_script.specs.Verbs.{OldImage, is_command};
-ghost use Rattle.ce_script.specs.Faults.{first_some, refused, operand_fault};
+ghost use Rattle.ce_script.specs.Faults.{first_some, fault_where, operand_fault};
 ghost use Rattle.ce_script.specs.Sayings.{number_of};
 ghost use Rattle.ce_script.specs.Reading.{HasJudged, operands_judged};
 ghost use Rattle.ce_script.specs.ReadLines.{here_of};
@@ -24,7 +24,7 @@ use std::alloc::Global;
 #[tactic(auto, using(crate::proofs::Numbers::number_there, crate::proofs::Numbers::number_missing))]
 pub fn number(line: &WordedLine, place: usize, most: u32) -> Result<u32, ScriptKind>
     ensures { HasJudged result
-        (refused (is_none (number_to most (operand place (here_of line.now)))) BadNumber)
+        (fault_where (is_none (number_to most (operand place (here_of line.now)))) BadNumber)
         (Some (number_at place (here_of line.now))) }
 {
     match number_to(line.operand(place), most) {
@@ -37,8 +37,9 @@ pub fn number(line: &WordedLine, place: usize, most: u32) -> Result<u32, ScriptK
 fn place(line: &WordedLine, place: usize) -> Result<Place, ScriptKind>
     requires { place < 2 ^ 32 }
     ensures { HasJudged result (first_some
-        (refused (is_none (number_to greatest_number (operand place (here_of line.now)))) BadNumber
-        ∷ refused (is_none (number_to greatest_number (operand (place + 1) (here_of line.now))))
+        (fault_where (is_none (number_to greatest_number (operand place (here_of line.now))))
+        BadNumber
+        ∷ fault_where (is_none (number_to greatest_number (operand (place + 1) (here_of line.now))))
         BadNumber ∷ []))
         (Some (place_at place (here_of line.now))) }
 {
@@ -56,7 +57,7 @@ fn old_image(images: &NameIndex, word: &[u8]) -> Result<u32, ScriptKind>
     if !is_name(word) {
         return Err(ScriptKind::BadName);
     }
-    match images.place(word) {
+    match images.meaning(word) {
         Some(number) => Ok(number),
         None => Err(ScriptKind::UnknownImage),
     }
@@ -65,7 +66,7 @@ fn old_image(images: &NameIndex, word: &[u8]) -> Result<u32, ScriptKind>
 /// The bytes of a message.
 fn data(alloc: Global, line: &WordedLine, place: usize) -> Result<Bytes, ScriptKind>
     ensures { HasJudged result
-        (refused (is_none (data_in (operand place (here_of line.now)))) BadHex)
+        (fault_where (is_none (data_in (operand place (here_of line.now)))) BadHex)
         (data_in (operand place (here_of line.now))) }
 {
     match data_in(alloc, line.operand(place))? {

@@ -11,7 +11,7 @@ ghost use Rattle.ce_script.specs.Verbs.{is_command, form_of};
 ghost use Rattle.ce_script.specs.Bodies.{body_fault, image_in, fault_at};
 ghost use Rattle.ce_script.specs.Statements.{body_in, Statement};
 ghost use Rattle.ce_script.specs.Sayings.{command_by};
-ghost use Rattle.ce_script.specs.Faults.{refused, has_unknown_form};
+ghost use Rattle.ce_script.specs.Faults.{fault_where, has_unknown_form};
 ghost use Rattle.ce_script.specs.Reading.{HasJudged, HasFound, Unless, word_fault, place_fault, operands_judged, user_fault, with_name};
 ghost use Rattle.ce_script.specs.ReadLines.{line_of, here_of, lines_left, reach_of, statements_from, IsLater};
 ghost use Rattle.ce_script.specs.Places.{IsIndexOf, AreIndexed};
@@ -146,7 +146,7 @@ impl Reader {
         if !is_name(word) {
             return Err(ScriptKind::BadName);
         }
-        if let Some(number) = indexes.users.place(word) {
+        if let Some(number) = indexes.users.meaning(word) {
             self.user = Some(number);
             return Ok(());
         }
@@ -155,7 +155,7 @@ impl Reader {
             return Err(ScriptKind::TooMany);
         }
         self.script.users.push(name_of(alloc, word)?)?;
-        indexes.users.add(word, number)?;
+        indexes.users.define(word, number)?;
         self.user = Some(number);
         Ok(())
     }
@@ -192,7 +192,7 @@ impl Reader {
         if !is_name(word) {
             return Err(ScriptKind::BadName);
         }
-        if images.place(word).is_some() {
+        if images.meaning(word).is_some() {
             return Err(ScriptKind::NameTaken);
         }
         if self.script.images.len() >= GREATEST_IMAGES as usize {
@@ -252,7 +252,7 @@ impl Reader {
         let name = name_of(alloc, word)?;
         let number = self.script.images.len() as u32;
         self.script.images.push(Named { name, image })?;
-        indexes.images.add(word, number)?;
+        indexes.images.define(word, number)?;
         Ok(())
     }
 

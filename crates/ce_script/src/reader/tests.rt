@@ -2,6 +2,7 @@ use super::*;
 use crate::script::ScriptKind;
 use rv_asm::AsmKind;
 use std::alloc::{AllocError, Global};
+use std::process::Abort;
 use std::test::Fail;
 
 /// The bytes of one image in all three forms, with comments in each.
@@ -54,123 +55,155 @@ fn names_and_numbers(rt: HostRuntime) -> Result<(), Fail> {
     Ok(())
 }
 
-#[test]
-fn first_faults(rt: HostRuntime) {
-    for (text, line, kind) in [
-        // Each kind, with a later one on the same line.
-        (b"fly \xC8\n".as_slice(), 1, ScriptKind::BadByte),
-        (b"fly 1 2 3\n", 1, ScriptKind::UnknownWord),
-        (b"user\n", 1, ScriptKind::WordCount),
-        (b"run x\n", 1, ScriptKind::NoMachine),
-        (b"machine 0\nmachine x\n", 2, ScriptKind::SecondMachine),
-        (b"machine 0\nrun x\n", 2, ScriptKind::NoUser),
-        (
-            b"machine 0\nuser a\nsend x 0 abc\n",
-            3,
-            ScriptKind::BadNumber,
-        ),
-        (b"machine 0\nuser a\nspawn 1x x 0\n", 3, ScriptKind::BadName),
-        (
-            b"machine 0\nuser a\nsend 0 0 abc\nfly\n",
-            3,
-            ScriptKind::BadHex,
-        ),
-        (
-            b"machine 0\nimage x hex\n00000073\nend\nimage x hex\n",
-            5,
-            ScriptKind::NameTaken,
-        ),
-        (
-            b"machine 0\nuser a\nspawn nobody x 0\n",
-            3,
-            ScriptKind::UnknownImage,
-        ),
-        (b"machine 0\nimage x hex\n\xC8\n", 2, ScriptKind::NoEnd),
-        (
-            b"machine 0\nimage x asm\necall\naddi q, a0, 99999\nend\n",
-            4,
-            ScriptKind::Assembly(AsmKind::BadRegister),
-        ),
-        (
-            b"machine 0\nimage x hex\n00000073 zz\nz\nend\n",
-            3,
-            ScriptKind::BadImage,
-        ),
-        // A ninth user, and a word that begins nothing.
-        (
-            b"machine 0\nuser u0\nuser u1\nuser u2\nuser u3\nuser u4\nuser u5\nuser u6\nuser u7\nuser u8\n",
-            10,
-            ScriptKind::TooMany,
-        ),
-        (b"machine 0\nuser a\nfly\n", 3, ScriptKind::UnknownWord),
-        // A bad byte of a body comes before all else of the body, and behind what is wrong with the image's line.
-        (
-            b"machine 0\nimage x hex\nzz\n\xC8\nend\n",
-            4,
-            ScriptKind::BadByte,
-        ),
-        (
-            b"machine 0\nimage x rki\n00\n\xC8\nend\n",
-            4,
-            ScriptKind::BadByte,
-        ),
-        (
-            b"machine 0\nimage x asm\n.\xC8\nend\n",
-            3,
-            ScriptKind::BadByte,
-        ),
-        (
-            b"machine 0\nimage 1x hex\n\xC8\nend\n",
-            2,
-            ScriptKind::BadName,
-        ),
-        // A third word that is no form, and a line without one.
-        (b"image 1x foo bar\n", 1, ScriptKind::UnknownWord),
-        (b"image x\n", 1, ScriptKind::WordCount),
-        // Operands are judged from left to right.
-        (
-            b"machine 0\nuser a\nsend 0 x zz\n",
-            3,
-            ScriptKind::BadNumber,
-        ),
-        // What ends a body, and what doesn't.
-        (b"machine 0\nend\n", 2, ScriptKind::UnknownWord),
-        (
-            b"machine 0\nimage x hex\nend end\nend:\nend\n",
-            3,
-            ScriptKind::BadImage,
-        ),
-        (
-            b"machine 0\nimage x asm\nend # text\n",
-            2,
-            ScriptKind::Assembly(AsmKind::Entry),
-        ),
-        (
-            b"machine 0\nimage x rki\n00\nend\n",
-            2,
-            ScriptKind::BadImage,
-        ),
-        // Numbers that are too large or too long.
-        (b"machine 7\n", 1, ScriptKind::BadNumber),
-        (b"machine 00000000000\n", 1, ScriptKind::BadNumber),
-        (
-            b"machine 0\nuser a\ndump 4294967296 0\n",
-            3,
-            ScriptKind::BadNumber,
-        ),
-        (
-            b"machine 0\nuser a\nrun 1000001\n",
-            3,
-            ScriptKind::BadNumber,
-        ),
-    ] {
+/// Each text has this first fault.
+fn have_faults(rt: &impl Abort, alloc: Global, rows: &[(&[u8], u32, ScriptKind)]) {
+    for (text, line, kind) in rows {
+        let (line, kind) = (*line, *kind);
         assert!(rt; text.len() < 1_000);
         assert_eq!(rt;
-            read_script(rt.alloc(), text).err(),
+            read_script(alloc, text).err(),
             Some(ScriptFault { line, kind }),
             "{text:?}"
         );
     }
+}
+
+/// Each kind, with a later one on the same line or behind it.
+#[test]
+fn kinds_of_faults(rt: HostRuntime) {
+    have_faults(
+        &rt,
+        rt.alloc(),
+        &[
+            (b"fly \xC8\n", 1, ScriptKind::BadByte),
+            (b"fly 1 2 3\n", 1, ScriptKind::UnknownWord),
+            (b"user\n", 1, ScriptKind::WordCount),
+            (b"run x\n", 1, ScriptKind::NoMachine),
+            (b"machine 0\nmachine x\n", 2, ScriptKind::SecondMachine),
+            (b"machine 0\nrun x\n", 2, ScriptKind::NoUser),
+            (
+                b"machine 0\nuser a\nsend x 0 abc\n",
+                3,
+                ScriptKind::BadNumber,
+            ),
+            (b"machine 0\nuser a\nspawn 1x x 0\n", 3, ScriptKind::BadName),
+            (
+                b"machine 0\nuser a\nsend 0 0 abc\nfly\n",
+                3,
+                ScriptKind::BadHex,
+            ),
+            (
+                b"machine 0\nimage x hex\n00000073\nend\nimage x hex\n",
+                5,
+                ScriptKind::NameTaken,
+            ),
+            (
+                b"machine 0\nuser a\nspawn nobody x 0\n",
+                3,
+                ScriptKind::UnknownImage,
+            ),
+            (b"machine 0\nimage x hex\n\xC8\n", 2, ScriptKind::NoEnd),
+            (
+                b"machine 0\nimage x asm\necall\naddi q, a0, 99999\nend\n",
+                4,
+                ScriptKind::Assembly(AsmKind::BadRegister),
+            ),
+            (
+                b"machine 0\nimage x hex\n00000073 zz\nz\nend\n",
+                3,
+                ScriptKind::BadImage,
+            ),
+        ],
+    );
+}
+
+/// Lines outside of bodies.
+#[test]
+fn faults_of_lines(rt: HostRuntime) {
+    have_faults(
+        &rt,
+        rt.alloc(),
+        &[
+            // A ninth user, and a word that begins nothing.
+            (
+                b"machine 0\nuser u0\nuser u1\nuser u2\nuser u3\nuser u4\nuser u5\nuser u6\nuser u7\nuser u8\n",
+                10,
+                ScriptKind::TooMany,
+            ),
+            (b"machine 0\nuser a\nfly\n", 3, ScriptKind::UnknownWord),
+            // A third word that is no form, and a line without one.
+            (b"image 1x foo bar\n", 1, ScriptKind::UnknownWord),
+            (b"image x\n", 1, ScriptKind::WordCount),
+            // Operands are judged from left to right.
+            (
+                b"machine 0\nuser a\nsend 0 x zz\n",
+                3,
+                ScriptKind::BadNumber,
+            ),
+            // Numbers that are too large or too long.
+            (b"machine 7\n", 1, ScriptKind::BadNumber),
+            (b"machine 00000000000\n", 1, ScriptKind::BadNumber),
+            (
+                b"machine 0\nuser a\ndump 4294967296 0\n",
+                3,
+                ScriptKind::BadNumber,
+            ),
+            (
+                b"machine 0\nuser a\nrun 1000001\n",
+                3,
+                ScriptKind::BadNumber,
+            ),
+        ],
+    );
+}
+
+/// Bodies of images, and what ends them.
+#[test]
+fn faults_of_bodies(rt: HostRuntime) {
+    have_faults(
+        &rt,
+        rt.alloc(),
+        &[
+            // A bad byte of a body comes before all else of the body, and behind what is wrong with the image's line.
+            (
+                b"machine 0\nimage x hex\nzz\n\xC8\nend\n",
+                4,
+                ScriptKind::BadByte,
+            ),
+            (
+                b"machine 0\nimage x rki\n00\n\xC8\nend\n",
+                4,
+                ScriptKind::BadByte,
+            ),
+            (
+                b"machine 0\nimage x asm\n.\xC8\nend\n",
+                3,
+                ScriptKind::BadByte,
+            ),
+            (
+                b"machine 0\nimage 1x hex\n\xC8\nend\n",
+                2,
+                ScriptKind::BadName,
+            ),
+            // What ends a body, and what doesn't.
+            (b"machine 0\nend\n", 2, ScriptKind::UnknownWord),
+            (
+                b"machine 0\nimage x hex\nend end\nend:\nend\n",
+                3,
+                ScriptKind::BadImage,
+            ),
+            (
+                b"machine 0\nimage x asm\nend # text\n",
+                2,
+                ScriptKind::Assembly(AsmKind::Entry),
+            ),
+            (
+                b"machine 0\nimage x rki\n00\nend\n",
+                2,
+                ScriptKind::BadImage,
+            ),
+        ],
+    );
 }
 
 /// A script of 64 images, and the line of one more, which lacks its end.

@@ -8,7 +8,7 @@ use Rattle.ce_model.specs.declared.entry.What.TheVariants.{Look, HostTake, Send,
 use Rattle.ce_model.specs.Parcels.{Item, start, mail, kill, is_eligible}
 use Rattle.ce_model.specs.Node.{Call, takes, sends, spawns, kills, notes, arms, looks, takes_mail}
 use Rattle.ce_model.specs.Trace.{NodeRecord, Standing}
-use Rattle.ce_model.specs.Answers.{is_used_up, offered, is_among, kill_found, is_quiet_node, is_quiet, found_where, first_number, answer}
+use Rattle.ce_model.specs.Answers.{is_used_up, offer_of, is_among, kill_found, is_quiet_node, is_quiet, found_where, first_number, answer}
 use Rattle.ce_model.specs.Cube.{node_numbers}
 use Rattle.ce_model.specs.Subcubes.{node_of}
 use Rattle.ce_model.specs.Renaming.{CubeGrant, place_outward, block_outward, number_outward, targets_renamed, item_with, record_with, call_with}
@@ -36,7 +36,7 @@ module _ (rename : BlockId → BlockId) where
       (found_of (is_eligible asking dead item) item (find (is_eligible asking dead) items) (find (is_eligible asking dead) (map (item_with rename) items))
       (find-renamed asking dead items))
 
-  pub offered-renamed : (found : Option Item) (poller : Option ℕ) (used : Bool) → offered (option_map (item_with rename) found) poller used ≡ offered found poller used
+  pub offered-renamed : (found : Option Item) (poller : Option ℕ) (used : Bool) → offer_of (option_map (item_with rename) found) poller used ≡ offer_of found poller used
   offered-renamed (Some (start pid image)) poller used = refl
   offered-renamed (Some (mail parcel)) poller used = refl
   offered-renamed (Some (kill pid)) poller used = refl
@@ -110,8 +110,8 @@ module _ (dim : ℕ) (grant : CubeGrant) (of : IsPlaced dim grant) (there here :
       ≡ what_outward grant (answer (node_numbers grant.dim) here n call)
   unfolding answer
   answer-outward n (takes asking dead poller) num in_cube =
-      ap₂ (λ items used. Take asking dead poller (offered (find (is_eligible asking dead) items) poller used)) (waiting-outward n num) used-outward
-      ∙ ap (λ found. Take asking dead poller (offered found poller (is_used_up here))) (find-renamed (block_outward grant) asking dead (here.node_record n).waiting)
+      ap₂ (λ items used. Take asking dead poller (offer_of (find (is_eligible asking dead) items) poller used)) (waiting-outward n num) used-outward
+      ∙ ap (λ found. Take asking dead poller (offer_of found poller (is_used_up here))) (find-renamed (block_outward grant) asking dead (here.node_record n).waiting)
       ∙ ap (Take asking dead poller) (offered-renamed (block_outward grant) (find (is_eligible asking dead) (here.node_record n).waiting) poller (is_used_up here))
   answer-outward n (sends pid to bytes) num in_cube =
       ap₂ (λ count to. Send pid count to bytes) is.parcel_count (both_renamed (place_outward grant.sub) (block_outward grant) to)

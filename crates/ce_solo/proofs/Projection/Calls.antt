@@ -4,7 +4,7 @@ use Rattle.std.specs.List.{AllByRecursion}
 use Rattle.std.proofs.lemmas.Bool.{and_parts, or_cases}
 use Rattle.ce_model.specs.declared.topology.Place.{Place}
 use Rattle.ce_model.specs.declared.topology.BlockId.{BlockId}
-use Rattle.ce_model.specs.Node.{Node, Call, takes, sends, spawns, kills, notes, arms, looks, takes_mail, is_place, is_host_place}
+use Rattle.ce_model.specs.Node.{Node, Call, sends, spawns, kills, arms, looks, takes_mail, is_place, is_host_place}
 use Rattle.ce_model.specs.Kernel.{is_target}
 use Rattle.ce_model.specs.Answers.{answer}
 use Rattle.ce_model.specs.Cube.{Cube, CubeState, IsCube, HostCall, send_bytes, start_image, end_process, allow, look_round, take_message, host_call, node_numbers}
@@ -13,10 +13,10 @@ use Rattle.ce_model.specs.Owners.{IsBlockOf}
 use Rattle.ce_model.specs.Sound.{IsSound}
 use Rattle.ce_solo.proofs.Counting.{count, count-nil, count-cons, hit, sum_run-part}
 use Rattle.ce_solo.proofs.Totals.{total-is, at_node-is, at_node}
-use Rattle.ce_solo.proofs.Words.{Leaves}
+use Rattle.ce_solo.proofs.Words.{HasMadeCall}
 use Rattle.ce_solo.proofs.Sending.{place_parts, is_host}
 use Rattle.ce_solo.proofs.Room.{held_blocks}
-use Rattle.ce_solo.proofs.Made.{Made, by_host, by_node, made-leaves}
+use Rattle.ce_solo.proofs.Made.{IsMadeCall, by_host, by_node, made-leaves}
 use Rattle.ce_solo.proofs.Projection.Numbers.{IsNumber, IsWhatOf}
 use Rattle.ce_solo.proofs.Projection.Answers.{IsCallIn}
 
@@ -28,14 +28,9 @@ IsCallWithin d (kills pid to) = to.node < 2 ^ d
 IsCallWithin d other = Unit {0}
 
 pub call-in : (d : ℕ) (call : Call) → IsCallWithin d call → IsCallIn d call
-call-in d (sends pid to bytes) is = tt
 call-in d (spawns pid image to) is = is
 call-in d (kills pid to) is = is
-call-in d (takes asking dead poller) is = tt
-call-in d (notes pid word) is = tt
-call-in d (arms count) is = tt
-call-in d looks is = tt
-call-in d takes_mail is = tt
+call-in d other is = tt
 
 both_all : (P : Place → Type 0) (Q : BlockId → Type 0) (to : List (Place × BlockId)) → AllByRecursion (λ target. P target.0) to
     → AllByRecursion Q (map (λ target. target.1) to) → AllByRecursion (λ target. P target.0 × Q target.1) to
@@ -56,7 +51,7 @@ targets_numbers node d (target ∷ to) same all =
     (target_number d target.0 (subst (λ d. (is_place d target.0 || is_host_place target.0) ≡ true) same all.0), targets_numbers node d to same all.1)
 
 module _ (cube : Cube) (s : CubeState) (of : IsCube cube) (sound : IsSound cube s) where
-  node-within : (r : ℕ) (call : Call) → r < 2 ^ cube.dim → Leaves (s.node r) (says (s.node r)).node call → IsCallWithin cube.dim call
+  node-within : (r : ℕ) (call : Call) → r < 2 ^ cube.dim → HasMadeCall (s.node r) (says (s.node r)).node call → IsCallWithin cube.dim call
   node-within r (sends pid to bytes) below said =
       both_all (λ place. IsNumber cube.dim place.node) (IsBlockOf cube.dim) to
       (targets_numbers (says (s.node r)).node cube.dim to (said.became.dim ∙ (sound.nodes r below).dim) said.of_node)
@@ -66,11 +61,7 @@ module _ (cube : Cube) (s : CubeState) (of : IsCube cube) (sound : IsSound cube 
       (place_parts cube.dim to (subst (λ dim. is_place dim to ≡ true) (said.became.dim ∙ (sound.nodes r below).dim) said.of_node.1)).0
   node-within r (kills pid to) below said =
       (place_parts cube.dim to (subst (λ dim. is_place dim to ≡ true) (said.became.dim ∙ (sound.nodes r below).dim) said.of_node)).0
-  node-within r (takes asking dead poller) below said = tt
-  node-within r (notes pid word) below said = tt
-  node-within r (arms count) below said = tt
-  node-within r looks below said = tt
-  node-within r takes_mail below said = tt
+  node-within r other below said = tt
 
   within_of : (x y : Call) → Some x ≡ Some y → IsCallWithin cube.dim x → IsCallWithin cube.dim y
   within_of x y e is = let same : x ≡ y = cc in subst (IsCallWithin cube.dim) same is
@@ -108,11 +99,11 @@ module _ (cube : Cube) (s : CubeState) (of : IsCube cube) (sound : IsSound cube 
   asked-within None call e = absurd (cc)
   asked-within (Some asked) call e = host-within asked call e
 
-  pub made-within : (actor : ℕ) (asked : Option HostCall) (call : Call) → Made cube s actor asked call → IsCallWithin cube.dim call
+  pub made-within : (actor : ℕ) (asked : Option HostCall) (call : Call) → IsMadeCall cube s actor asked call → IsCallWithin cube.dim call
   made-within actor asked call (by_host is e) = asked-within asked call e
   made-within actor asked call (by_node below e) = node-within actor call below (made-leaves cube s actor call of below sound e)
 
-  pub made-number : (actor : ℕ) (asked : Option HostCall) (call : Call) → Made cube s actor asked call → IsNumber cube.dim actor
+  pub made-number : (actor : ℕ) (asked : Option HostCall) (call : Call) → IsMadeCall cube s actor asked call → IsNumber cube.dim actor
   made-number actor asked call (by_host is e) = inr is
   made-number actor asked call (by_node below e) = inl below
 
@@ -121,8 +112,4 @@ module _ (cube : Cube) (s : CubeState) (of : IsCube cube) (sound : IsSound cube 
   what-within actor (sends pid to bytes) is = is
   what-within actor (spawns pid image to) is = is
   what-within actor (kills pid to) is = is
-  what-within actor (takes asking dead poller) is = tt
-  what-within actor (notes pid word) is = tt
-  what-within actor (arms count) is = tt
-  what-within actor looks is = tt
-  what-within actor takes_mail is = tt
+  what-within actor other is = tt

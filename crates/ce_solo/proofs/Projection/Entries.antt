@@ -9,8 +9,8 @@ use Rattle.ce_model.specs.declared.entry.Entry.{Entry}
 use Rattle.ce_model.specs.declared.entry.What.{What}
 use Rattle.ce_model.specs.declared.entry.What.TheVariants.{Send, Spawn, Kill}
 use Rattle.ce_model.specs.declared.entry.KillFound.TheVariants.{Killed, Unused, Already}
-use Rattle.ce_model.specs.declared.entry.Given.{Given}
-use Rattle.ce_model.specs.declared.entry.Given.TheVariants.{Start, Mail, Kill as GivenKill, Poll, Idle, Spent}
+use Rattle.ce_model.specs.declared.entry.TakeResult.{TakeResult}
+use Rattle.ce_model.specs.declared.entry.TakeResult.TheVariants.{Start, Mail, Kill as GivenKill, Poll, Idle, Spent}
 use Rattle.ce_model.specs.Lists.{without_first}
 use Rattle.ce_model.specs.Parcels.{Parcel, Item, start, mail, kill, is_named_by, item_id, parcels_from}
 use Rattle.ce_model.specs.Trace.{NodeRecord, Mark, items_to, starts_in, kills_in, mails_in, taken_in, spawned_in, killed_in, parcels_of, armed_by, dispatched_by, marked_by}
@@ -152,7 +152,7 @@ module _ (dim : ℕ) (grant : CubeGrant) (of : IsPlaced dim grant) where
 
 -- ---- what an entry takes
 
-named-renamed : (rename : BlockId → BlockId) (given : Given) (item : Item) → is_named_by given (item_with rename item) ≡ is_named_by given item
+named-renamed : (rename : BlockId → BlockId) (given : TakeResult) (item : Item) → is_named_by given (item_with rename item) ≡ is_named_by given item
 named-renamed rename given (start pid image) = refl
 named-renamed rename (Start pid image) (mail parcel) = refl
 named-renamed rename (Mail pid number) (mail parcel) = refl
@@ -162,7 +162,7 @@ named-renamed rename Idle (mail parcel) = refl
 named-renamed rename Spent (mail parcel) = refl
 named-renamed rename given (kill pid) = refl
 
-first_out : (rename : BlockId → BlockId) (given : Given) (items : List Item) → count_by (is_named_by given) items ≤ 1
+first_out : (rename : BlockId → BlockId) (given : TakeResult) (items : List Item) → count_by (is_named_by given) items ≤ 1
     → without_first (is_named_by given) (map (item_with rename) items) ≡ map (item_with rename) (filter (λ item. not (is_named_by given item)) items)
 first_out rename given [] once = refl
 first_out rename given (item ∷ items) once =
@@ -180,13 +180,13 @@ module _ (dim : ℕ) (grant : CubeGrant) (of : IsPlaced dim grant) (entry : Entr
   own_test : (n : ℕ) → IsNumber grant.dim n → ((entry_outward grant entry).actor == number_outward grant.sub n) ≡ (entry.actor == n)
   own_test n of_n = out_test dim grant of entry.actor n actor of_n
 
-  by_own : (b : Bool) (taken : Option Given) (items : List Item)
+  by_own : (b : Bool) (taken : Option TakeResult) (items : List Item)
       → (if b then without_taken taken items else items) ≡ without_taken (if b then taken else None) items
   by_own true taken items = refl
   by_own false taken items = refl
 
-  waiting_by_taken : (taken : Option Given) (sent waiting : List Item)
-      → ((given : Given) → taken ≡ Some given → (count_by (is_named_by given) waiting ≤ 1) × (sent ≡ []))
+  waiting_by_taken : (taken : Option TakeResult) (sent waiting : List Item)
+      → ((given : TakeResult) → taken ≡ Some given → (count_by (is_named_by given) waiting ≤ 1) × (sent ≡ []))
       → without_taken taken (outward_all grant waiting) ++ outward_all grant sent ≡ outward_all grant (waiting_after taken sent waiting)
   waiting_by_taken None sent waiting known =
       sym (map-append (item_with (block_outward grant)) waiting sent) ∙ ap (outward_all grant) (joined-is waiting sent)
@@ -195,10 +195,10 @@ module _ (dim : ℕ) (grant : CubeGrant) (of : IsPlaced dim grant) (entry : Entr
       ∙ append-nil (without_taken (Some given) (outward_all grant waiting)) ∙ first_out (block_outward grant) given waiting (known given refl).0
 
   -- what an entry takes for a node is one item that waits there, and then it sends nothing there
-  abbrev pub TakesOne : ℕ → List Item → Type 0
-  TakesOne n waiting = (given : Given) → taken_for n entry ≡ Some given → (count_by (is_named_by given) waiting ≤ 1) × (items_to n entry ≡ [])
+  abbrev pub IsOneTaken : ℕ → List Item → Type 0
+  IsOneTaken n waiting = (given : TakeResult) → taken_for n entry ≡ Some given → (count_by (is_named_by given) waiting ≤ 1) × (items_to n entry ≡ [])
 
-  pub waiting-behind : (n : ℕ) (waiting : List Item) → IsNumber grant.dim n → TakesOne n waiting
+  pub waiting-behind : (n : ℕ) (waiting : List Item) → IsNumber grant.dim n → IsOneTaken n waiting
       → waiting_by grant.sub (entry_outward grant entry) (number_outward grant.sub n) (outward_all grant waiting)
       ≡ outward_all grant (waiting_after (taken_for n entry) (items_to n entry) waiting)
   waiting-behind n waiting of_n one =
@@ -212,7 +212,7 @@ module _ (dim : ℕ) (grant : CubeGrant) (of : IsPlaced dim grant) (entry : Entr
   abbrev record_of : List Item → List ℕ → List ℕ → Mark → NodeRecord
   record_of waiting spawned killed mark = record { waiting = waiting; spawned = spawned; killed = killed; mark = mark }
 
-  pub record-behind : (n : ℕ) (kept : NodeRecord) → IsNumber grant.dim n → TakesOne n kept.waiting
+  pub record-behind : (n : ℕ) (kept : NodeRecord) → IsNumber grant.dim n → IsOneTaken n kept.waiting
       → record_by grant.sub (entry_outward grant entry) (number_outward grant.sub n) (record_with (block_outward grant) kept)
       ≡ record_with (block_outward grant) (record_after (entry.actor == n) n entry kept)
   record-behind n kept of_n one =

@@ -13,7 +13,7 @@ use Rattle.ce_model.specs.Cube.{opening, left_by, IsNext, IsAlone}
 use Rattle.ce_model.specs.Subcubes.{node_of, is_inside, first_free}
 use Rattle.ce_model.specs.Renaming.{CubeGrant}
 use Rattle.ce_model.specs.Views.{grant_in, trace_behind, from_grant, view}
-use Rattle.ce_model.specs.Machine.{MachineParts, IsMachine, HeldCube, MachineState, machine_opening, held_by, is_free, nodes_of, standing_of, cube_of, record_by, held_by_entry, with_cube, with_grant, with_drained, without_cube, changed_by, changed_by_call, after, Request, getcube, peek, drain, freecube, in_cube, with_places_outward, answered, IsCallOf, IsFitting, IsLawfulEntry, IsLawful}
+use Rattle.ce_model.specs.Machine.{MachineParts, IsMachine, HeldCube, MachineState, machine_opening, held_by, is_free, nodes_of, standing_of, cube_of, record_by, held_by_entry, with_cube, with_grant, with_drained, without_cube, changed_by, changed_by_call, after, Request, getcube, peek, drain, freecube, in_cube, with_places_outward, what_of_request, IsCallOf, IsFitting, IsLawfulEntry, IsLawful}
 use Rattle.ce_model.proofs.Subcubes.{is_inside-node_of}
 use Rattle.ce_model.proofs.Walked.{kept_by_each, each-more}
 use Rattle.ce_model.proofs.AloneByEntries.{alone_by_entries}
@@ -113,23 +113,23 @@ unfolding after
 after-more h entry = fold-append changed_by machine_opening h (entry ∷ [])
 
 -- what holds of a history and of the state that it leaves
-abbrev pub Holds : MachineParts → List Entry → Type 0
-Holds parts h = IsProjected parts (after h) h
+abbrev pub IsProjectedHistory : MachineParts → List Entry → Type 0
+IsProjectedHistory parts h = IsProjected parts (after h) h
 
 -- an entry behind a history does what it has to
-abbrev pub Steps : MachineParts → List Entry → Entry → Type 0
-Steps parts h entry = IsStep parts (after h) h entry (after (h ++ entry ∷ []))
+abbrev pub IsStepBehind : MachineParts → List Entry → Entry → Type 0
+IsStepBehind parts h entry = IsStep parts (after h) h entry (after (h ++ entry ∷ []))
 
-module _ (parts : MachineParts) (machine : IsMachine parts) (h : List Entry) (before : Holds parts h) where
-  by_step : (entry : Entry) (state : MachineState) → changed_by (after h) entry ≡ state → IsStep parts (after h) h entry state → Steps parts h entry
+module _ (parts : MachineParts) (machine : IsMachine parts) (h : List Entry) (before : IsProjectedHistory parts h) where
+  by_step : (entry : Entry) (state : MachineState) → changed_by (after h) entry ≡ state → IsStep parts (after h) h entry state → IsStepBehind parts h entry
   by_step entry state e step = subst (IsStep parts (after h) h entry) (sym (after-more h entry ∙ e)) step
 
-  by_what : (entry : Entry) (what : What) → Some what ≡ Some entry.what → Steps parts h (entry_of entry.user entry.actor what) → Steps parts h entry
+  by_what : (entry : Entry) (what : What) → Some what ≡ Some entry.what → IsStepBehind parts h (entry_of entry.user entry.actor what) → IsStepBehind parts h entry
   by_what entry what e steps =
-      let same : what ≡ entry.what = cc in subst (λ what. Steps parts h (entry_of entry.user entry.actor what)) same steps
+      let same : what ≡ entry.what = cc in subst (λ what. IsStepBehind parts h (entry_of entry.user entry.actor what)) same steps
 
   by_grant : (entry : Entry) (d : ℕ) (found : Option Subcube) → first_free (is_free (after h)) parts.dim d ≡ found → entry.user < parts.users
-      → held_by (after h) entry.user ≡ None → Some (Getcube d found) ≡ Some entry.what → Steps parts h entry
+      → held_by (after h) entry.user ≡ None → Some (Getcube d found) ≡ Some entry.what → IsStepBehind parts h entry
   by_grant entry d None is within none e =
       by_what entry (Getcube d None) e
       (by_step (entry_of entry.user entry.actor (Getcube d None)) (after h) refl
@@ -140,14 +140,14 @@ module _ (parts : MachineParts) (machine : IsMachine parts) (h : List Entry) (be
       (grant-step parts (after h) h before machine entry.user entry.actor d sub within none is))
 
   by_drain : (entry : Entry) (held : Option HeldCube) → held_by (after h) entry.user ≡ held → IsSomeAnd held (λ cube. cube.drained ≡ false)
-      → Some Drain ≡ Some entry.what → Steps parts h entry
+      → Some Drain ≡ Some entry.what → IsStepBehind parts h entry
   by_drain entry None is some e = absurd some
   by_drain entry (Some cube) is some e =
       by_what entry Drain e
       (by_step (entry_of entry.user entry.actor Drain) (with_drained entry.user (after h)) refl (drain-step parts (after h) h before entry.user entry.actor cube is))
 
   by_free : (entry : Entry) (held : Option HeldCube) → held_by (after h) entry.user ≡ held → IsSomeAnd held (λ cube. cube.drained ≡ true)
-      → Some Freecube ≡ Some entry.what → Steps parts h entry
+      → Some Freecube ≡ Some entry.what → IsStepBehind parts h entry
   by_free entry None is some e = absurd some
   by_free entry (Some cube) is some e =
       by_what entry Freecube e
@@ -169,7 +169,7 @@ module _ (parts : MachineParts) (machine : IsMachine parts) (h : List Entry) (be
 
   by_call : (entry : Entry) (call : Call) (held : Option HeldCube) → held_by (after h) entry.user ≡ held → IsSomeAnd held (IsCallOf parts h entry.actor call)
       → option_map (λ cube. answer (nodes_of cube.grant) (standing_of (after h) cube) entry.actor (with_places_outward cube.grant call)) held ≡ Some entry.what
-      → Steps parts h entry
+      → IsStepBehind parts h entry
   by_call entry call None is some e = absurd some
   by_call entry call (Some cube) is fits e =
       let own = own-called entry call cube is fits e in
@@ -177,8 +177,8 @@ module _ (parts : MachineParts) (machine : IsMachine parts) (h : List Entry) (be
       (ap (λ call. changed_by_call call entry (after h)) own.called)
       (call-step parts machine (after h) h before entry cube is fits.not_drained own)
 
-  by_request : (entry : Entry) (request : Request) → IsFitting parts h entry.user entry.actor request → answered parts (after h) entry.user entry.actor request ≡ Some entry.what
-      → Steps parts h entry
+  by_request : (entry : Entry) (request : Request) → IsFitting parts h entry.user entry.actor request → what_of_request parts (after h) entry.user entry.actor request ≡ Some entry.what
+      → IsStepBehind parts h entry
   by_request entry (getcube d) fits e = by_grant entry d (first_free (is_free (after h)) parts.dim d) refl fits.0 fits.1.2 e
   by_request entry peek fits e =
       by_what entry Peek e
@@ -188,12 +188,12 @@ module _ (parts : MachineParts) (machine : IsMachine parts) (h : List Entry) (be
   by_request entry freecube fits e = by_free entry (held_by (after h) entry.user) refl fits.1.1 e
   by_request entry (in_cube call) fits e = by_call entry call (held_by (after h) entry.user) refl fits.1 e
 
-  pub lawful-step : (entry : Entry) → IsLawfulEntry parts h entry → Steps parts h entry
+  pub lawful-step : (entry : Entry) → IsLawfulEntry parts h entry → IsStepBehind parts h entry
   lawful-step entry lawful = by_request entry lawful.request lawful.fits lawful.answer
 
 -- ---- a whole history
 
-projected-nil : (parts : MachineParts) → Holds parts []
+projected-nil : (parts : MachineParts) → IsProjectedHistory parts []
 unfolding after
 projected-nil parts = record {
   count = refl;
@@ -203,9 +203,9 @@ projected-nil parts = record {
   views = λ number grant behind found. absurd (cc);
 }
 
-pub projected : (parts : MachineParts) (history : List Entry) → IsMachine parts → IsLawful parts history → Holds parts history
+pub projected : (parts : MachineParts) (history : List Entry) → IsMachine parts → IsLawful parts history → IsProjectedHistory parts history
 projected parts history machine lawful =
-    kept_by_each (IsLawfulEntry parts) (Holds parts)
+    kept_by_each (IsLawfulEntry parts) (IsProjectedHistory parts)
     (λ h entry before is. projected-step parts (after h) (after (h ++ entry ∷ [])) h entry before (lawful-step parts machine h before entry is)) [] history
     (projected-nil parts) lawful
 

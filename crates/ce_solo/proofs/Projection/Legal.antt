@@ -11,7 +11,7 @@ use Rattle.ce_solo.proofs.Stands.{stands-front}
 use Rattle.ce_solo.proofs.Ordered.{in_order}
 use Rattle.ce_solo.proofs.Projection.Numbers.{IsPlaced}
 use Rattle.ce_solo.proofs.Projection.Own.{own_cube}
-use Rattle.ce_solo.proofs.Projection.Law.{Holds, projected, found_alone}
+use Rattle.ce_solo.proofs.Projection.Law.{IsProjectedHistory, projected, found_alone}
 
 legal : (parts : MachineParts) (grant : CubeGrant) (t : List Entry) → IsMachine parts → IsPlaced parts.dim grant → IsAlone (cube_of parts.images grant) t
     → IsLegal (cube_of parts.images grant) t
@@ -24,7 +24,7 @@ legal parts grant t machine placed alone =
       in_order cube (opening cube) t of sound alone,
     )
 
-found_legal : (parts : MachineParts) (history : List Entry) (number : ℕ) → IsMachine parts → Holds parts history → (found : Option (CubeGrant × List Entry))
+found_legal : (parts : MachineParts) (history : List Entry) (number : ℕ) → IsMachine parts → IsProjectedHistory parts history → (found : Option (CubeGrant × List Entry))
     → from_grant history number ≡ found → IfSome found (λ found. IsLegal (cube_of parts.images found.0) (view history number))
 found_legal parts history number machine all None is = tt
 found_legal parts history number machine all (Some found) is =
@@ -41,7 +41,7 @@ same_alone cube cube' t t' alone alone' cubes calls order =
     sym alone ∙ ap₂ (λ calls order. solo cube (opening cube) calls order) calls order ∙ ap (λ cube. solo cube (opening cube) (host_calls t') (actors t')) cubes ∙ alone' in
     cc
 
-found_same : (parts parts' : MachineParts) (history history' : List Entry) (number number' : ℕ) → Holds parts history → Holds parts' history'
+found_same : (parts parts' : MachineParts) (history history' : List Entry) (number number' : ℕ) → IsProjectedHistory parts history → IsProjectedHistory parts' history'
     → (found found' : Option (CubeGrant × List Entry)) → from_grant history number ≡ found → from_grant history' number' ≡ found'
     → IfSome found (λ found. IfSome found' (λ found'.
     AreSame (cube_of parts.images found.0) (cube_of parts'.images found'.0) (view history number) (view history' number')))

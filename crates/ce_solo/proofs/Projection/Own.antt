@@ -4,8 +4,8 @@ use Rattle.std.specs.List.{AllByRecursion}
 use Rattle.std.proofs.lemmas.Bool.{cases_Bool, eq-eqb, eqb-true}
 use Rattle.ce_model.specs.declared.topology.TheConstants.{HOST}
 use Rattle.ce_model.specs.declared.entry.Entry.{Entry}
-use Rattle.ce_model.specs.declared.entry.Given.{Given}
-use Rattle.ce_model.specs.declared.entry.Given.TheVariants.{Start, Mail, Kill, Poll, Idle, Spent}
+use Rattle.ce_model.specs.declared.entry.TakeResult.{TakeResult}
+use Rattle.ce_model.specs.declared.entry.TakeResult.TheVariants.{Start, Mail, Kill, Poll, Idle, Spent}
 use Rattle.ce_model.specs.Limits.{greatest_dim}
 use Rattle.ce_model.specs.Parcels.{Parcel, Item, start, mail, kill, is_named_by}
 use Rattle.ce_model.specs.Node.{Call}
@@ -24,12 +24,12 @@ use Rattle.ce_solo.proofs.Lists.{count_by-agree, count_by-none}
 use Rattle.ce_solo.proofs.Items.{named-start, named-kill, named-mail}
 use Rattle.ce_solo.proofs.Steps.{entry_in, standing_after}
 use Rattle.ce_solo.proofs.Made.{made, taking-sends_none}
-use Rattle.ce_solo.proofs.Stands.{Stands, entry_of-next, left-made, stands-each}
+use Rattle.ce_solo.proofs.Stands.{IsSoundTrace, entry_of-next, left-made, stands-each}
 use Rattle.ce_solo.proofs.Fresh.{fresh_sound}
 use Rattle.ce_solo.proofs.Projection.Numbers.{IsPlaced, IsNumber, IsWhatOf, what_outward, entry_outward, entry_in_out, out_node, out_no_host, inside_below, relative_inside, relative_host}
 use Rattle.ce_solo.proofs.Projection.Answers.{IsStandingOf, answer-outward}
 use Rattle.ce_solo.proofs.Projection.Calls.{call-in, made-within, made-number, what-within}
-use Rattle.ce_solo.proofs.Projection.Entries.{TakesOne, record-behind, waiting-behind, armed-outward, dispatched-outward, sent-outward}
+use Rattle.ce_solo.proofs.Projection.Entries.{IsOneTaken, record-behind, waiting-behind, armed-outward, dispatched-outward, sent-outward}
 use Rattle.ce_solo.proofs.Projection.Views.{trace-grows, view-is}
 use Rattle.ce_solo.proofs.Projection.Invariant.{IsKept, IsHeld, IsByEntries}
 
@@ -43,15 +43,15 @@ own_cube parts grant machine placed = record {
 -- ---- what an entry takes is one item
 
 -- where none of the items has a name, at most one has
-named_none : (given : Given) (items : List Item) → AllByRecursion (λ item. is_named_by given item ≡ false) items → count_by (is_named_by given) items ≤ 1
+named_none : (given : TakeResult) (items : List Item) → AllByRecursion (λ item. is_named_by given item ≡ false) items → count_by (is_named_by given) items ≤ 1
 named_none given items none = omega (arith, count_by-none (is_named_by given) items none)
 
-all_unnamed : (given : Given) (items : List Item) → ((item : Item) → is_named_by given item ≡ false) → AllByRecursion (λ item. is_named_by given item ≡ false) items
+all_unnamed : (given : TakeResult) (items : List Item) → ((item : Item) → is_named_by given item ≡ false) → AllByRecursion (λ item. is_named_by given item ≡ false) items
 all_unnamed given [] each = tt
 all_unnamed given (item ∷ items) each = (each item, all_unnamed given items each)
 
 -- what waits for the host is mail
-host_unnamed : (given : Given) (items : List Item) → ((parcel : Parcel) → is_named_by given (mail parcel) ≡ false) → AllByRecursion IsHostItem items
+host_unnamed : (given : TakeResult) (items : List Item) → ((parcel : Parcel) → is_named_by given (mail parcel) ≡ false) → AllByRecursion IsHostItem items
     → AllByRecursion (λ item. is_named_by given item ≡ false) items
 host_unnamed given [] each own = tt
 host_unnamed given (start pid image ∷ items) each own = absurd own.0
@@ -59,7 +59,7 @@ host_unnamed given (mail parcel ∷ items) each own = (each parcel, host_unnamed
 host_unnamed given (kill pid ∷ items) each own = absurd own.0
 
 -- at most one item that waits has this name
-node_once : (cube : Cube) (s : CubeState) (r : ℕ) (given : Given) → IsSound cube s → r < 2 ^ cube.dim
+node_once : (cube : Cube) (s : CubeState) (r : ℕ) (given : TakeResult) → IsSound cube s → r < 2 ^ cube.dim
     → count_by (is_named_by given) (s.standing.node_record r).waiting ≤ 1
 node_once cube s r (Start pid image) sound below =
     let items = (s.standing.node_record r).waiting in
@@ -72,7 +72,7 @@ node_once cube s r (Poll pid) sound below = named_none (Poll pid) _ (all_unnamed
 node_once cube s r Idle sound below = named_none Idle _ (all_unnamed Idle (s.standing.node_record r).waiting (λ item. refl))
 node_once cube s r Spent sound below = named_none Spent _ (all_unnamed Spent (s.standing.node_record r).waiting (λ item. refl))
 
-host_once : (cube : Cube) (s : CubeState) (given : Given) → IsSound cube s → count_by (is_named_by given) (s.standing.node_record HOST).waiting ≤ 1
+host_once : (cube : Cube) (s : CubeState) (given : TakeResult) → IsSound cube s → count_by (is_named_by given) (s.standing.node_record HOST).waiting ≤ 1
 host_once cube s (Start pid image) sound =
     named_none (Start pid image) _ (host_unnamed (Start pid image) (s.standing.node_record HOST).waiting (λ parcel. refl) sound.host.own)
 host_once cube s (Kill pid) sound = named_none (Kill pid) _ (host_unnamed (Kill pid) (s.standing.node_record HOST).waiting (λ parcel. refl) sound.host.own)
@@ -81,7 +81,7 @@ host_once cube s (Poll pid) sound = named_none (Poll pid) _ (all_unnamed (Poll p
 host_once cube s Idle sound = named_none Idle _ (all_unnamed Idle (s.standing.node_record HOST).waiting (λ item. refl))
 host_once cube s Spent sound = named_none Spent _ (all_unnamed Spent (s.standing.node_record HOST).waiting (λ item. refl))
 
-named_once : (cube : Cube) (s : CubeState) (n : ℕ) (given : Given) → IsSound cube s → IsNumber cube.dim n
+named_once : (cube : Cube) (s : CubeState) (n : ℕ) (given : TakeResult) → IsSound cube s → IsNumber cube.dim n
     → count_by (is_named_by given) (s.standing.node_record n).waiting ≤ 1
 named_once cube s n given sound (inl below) = node_once cube s n given sound below
 named_once cube s n given sound (inr host) =
@@ -102,7 +102,7 @@ standing-kept dim state cube here placed kept = record {
 
 kept-own : (dim : ℕ) (node_record node_record' : ℕ → NodeRecord) (cube : HeldCube) (here : Standing) (entry : Entry) (placed : IsPlaced dim cube.grant)
     (number : IsNumber cube.grant.dim entry.actor) (what : IsWhatOf cube.grant.dim entry.what)
-    → ((n : ℕ) → IsNumber cube.grant.dim n → TakesOne dim cube.grant placed entry number what n (here.node_record n).waiting)
+    → ((n : ℕ) → IsNumber cube.grant.dim n → IsOneTaken dim cube.grant placed entry number what n (here.node_record n).waiting)
     → ((r : ℕ) → r < 2 ^ cube.grant.dim → node_record' (node_of cube.grant.sub r)
     ≡ record_by cube.grant.sub (entry_outward cube.grant entry) (node_of cube.grant.sub r) (node_record (node_of cube.grant.sub r)))
     → IsKept node_record cube here → IsKept node_record' (held_by_entry (entry_outward cube.grant entry) cube) (standing_after here entry)
@@ -175,7 +175,7 @@ module _ (parts : MachineParts) (machine : IsMachine parts) (state : MachineStat
   abbrev s : CubeState
   s = left_by own (opening own) t
 
-  pub stands : Stands own (opening own) t
+  pub stands : IsSoundTrace own (opening own) t
   stands = stands-each own (opening own) t (own_cube parts cube.grant machine was.placed) (fresh_sound own (own_cube parts cube.grant machine was.placed)) alone
 
   pub own-entry : (entry : Entry) (call : Call) → entry.user ≡ cube.grant.user → IsTrue (entry.actor == HOST) ⊎ IsTrue (is_inside cube.grant.sub entry.actor)
@@ -208,7 +208,7 @@ module _ (parts : MachineParts) (machine : IsMachine parts) (state : MachineStat
       }
 
   takes-one : (inner : Entry) (number : IsNumber cube.grant.dim inner.actor) (what : IsWhatOf cube.grant.dim inner.what) → IsNext own (opening own) t inner
-      → (n : ℕ) → IsNumber cube.grant.dim n → TakesOne parts.dim cube.grant was.placed inner number what n (s.standing.node_record n).waiting
+      → (n : ℕ) → IsNumber cube.grant.dim n → IsOneTaken parts.dim cube.grant was.placed inner number what n (s.standing.node_record n).waiting
   takes-one inner number what next n of_n given taken =
       let e = entry_of-next own (opening own) t inner next in (
         named_once own s n given stands.sound of_n,

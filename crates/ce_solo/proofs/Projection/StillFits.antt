@@ -13,7 +13,7 @@ use Rattle.ce_model.specs.Cube.{Cube, CubeState, opening, asked_by, call_by, Hos
 use Rattle.ce_model.specs.Subcubes.{is_inside, relative}
 use Rattle.ce_model.specs.Renaming.{call_with, block_outward, CubeGrant, number_outward}
 use Rattle.ce_model.specs.Views.{trace_behind, view}
-use Rattle.ce_model.specs.Machine.{MachineParts, IsMachine, HeldCube, held_by, nodes_of, standing_of, with_places_outward, record_by, held_by_entry, with_cube, changed_by, changed_by_call, cube_of, after, Request, getcube, peek, drain, freecube, in_cube, is_alone, answered, IsCallOf, IsFittingIn, IsFitting, IsLawfulEntry}
+use Rattle.ce_model.specs.Machine.{MachineParts, IsMachine, HeldCube, held_by, nodes_of, standing_of, with_places_outward, record_by, held_by_entry, with_cube, changed_by, changed_by_call, cube_of, after, Request, getcube, peek, drain, freecube, in_cube, is_alone, what_of_request, IsCallOf, IsFittingIn, IsFitting, IsLawfulEntry}
 use Rattle.ce_model.proofs.OneMore.{state-more, hoststore-more}
 use Rattle.ce_solo.specs.Laws.{IsForeign, StillFits}
 use Rattle.ce_solo.proofs.Projection.Views.{found-more, trace-stays, view-is}
@@ -21,7 +21,7 @@ use Rattle.ce_solo.proofs.Projection.Held.{held-user, held-own}
 use Rattle.ce_solo.proofs.Projection.Invariant.{IsHeld}
 use Rattle.ce_solo.proofs.Projection.Own.{IsOwnEntry, actor_back, trace-behind}
 use Rattle.ce_solo.proofs.Projection.Kinds.{and_false}
-use Rattle.ce_solo.proofs.Projection.Law.{Holds, after-more, projected, own-called, lawful-step}
+use Rattle.ce_solo.proofs.Projection.Law.{IsProjectedHistory, after-more, projected, own-called, lawful-step}
 
 -- ---- the calls of others
 
@@ -74,7 +74,7 @@ call_of-kept parts h h' actor call cube cube' grant drained same of = record {
   not_drained = drained ∙ of.not_drained;
 }
 
-module _ (parts : MachineParts) (machine : IsMachine parts) (h : List Entry) (before : Holds parts h) (entry : Entry) (user actor : ℕ) where
+module _ (parts : MachineParts) (machine : IsMachine parts) (h : List Entry) (before : IsProjectedHistory parts h) (entry : Entry) (user actor : ℕ) where
   abbrev h' : List Entry
   h' = h ++ entry ∷ []
 
@@ -158,7 +158,7 @@ module _ (parts : MachineParts) (machine : IsMachine parts) (h : List Entry) (be
       fits-quiet request (ap (λ state. held_by state user) (after-more h entry ∙ ap (λ what. changed_by (after h) (record { user = entry.user; actor = entry.actor; what = what })) (same ∙ sym is)))
       (and_false _ _ (ap is_some call)) fits
 
-  by_asked : (request asked : Request) → IsFitting parts h entry.user entry.actor asked → answered parts (after h) entry.user entry.actor asked ≡ Some entry.what
+  by_asked : (request asked : Request) → IsFitting parts h entry.user entry.actor asked → what_of_request parts (after h) entry.user entry.actor asked ≡ Some entry.what
       → is_alone asked ≡ false → entry.user ≡ user → (entry.actor == actor) ≡ false → IsFittingIn parts h user actor request → IsFittingIn parts h' user actor request
   by_asked request (getcube d) of e beside same other fits = absurd (cc)
   by_asked request drain of e beside same other fits = absurd (cc)

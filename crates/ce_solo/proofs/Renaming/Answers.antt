@@ -6,10 +6,10 @@ use Rattle.rv_model.specs.declared.stop.Stop.TheVariants.{Killed, WindowsSpent}
 use Rattle.ce_model.specs.declared.process.Status.TheVariants.{Running}
 use Rattle.ce_model.specs.Limits.{turn_instructions, window_count}
 use Rattle.ce_model.specs.Parcels.{Parcel}
-use Rattle.ce_model.specs.Space.{window_start, has_unused_window, mapped}
-use Rattle.ce_model.specs.Process.{Process, started, with_answer, is_receiving, is_stopped}
+use Rattle.ce_model.specs.Space.{window_start, has_unused_window, mapped_space}
+use Rattle.ce_model.specs.Process.{Process, started_process, with_answer, is_receiving, is_stopped}
 use Rattle.ce_model.specs.Node.{Turn, Node, process_at, with_process, without_poller, with_stopped}
-use Rattle.ce_model.specs.Hearing.{Heard, start_of, mail_of, kill_of, poll_of, told, nothing, image_at, begins, begins_with, with_stored, gets, tells, hears}
+use Rattle.ce_model.specs.Hearing.{Hearing, start_of, mail_of, kill_of, poll_of, told, nothing, image_at, begins, begins_with, with_stored, gets, tells, hears}
 use Rattle.ce_model.specs.Renaming.{parcel_with, heard_with}
 use Rattle.ce_solo.proofs.Renaming.Lists.{if_made}
 use Rattle.ce_solo.proofs.Renaming.Memory.{IsNamedSpace, mapped-renamed}
@@ -19,7 +19,7 @@ use Rattle.ce_solo.proofs.Renaming.Calls.{Names, node_by, process_by}
 
 module _ (names : Names) where
   -- the block of a parcel that is heard of has such a name
-  abbrev pub IsNamedHeard : Heard → Type 0
+  abbrev pub IsNamedHeard : Hearing → Type 0
   IsNamedHeard (mail_of parcel) = names.P parcel.block.id
   IsNamedHeard other = Unit {0}
 
@@ -45,11 +45,11 @@ module _ (names : Names) where
       (record { store = put-named names.P parcel.block.id node.store new named.store; processes = named.processes }) own
 
   mapped-begins : (node : Node) (parcel : Parcel) (p : Process) (used : ℕ) → used ≡ length p.space.windows
-      → begins_with (node_by names node) parcel.to.pid (record (process_by names p) { space = mapped (parcel_with names.rename parcel).block (process_by names p).space }) (window_start used)
-      ≡ node_by names (begins_with node parcel.to.pid (record p { space = mapped parcel.block p.space }) (window_start (length p.space.windows)))
+      → begins_with (node_by names node) parcel.to.pid (record (process_by names p) { space = mapped_space (parcel_with names.rename parcel).block (process_by names p).space }) (window_start used)
+      ≡ node_by names (begins_with node parcel.to.pid (record p { space = mapped_space parcel.block p.space }) (window_start (length p.space.windows)))
   mapped-begins node parcel p used same =
       ap₂ (λ space used. begins_with (node_by names node) parcel.to.pid (record p { space = space }) (window_start used)) (mapped-renamed names.rename parcel.block p.space) same
-      ∙ begins-renamed node parcel.to.pid (with_answer (window_start (length p.space.windows)) (record p { space = mapped parcel.block p.space }))
+      ∙ begins-renamed node parcel.to.pid (with_answer (window_start (length p.space.windows)) (record p { space = mapped_space parcel.block p.space }))
 
   gets-renamed : (node : Node) (parcel : Parcel) (p : Process) → IsNamed names.P node → IsNamedSpace names.P p.space → names.P parcel.block.id
       → gets (node_by names node) (parcel_with names.rename parcel) (process_by names p) ≡ node_by names (gets node parcel p)
@@ -63,10 +63,10 @@ module _ (names : Names) where
       ap (λ p. with_process (node_by names node) turn.pid (with_answer value p)) (process-renamed names.rename names.home node turn.pid)
       ∙ with_process-renamed names.rename names.home node turn.pid (with_answer value (process_at node turn.pid))
 
-  pub hears-renamed : (images : List ImageParts) (node : Node) (heard : Heard) → IsNamed names.P node → IsNamedHeard heard
+  pub hears-renamed : (images : List ImageParts) (node : Node) (heard : Hearing) → IsNamed names.P node → IsNamedHeard heard
       → hears images (node_by names node) (heard_with names.rename heard) ≡ node_by names (hears images node heard)
   unfolding hears
-  hears-renamed images node (start_of pid image) named new = begins-renamed node pid (started (image_at images image))
+  hears-renamed images node (start_of pid image) named new = begins-renamed node pid (started_process (image_at images image))
   hears-renamed images node (mail_of parcel) named new =
       let p = process_at node parcel.to.pid in
       ap (λ p. if is_receiving p.status then gets (node_by names node) (parcel_with names.rename parcel) p

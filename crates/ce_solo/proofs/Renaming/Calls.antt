@@ -1,15 +1,15 @@
 -- What a kernel call comes to on a node with other names for its blocks: the ways in which it comes out.
-use Rattle.std.proofs.Common.{◌≡◌, ℕ, Bool, if◌then◌else◌, List, Some, None, Result, Ok, Err, refl, ap, ap₂, sym, subst, ◌∙◌}
+use Rattle.std.proofs.Common.{◌≡◌, ℕ, Bool, if◌then◌else◌, List, Some, None, Result, Ok, Err, IfOk, refl, ap, ap₂, sym, subst, ◌∙◌}
 use Rattle.rv_model.specs.declared.stop.Stop.{Stop}
 use Rattle.ce_model.specs.declared.process.Status.{Status}
 use Rattle.ce_model.specs.declared.topology.BlockId.{BlockId}
 use Rattle.ce_model.specs.Process.{Process, with_answer}
 use Rattle.ce_model.specs.Node.{Turn, Node, Call}
-use Rattle.ce_model.specs.Kernel.{Did, goes_on, leaves, turn_ends, returns, stops, says_call, reading, waits}
+use Rattle.ce_model.specs.Kernel.{CallOutcome, goes_on, leaves, turn_ends, returns, stops, says_call, read_or_stop, waits}
 use Rattle.ce_model.specs.Space.{result_map}
 use Rattle.ce_model.specs.Renaming.{process_with, call_with}
 use Rattle.ce_solo.proofs.Renaming.Lists.{if_both}
-use Rattle.ce_solo.proofs.Renaming.Memory.{EachOk, IsNamedSpace}
+use Rattle.ce_solo.proofs.Renaming.Memory.{IsNamedSpace}
 use Rattle.ce_solo.proofs.Renaming.Store.{IsOrderKept}
 use Rattle.ce_solo.proofs.Renaming.Nodes.{IsNamed, node_with, with_process-named, with_process-renamed, with_stopped-renamed}
 
@@ -28,19 +28,19 @@ module _ (names : Names) where
   abbrev pub process_by : Process → Process
   process_by p = process_with names.rename p
 
-  abbrev pub did_by : Did → Did
+  abbrev pub did_by : CallOutcome → CallOutcome
   did_by (goes_on node turn) = goes_on (node_by node) turn
   did_by (leaves node call) = leaves (node_by node) (call_with names.rename call)
   did_by (turn_ends node) = turn_ends (node_by node)
 
   -- where the turn goes on, the node's blocks have names with the property still
-  abbrev pub IsNamedDid : Did → Type 0
+  abbrev pub IsNamedDid : CallOutcome → Type 0
   IsNamedDid (goes_on node turn) = IsNamed names.P node
   IsNamedDid (leaves node call) = Unit {0}
   IsNamedDid (turn_ends node) = Unit {0}
 
   -- the one is the other with the other names
-  pub record AreDid (there here : Did) : Type 0 where
+  pub record AreDid (there here : CallOutcome) : Type 0 where
     pub same : there ≡ did_by here
     pub named : IsNamedDid here
 
@@ -50,10 +50,10 @@ module _ (names : Names) where
     pub own : IsNamedSpace names.P p.space
 
   -- a kernel call does on the node with the other names what it does on the node
-  pub record IsCallAlike (does : Node → Turn → Process → Did) : Type 0 where
+  pub record IsCallAlike (does : Node → Turn → Process → CallOutcome) : Type 0 where
     pub did : (node : Node) (turn : Turn) (p : Process) → AreNamedBoth node p → AreDid (does (node_by node) turn (process_by p)) (does node turn p)
 
-  pub if-alike : (test' test : Bool) (x y x' y' : Did) → test' ≡ test → AreDid x x' → AreDid y y'
+  pub if-alike : (test' test : Bool) (x y x' y' : CallOutcome) → test' ≡ test → AreDid x x' → AreDid y y'
       → AreDid (if test' then x else y) (if test then x' else y')
   if-alike test' test x y x' y' same here there =
       subst (λ t. AreDid (if t then x else y) (if test then x' else y')) (sym same) (if_both AreDid test x y x' y' here there)
@@ -95,10 +95,10 @@ module _ (names : Names) where
     named = tt;
   }
 
-  pub reading-alike : {X : Type 0} (node : Node) (turn : Turn) (p : Process) (g : X → X) (Q : X → Type 0) (r' r : Result X Stop) (there here : X → Did)
-      → AreNamedBoth node p → r' ≡ result_map g r → EachOk Q r → ((x : X) → Q x → AreDid (there (g x)) (here x))
-      → AreDid (reading (node_by node) turn (process_by p) r' there) (reading node turn p r here)
+  pub reading-alike : {X : Type 0} (node : Node) (turn : Turn) (p : Process) (g : X → X) (Q : X → Type 0) (r' r : Result X Stop) (there here : X → CallOutcome)
+      → AreNamedBoth node p → r' ≡ result_map g r → IfOk r Q → ((x : X) → Q x → AreDid (there (g x)) (here x))
+      → AreDid (read_or_stop (node_by node) turn (process_by p) r' there) (read_or_stop node turn p r here)
   reading-alike node turn p g Q r' (Ok x) there here named same read each =
-      subst (λ r. AreDid (reading (node_by node) turn (process_by p) r there) (here x)) (sym same) (each x read)
+      subst (λ r. AreDid (read_or_stop (node_by node) turn (process_by p) r there) (here x)) (sym same) (each x read)
   reading-alike node turn p g Q r' (Err cause) there here named same read each =
-      subst (λ r. AreDid (reading (node_by node) turn (process_by p) r there) (stops node turn p cause)) (sym same) (stops-alike node turn p cause named)
+      subst (λ r. AreDid (read_or_stop (node_by node) turn (process_by p) r there) (stops node turn p cause)) (sym same) (stops-alike node turn p cause named)

@@ -4,7 +4,7 @@ use Rattle.std.proofs.lemmas.Bool.{cases_order, lt-ltb, le-ltb, eq-eqb, ne_eqb}
 use Rattle.ce_model.specs.Limits.{greatest_dim, host_home, greatest_nodes_lem, host_home_lem}
 use Rattle.ce_model.specs.Subcubes.{node_of, IsSubcube}
 use Rattle.ce_model.specs.Owners.{IsBlockOf}
-use Rattle.ce_model.specs.Hearing.{Heard, start_of, mail_of, kill_of, poll_of, told, nothing}
+use Rattle.ce_model.specs.Hearing.{Hearing, start_of, mail_of, kill_of, poll_of, told, nothing}
 use Rattle.ce_model.specs.Renaming.{CubeGrant, block_outward}
 use Rattle.ce_model.proofs.Subcubes.{all_subcubes, node_of-rises, node_of-within, ones_of-bound}
 use Rattle.ce_solo.specs.Laws.{IsGrant, IsHeardOf, Renaming}
@@ -82,7 +82,7 @@ outward_names dim grant of = record {
   order = outward_order dim grant of;
 }
 
-named_heard : (dim : ℕ) (grant : CubeGrant) (of : IsGrant dim grant) (heard : Heard) → IsHeardOf grant.dim heard → IsNamedHeard (outward_names dim grant of) heard
+named_heard : (dim : ℕ) (grant : CubeGrant) (of : IsGrant dim grant) (heard : Hearing) → IsHeardOf grant.dim heard → IsNamedHeard (outward_names dim grant of) heard
 unfolding outward_names
 named_heard dim grant of (start_of pid image) is = tt
 named_heard dim grant of (mail_of parcel) is = is

@@ -1,21 +1,20 @@
 -- What an instruction does, on memories that answer alike.
-use Rattle.std.proofs.Common.{◌≡◌, ℕ, ◌*◌, ◌/◌, ◌%◌, ◌^◌, ◌==◌, List, Result, Ok, Err, ok_or, refl, ap, sym, subst}
+use Rattle.std.proofs.Common.{◌≡◌, ℕ, ◌*◌, ◌/◌, ◌%◌, ◌^◌, ◌==◌, List, Result, Ok, Err, IfOk, ok_or, refl, ap, sym, subst}
 use Rattle.rv_model.specs.declared.stop.Stop.{Stop}
 use Rattle.rv_model.specs.declared.stop.Stop.TheVariants.{Illegal}
 use Rattle.rv_model.specs.declared.inst.Inst.{Inst}
 use Rattle.rv_model.specs.declared.inst.Inst.TheVariants.{Lui, Auipc, Jal, Jalr, Branch, Load, Store, OpImm, Op, Fence, Ecall, Ebreak}
 use Rattle.rv_model.specs.Words.{dec}
-use Rattle.rv_model.specs.Exec.{Access, Outcome, went, called, stopped, ◌>>=◌, reg, with_reg, is_taken, load_size, store_size, extended, next_pc, offset_by, jumped, performed, exec}
+use Rattle.rv_model.specs.Exec.{Access, Outcome, went, called, stopped, ◌>>=◌, reg, with_reg, is_taken, load_size, store_size, loaded_number, next_pc, offset_by, jump_outcome, effect_of, exec}
 use Rattle.ce_model.specs.Space.{result_map}
 use Rattle.ce_solo.proofs.Renaming.Lists.{if_both}
-use Rattle.ce_solo.proofs.Renaming.Memory.{EachOk}
 
 -- a map of memories and a property of them under which a memory's answers are alike
 pub record IsAlike {M : Type 0} (A : Access M) (g : M → M) (Q : M → Type 0) : Type 0 where
   pub fetched : (m : M) (pc : ℕ) → A.fetched (g m) pc ≡ A.fetched m pc
   pub loaded : (m : M) (a size : ℕ) → A.loaded (g m) a size ≡ A.loaded m a size
   pub stored : (m : M) (a size n : ℕ) → A.stored (g m) a size n ≡ result_map g (A.stored m a size n)
-  pub kept : (m : M) (a size n : ℕ) → Q m → EachOk Q (A.stored m a size n)
+  pub kept : (m : M) (a size n : ℕ) → Q m → IfOk (A.stored m a size n) Q
 
 module _ {M : Type 0} (A : Access M) (g : M → M) (Q : M → Type 0) (alike : IsAlike A g Q) where
   abbrev pub outcome_with : Outcome M → Outcome M
@@ -39,15 +38,15 @@ module _ {M : Type 0} (A : Access M) (g : M → M) (Q : M → Type 0) (alike : I
   bound-alike r' (Ok x) there here same each = subst (λ r. AreAlike (r >>= there) (here x)) (sym same) (each x)
   bound-alike r' (Err cause) there here same each = record { same = ap (λ r. r >>= there) same; left = tt }
 
-  jumped-alike : (pc target : ℕ) (x : List ℕ) (m : M) → Q m → AreAlike (jumped pc target x (g m)) (jumped pc target x m)
+  jumped-alike : (pc target : ℕ) (x : List ℕ) (m : M) → Q m → AreAlike (jump_outcome pc target x (g m)) (jump_outcome pc target x m)
   jumped-alike pc target x m q = if_both AreAlike (target % 4 == 0) _ _ _ _ (record { same = refl; left = q }) (record { same = refl; left = tt })
 
-  stored_alike : (r' r : Result M Stop) (x : List ℕ) (pc : ℕ) → r' ≡ result_map g r → EachOk Q r → AreAlike (r' >>= went x pc) (r >>= went x pc)
+  stored_alike : (r' r : Result M Stop) (x : List ℕ) (pc : ℕ) → r' ≡ result_map g r → IfOk r Q → AreAlike (r' >>= went x pc) (r >>= went x pc)
   stored_alike r' (Ok m) x pc same q = record { same = ap (λ r. r >>= went x pc) same; left = q }
   stored_alike r' (Err cause) x pc same q = record { same = ap (λ r. r >>= went x pc) same; left = tt }
 
-  performed-alike : (inst : Inst) (x : List ℕ) (pc : ℕ) (m : M) → Q m → AreAlike (performed A inst x pc (g m)) (performed A inst x pc m)
-  unfolding performed
+  performed-alike : (inst : Inst) (x : List ℕ) (pc : ℕ) (m : M) → Q m → AreAlike (effect_of A inst x pc (g m)) (effect_of A inst x pc m)
+  unfolding effect_of
   performed-alike (Lui rd imm) x pc m q = record { same = refl; left = q }
   performed-alike (Auipc rd imm) x pc m q = record { same = refl; left = q }
   performed-alike (Jal rd offset) x pc m q = jumped-alike pc (offset_by pc offset) (with_reg x rd (next_pc pc)) m q
@@ -56,7 +55,7 @@ module _ {M : Type 0} (A : Access M) (g : M → M) (Q : M → Type 0) (alike : I
       if_both AreAlike (is_taken op (reg x rs1) (reg x rs2)) _ _ _ _ (jumped-alike pc (offset_by pc offset) x m q) (record { same = refl; left = q })
   performed-alike (Load op rd rs1 imm) x pc m q =
       bound-alike _ (A.loaded m (offset_by (reg x rs1) imm) (load_size op))
-      (λ n. went (with_reg x rd (extended op n)) (next_pc pc) (g m)) (λ n. went (with_reg x rd (extended op n)) (next_pc pc) m)
+      (λ n. went (with_reg x rd (loaded_number op n)) (next_pc pc) (g m)) (λ n. went (with_reg x rd (loaded_number op n)) (next_pc pc) m)
       (alike.loaded m (offset_by (reg x rs1) imm) (load_size op))
       (λ n. record { same = refl; left = q })
   performed-alike (Store op rs1 rs2 imm) x pc m q =
@@ -73,10 +72,10 @@ module _ {M : Type 0} (A : Access M) (g : M → M) (Q : M → Type 0) (alike : I
   unfolding exec
   exec-alike x pc m q =
       bound-alike (A.fetched (g m) pc) (A.fetched m pc)
-      (λ word. ok_or (dec word) (Illegal pc word) >>= λ inst. performed A inst x pc (g m))
-      (λ word. ok_or (dec word) (Illegal pc word) >>= λ inst. performed A inst x pc m)
+      (λ word. ok_or (dec word) (Illegal pc word) >>= λ inst. effect_of A inst x pc (g m))
+      (λ word. ok_or (dec word) (Illegal pc word) >>= λ inst. effect_of A inst x pc m)
       (alike.fetched m pc)
       (λ word.
       bound-alike (ok_or (dec word) (Illegal pc word)) (ok_or (dec word) (Illegal pc word))
-      (λ inst. performed A inst x pc (g m)) (λ inst. performed A inst x pc m) refl
+      (λ inst. effect_of A inst x pc (g m)) (λ inst. effect_of A inst x pc m) refl
       (λ inst. performed-alike inst x pc m q))

@@ -1,6 +1,7 @@
 -- What holds of each member of a list, and lists whose members are renamed.
-use Rattle.std.proofs.Common.{◌≡◌, ℕ, zero, suc, Bool, true, false, if◌then◌else◌, List, [], ◌∷◌, ◌++◌, map, drop, zip, slice_get, slice_set, slice_index_or, flat_map, Option, Some, None, refl, ap, ◌∙◌}
+use Rattle.std.proofs.Common.{◌≡◌, ℕ, zero, suc, Bool, true, false, if◌then◌else◌, List, [], ◌∷◌, map, drop, zip, slice_set, slice_index_or, flat_map, refl, ap, ◌∙◌}
 use Rattle.std.specs.List.{AllByRecursion}
+use Rattle.ce_solo.proofs.Lists.{all-front, all-back}
 
 -- ---- choices
 
@@ -26,23 +27,6 @@ if_each P false x y here there = there
 
 -- ---- each member
 
--- there is none, or it has the property
-abbrev pub EachSome : {X : Type 0} → (X → Type 0) → Option X → Type 0
-EachSome P None = Unit {0}
-EachSome P (Some x) = P x
-
-pub all-append : {X : Type 0} (P : X → Type 0) (xs ys : List X) → AllByRecursion P xs → AllByRecursion P ys → AllByRecursion P (xs ++ ys)
-all-append P [] ys here there = there
-all-append P (x ∷ xs) ys here there = (here.0, all-append P xs ys here.1 there)
-
-pub all-front : {X : Type 0} (P : X → Type 0) (xs ys : List X) → AllByRecursion P (xs ++ ys) → AllByRecursion P xs
-all-front P [] ys whole = tt
-all-front P (x ∷ xs) ys whole = (whole.0, all-front P xs ys whole.1)
-
-pub all-back : {X : Type 0} (P : X → Type 0) (xs ys : List X) → AllByRecursion P (xs ++ ys) → AllByRecursion P ys
-all-back P [] ys whole = whole
-all-back P (x ∷ xs) ys whole = all-back P xs ys whole.1
-
 pub all-drop : {X : Type 0} (P : X → Type 0) (n : ℕ) (xs : List X) → AllByRecursion P xs → AllByRecursion P (drop n xs)
 all-drop P zero xs all = all
 all-drop P (suc n) [] all = tt
@@ -53,11 +37,6 @@ all-set P [] k x all new = tt
 all-set P (y ∷ xs) zero x all new = (new, all.1)
 all-set P (y ∷ xs) (suc k) x all new = (all.0, all-set P xs k x all.1 new)
 
-pub all-get : {X : Type 0} (P : X → Type 0) (xs : List X) (k : ℕ) → AllByRecursion P xs → EachSome P (slice_get xs k)
-all-get P [] k all = tt
-all-get P (x ∷ xs) zero all = all.0
-all-get P (x ∷ xs) (suc k) all = all-get P xs k all.1
-
 pub all-at : {X : Type 0} (P : X → Type 0) (xs : List X) (k : ℕ) (otherwise : X) → AllByRecursion P xs → P otherwise → P (slice_index_or xs k otherwise)
 all-at P [] k otherwise all last = last
 all-at P (x ∷ xs) zero otherwise all last = all.0
@@ -67,10 +46,6 @@ pub all-flat : {X Y : Type 0} (P : Y → Type 0) (h : X → List Y) (xs : List X
     → AllByRecursion (λ x. AllByRecursion P (h x)) xs
 all-flat P h [] all = tt
 all-flat P h (x ∷ xs) all = (all-front P (h x) (flat_map h xs) all, all-flat P h xs (all-back P (h x) (flat_map h xs) all))
-
-pub all-weaker : {X : Type 0} (P Q : X → Type 0) (xs : List X) → ((x : X) → P x → Q x) → AllByRecursion P xs → AllByRecursion Q xs
-all-weaker P Q [] weaker all = tt
-all-weaker P Q (x ∷ xs) weaker all = (weaker x all.0, all-weaker P Q xs weaker all.1)
 
 -- ---- what is made of each member
 

@@ -1,5 +1,5 @@
 -- The memory of a process with other names for its blocks answers the same, renamed.
-use Rattle.std.proofs.Common.{◌≡◌, ℕ, zero, suc, ◌+◌, ◌-◌, ◌%◌, Bool, true, false, not, ◌==◌, nat_le, nat_lt, if◌then◌else◌, List, [], ◌∷◌, length, map, slice_get, filter_map, Option, Some, None, option_map, Result, Ok, Err, refl, ap, ap₂, sym, ◌∙◌}
+use Rattle.std.proofs.Common.{◌≡◌, ℕ, zero, suc, ◌+◌, ◌-◌, ◌%◌, Bool, true, false, not, ◌==◌, nat_le, nat_lt, if◌then◌else◌, List, [], ◌∷◌, length, map, slice_get, filter_map, Option, Some, None, IfSome, option_map, Result, Ok, Err, IfOk, refl, ap, ap₂, sym, ◌∙◌}
 use Rattle.std.specs.List.{AllByRecursion}
 use mathlib.Core.Path.{fun_ext}
 use Rattle.std.proofs.lemmas.List.{map-append}
@@ -14,18 +14,14 @@ use Rattle.ce_model.specs.declared.topology.Place.{Place}
 use Rattle.ce_model.specs.declared.topology.BlockId.{BlockId}
 use Rattle.ce_model.specs.Limits.{window_base}
 use Rattle.ce_model.specs.Blocks.{Block}
-use Rattle.ce_model.specs.Space.{Space, window_of, offset_of, mapped, unmapped, emptied, mapped_ids, Spot, in_private, in_block, spot_in, spot, number_in, with_number_in, result_map, loaded_at, stored_at, named_in, is_window_start, block_named, and_then, place_at, places_at}
+use Rattle.ce_model.specs.Space.{Space, window_of, offset_of, mapped_space, unmapped_space, emptied_space, mapped_ids, Spot, in_private, in_block, spot_in, spot, number_in, with_number_in, result_map, loaded_at, stored_at, named_in, is_window_start, block_named, and_then, place_at, places_at}
 use Rattle.ce_model.specs.Renaming.{block_with, space_with}
-use Rattle.ce_solo.proofs.Renaming.Lists.{if_ap, if_each, EachSome, all-append, all-set, all-get, set-map}
-
--- an answer that is no stop has the property
-abbrev pub EachOk : {X : Type 0} → (X → Type 0) → Result X Stop → Type 0
-EachOk P (Ok x) = P x
-EachOk P (Err cause) = Unit {0}
+use Rattle.ce_solo.proofs.Lists.{all-append, all-get}
+use Rattle.ce_solo.proofs.Renaming.Lists.{if_ap, if_each, all-set, set-map}
 
 -- the block that a window holds, if any, has a name of these
 abbrev pub IsNamedWindow : (BlockId → Type 0) → Option Block → Type 0
-IsNamedWindow P window = EachSome (λ block. P block.id) window
+IsNamedWindow P window = IfSome window (λ block. P block.id)
 
 -- all blocks of a memory have names of these
 abbrev pub IsNamedSpace : (BlockId → Type 0) → Space → Type 0
@@ -122,18 +118,18 @@ module _ (rename : BlockId → BlockId) where
 
   -- ---- windows
 
-  pub mapped-renamed : (block : Block) (space : Space) → mapped (block_with rename block) (space_with rename space) ≡ space_with rename (mapped block space)
+  pub mapped-renamed : (block : Block) (space : Space) → mapped_space (block_with rename block) (space_with rename space) ≡ space_with rename (mapped_space block space)
   mapped-renamed block space =
       ap (λ windows. record space { windows = windows }) (sym (map-append (window_with rename) space.windows (Some block ∷ [])))
 
-  pub unmapped-renamed : (k : ℕ) (space : Space) → unmapped k (space_with rename space) ≡ space_with rename (unmapped k space)
+  pub unmapped-renamed : (k : ℕ) (space : Space) → unmapped_space k (space_with rename space) ≡ space_with rename (unmapped_space k space)
   unmapped-renamed k space = ap (λ windows. record space { windows = windows }) (set-map (window_with rename) space.windows k None)
 
   emptied_all : (windows : List (Option Block)) → map (λ window. None) (map (window_with rename) windows) ≡ map (window_with rename) (map (λ window. None) windows)
   emptied_all [] = refl
   emptied_all (window ∷ windows) = ap (λ rest. None ∷ rest) (emptied_all windows)
 
-  pub emptied-renamed : (space : Space) → emptied (space_with rename space) ≡ space_with rename (emptied space)
+  pub emptied-renamed : (space : Space) → emptied_space (space_with rename space) ≡ space_with rename (emptied_space space)
   emptied-renamed space = ap (λ windows. record space { windows = windows }) (emptied_all space.windows)
 
   ids_of-renamed : (windows : List (Option Block))
@@ -166,28 +162,28 @@ module _ (P : BlockId → Type 0) where
   pub space-named : (space : Space) → AllByRecursion P (mapped_ids space) → IsNamedSpace P space
   space-named space named = windows_named space.windows named
 
-  named_in-named : (window : Option (Option Block)) (p : ℕ) → EachSome (IsNamedWindow P) window → EachOk (λ found. P found.1.id) (named_in window p)
+  named_in-named : (window : Option (Option Block)) (p : ℕ) → IfSome window (IsNamedWindow P) → IfOk (named_in window p) (λ found. P found.1.id)
   named_in-named None p named = tt
   named_in-named (Some None) p named = tt
   named_in-named (Some (Some block)) p named = named
 
-  pub named-named : (space : Space) (p : ℕ) → IsNamedSpace P space → EachOk (λ found. P found.1.id) (block_named space p)
+  pub named-named : (space : Space) (p : ℕ) → IsNamedSpace P space → IfOk (block_named space p) (λ found. P found.1.id)
   unfolding block_named
   named-named space p named =
-      if_each (EachOk (λ found. P found.1.id)) (is_window_start p) _ _
+      if_each (λ (r : Result (ℕ × Block) Stop). IfOk r (λ found. P found.1.id)) (is_window_start p) _ _
       (named_in-named (slice_get space.windows (window_of p)) p (all-get (IsNamedWindow P) space.windows (window_of p) named)) tt
 
-  pub mapped-named : (block : Block) (space : Space) → P block.id → IsNamedSpace P space → IsNamedSpace P (mapped block space)
+  pub mapped-named : (block : Block) (space : Space) → P block.id → IsNamedSpace P space → IsNamedSpace P (mapped_space block space)
   mapped-named block space new named = all-append (IsNamedWindow P) space.windows (Some block ∷ []) named (new, tt)
 
-  pub unmapped-named : (k : ℕ) (space : Space) → IsNamedSpace P space → IsNamedSpace P (unmapped k space)
+  pub unmapped-named : (k : ℕ) (space : Space) → IsNamedSpace P space → IsNamedSpace P (unmapped_space k space)
   unmapped-named k space named = all-set (IsNamedWindow P) space.windows k None named tt
 
   emptied_named : (windows : List (Option Block)) → AllByRecursion (IsNamedWindow P) (map (λ window. None) windows)
   emptied_named [] = tt
   emptied_named (window ∷ windows) = (tt, emptied_named windows)
 
-  pub emptied-named : (space : Space) → IsNamedSpace P (emptied space)
+  pub emptied-named : (space : Space) → IsNamedSpace P (emptied_space space)
   emptied-named space = emptied_named space.windows
 
   -- ---- a store changes no name
@@ -196,25 +192,25 @@ module _ (P : BlockId → Type 0) where
   IsNamedSpot (in_private offset) = Unit {0}
   IsNamedSpot (in_block k block offset) = P block.id
 
-  spot_in-named : (window : Option (Option Block)) (a size : ℕ) → EachSome (IsNamedWindow P) window → EachOk IsNamedSpot (spot_in window a size)
+  spot_in-named : (window : Option (Option Block)) (a size : ℕ) → IfSome window (IsNamedWindow P) → IfOk (spot_in window a size) IsNamedSpot
   spot_in-named None a size named = tt
   spot_in-named (Some None) a size named = tt
   spot_in-named (Some (Some block)) a size named =
-      if_each (EachOk IsNamedSpot) (nat_le (offset_of a + size) (length block.bytes)) _ _ named tt
+      if_each (λ (r : Result Spot Stop). IfOk r IsNamedSpot) (nat_le (offset_of a + size) (length block.bytes)) _ _ named tt
 
-  spot-named : (space : Space) (a size : ℕ) → IsNamedSpace P space → EachOk IsNamedSpot (spot space a size)
+  spot-named : (space : Space) (a size : ℕ) → IsNamedSpace P space → IfOk (spot space a size) IsNamedSpot
   unfolding spot
   spot-named space a size named =
-      if_each (EachOk IsNamedSpot) (not (a % size == 0)) _ _ tt
-      (if_each (EachOk IsNamedSpot) (is_private a) _ _ tt
-      (if_each (EachOk IsNamedSpot) (nat_lt a window_base) _ _ tt
+      if_each (λ (r : Result Spot Stop). IfOk r IsNamedSpot) (not (a % size == 0)) _ _ tt
+      (if_each (λ (r : Result Spot Stop). IfOk r IsNamedSpot) (is_private a) _ _ tt
+      (if_each (λ (r : Result Spot Stop). IfOk r IsNamedSpot) (nat_lt a window_base) _ _ tt
       (spot_in-named (slice_get space.windows (window_of a)) a size (all-get (IsNamedWindow P) space.windows (window_of a) named))))
 
-  stored_named : (space : Space) (size n : ℕ) (at : Result Spot Stop) → IsNamedSpace P space → EachOk IsNamedSpot at
-      → EachOk (IsNamedSpace P) (result_map (with_number_in space size n) at)
+  stored_named : (space : Space) (size n : ℕ) (at : Result Spot Stop) → IsNamedSpace P space → IfOk at IsNamedSpot
+      → IfOk (result_map (with_number_in space size n) at) (IsNamedSpace P)
   stored_named space size n (Ok (in_private offset)) named is = named
   stored_named space size n (Ok (in_block k block offset)) named is = all-set (IsNamedWindow P) space.windows k _ named is
   stored_named space size n (Err cause) named is = tt
 
-  pub stored-named : (space : Space) (a size n : ℕ) → IsNamedSpace P space → EachOk (IsNamedSpace P) (stored_at space a size n)
+  pub stored-named : (space : Space) (a size n : ℕ) → IsNamedSpace P space → IfOk (stored_at space a size n) (IsNamedSpace P)
   stored-named space a size n named = stored_named space size n (spot space a size) named (spot-named space a size named)

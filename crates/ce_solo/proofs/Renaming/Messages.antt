@@ -1,5 +1,5 @@
 -- Each kernel call does on a node with other names for its blocks what it does on the node.
-use Rattle.std.proofs.Common.{◌≡◌, ℕ, ◌+◌, ◌-◌, ◌^◌, not, ◌||◌, ◌==◌, nat_lt, List, [], ◌∷◌, ◌++◌, length, map, take, drop, replicate, zip, Option, Some, None, Result, Ok, Err, refl, ap, ◌∙◌}
+use Rattle.std.proofs.Common.{◌≡◌, ℕ, ◌+◌, ◌^◌, not, ◌||◌, nat_lt, List, [], ◌∷◌, ◌++◌, length, map, take, drop, replicate, zip, Option, Some, None, IfSome, Result, Ok, Err, refl, ap, ◌∙◌}
 use Rattle.std.specs.List.{list_all, AllByRecursion}
 use Rattle.std.proofs.lemmas.List.{length-map, take-map, drop-map}
 use Rattle.rv_model.specs.declared.stop.Stop.{Stop}
@@ -9,12 +9,14 @@ use Rattle.ce_model.specs.declared.topology.Place.{Place}
 use Rattle.ce_model.specs.declared.topology.BlockId.{BlockId}
 use Rattle.ce_model.specs.Limits.{block_room, window_count, greatest_targets, turn_calls}
 use Rattle.ce_model.specs.Blocks.{Block, put}
-use Rattle.ce_model.specs.Space.{window_start, has_unused_window, mapped, result_map, places_at}
+use Rattle.ce_model.specs.Space.{window_start, has_unused_window, block_named, mapped_space, result_map, places_at}
 use Rattle.ce_model.specs.Process.{Process, argument, call_number}
 use Rattle.ce_model.specs.Node.{Turn, Node, is_place, sends, spawns, kills, notes}
-use Rattle.ce_model.specs.Kernel.{with_space, gives_up, maps_least, xmalloc, frees, xfree, xlength, is_target, place_named, sends_block, xsend, sends_copies, xmsend_block, xmsend, spawn, ckill, KernelCall, kernel_calls, kernel_call, counted_does, kernel_does, kernel}
-use Rattle.ce_solo.proofs.Renaming.Lists.{if_each, EachSome, all-get, zip-map}
-use Rattle.ce_solo.proofs.Renaming.Memory.{EachOk, found_with, named-renamed, places-renamed, mapped-renamed, unmapped-renamed, named-named, mapped-named, unmapped-named}
+use Rattle.ce_model.specs.Kernel.{CallOutcome, read_or_stop, with_space, gives_up, maps_least, xmalloc, frees, xfree, xlength, is_target, place_named, sends_block, xsend, sends_copies, xmsend_block, xmsend, spawn, ckill, KernelCall, kernel_calls, kernel_call, counted_does, kernel_does, kernel}
+use Rattle.ce_solo.proofs.Instructions.{any_ok}
+use Rattle.ce_solo.proofs.Calls.{call_numbered}
+use Rattle.ce_solo.proofs.Renaming.Lists.{zip-map}
+use Rattle.ce_solo.proofs.Renaming.Memory.{found_with, named-renamed, places-renamed, mapped-renamed, unmapped-renamed, named-named, mapped-named, unmapped-named}
 use Rattle.ce_solo.proofs.Renaming.Store.{AreNamed, put-named, put-renamed}
 use Rattle.ce_solo.proofs.Renaming.Calls.{Names, node_by, process_by, AreDid, AreNamedBoth, IsCallAlike, if-alike, returns-alike, answers-alike, stops-alike, says-alike, waits-alike, reading-alike}
 
@@ -26,7 +28,7 @@ module _ (names : Names) where
   maps_least-alike node turn p len [] both named = answers-alike names node turn p 0 both
   maps_least-alike node turn p len (id ∷ store) both named =
       let block : Block = record { id = id; bytes = replicate len 0 } in
-      returns-alike names _ (record node { store = store }) turn _ (with_space p (mapped block p.space)) _ (window_start (length p.space.windows))
+      returns-alike names _ (record node { store = store }) turn _ (with_space p (mapped_space block p.space)) _ (window_start (length p.space.windows))
       refl (ap (with_space p) (mapped-renamed names.rename block p.space)) (ap window_start (length-map p.space.windows _))
       (record {
         around = record { store = named.1; processes = both.around.processes };
@@ -44,6 +46,14 @@ module _ (names : Names) where
   gives_up-same : (k : ℕ) (p : Process) → gives_up k (process_by names p) ≡ process_by names (gives_up k p)
   gives_up-same k p = ap (with_space p) (unmapped-renamed names.rename k p.space)
 
+  -- a call that does so with the block that the process names
+  named-alike : (node : Node) (turn : Turn) (p : Process) (there here : ℕ × Block → CallOutcome) → AreNamedBoth names node p
+      → ((found : ℕ × Block) → names.P found.1.id → AreDid names (there (found_with names.rename found)) (here found))
+      → AreDid names (read_or_stop (node_by names node) turn (process_by names p) (block_named (process_by names p).space (argument p 0)) there) (read_or_stop node turn p (block_named p.space (argument p 0)) here)
+  named-alike node turn p there here both each =
+      reading-alike names node turn p (found_with names.rename) (λ found. names.P found.1.id) _ (block_named p.space (argument p 0)) there here both
+      (named-renamed names.rename p.space (argument p 0)) (named-named names.P p.space (argument p 0) both.own) each
+
   frees-alike : (node : Node) (turn : Turn) (p : Process) (found : ℕ × Block) → AreNamedBoth names node p → names.P found.1.id
       → AreDid names (frees (node_by names node) turn (process_by names p) (found_with names.rename found)) (frees node turn p found)
   frees-alike node turn p found both new =
@@ -57,18 +67,12 @@ module _ (names : Names) where
 
   xfree-alike : IsCallAlike names xfree
   xfree-alike = record {
-    did = λ node turn p both.
-        reading-alike names node turn p (found_with names.rename) (λ found. names.P found.1.id) _ _ _ _ both
-        (named-renamed names.rename p.space (argument p 0)) (named-named names.P p.space (argument p 0) both.own)
-        (λ found new. frees-alike node turn p found both new);
+    did = λ node turn p both. named-alike node turn p _ _ both (λ found new. frees-alike node turn p found both new);
   }
 
   xlength-alike : IsCallAlike names xlength
   xlength-alike = record {
-    did = λ node turn p both.
-        reading-alike names node turn p (found_with names.rename) (λ found. names.P found.1.id) _ _ _ _ both
-        (named-renamed names.rename p.space (argument p 0)) (named-named names.P p.space (argument p 0) both.own)
-        (λ found new. answers-alike names node turn p (length found.1.bytes) both);
+    did = λ node turn p both. named-alike node turn p _ _ both (λ found new. answers-alike names node turn p (length found.1.bytes) both);
   }
 
   -- ---- messages
@@ -82,10 +86,7 @@ module _ (names : Names) where
 
   xsend-alike : IsCallAlike names xsend
   xsend-alike = record {
-    did = λ node turn p both.
-        reading-alike names node turn p (found_with names.rename) (λ found. names.P found.1.id) _ _ _ _ both
-        (named-renamed names.rename p.space (argument p 0)) (named-named names.P p.space (argument p 0) both.own)
-        (λ found new. sends_block-alike node turn p found both);
+    did = λ node turn p both. named-alike node turn p _ _ both (λ found new. sends_block-alike node turn p found both);
   }
 
   sends_copies-alike : (node : Node) (turn : Turn) (p : Process) (found : ℕ × Block) (places : List Place) → AreNamedBoth names node p → names.P found.1.id
@@ -107,10 +108,6 @@ module _ (names : Names) where
   map_same (Ok x) = refl
   map_same (Err cause) = refl
 
-  each_ok : {X : Type 0} (r : Result X Stop) → EachOk (λ x. Unit {0}) r
-  each_ok (Ok x) = tt
-  each_ok (Err cause) = tt
-
   xmsend_block-alike : (node : Node) (turn : Turn) (p : Process) (found : ℕ × Block) → AreNamedBoth names node p → names.P found.1.id
       → AreDid names (xmsend_block (node_by names node) turn (process_by names p) (found_with names.rename found)) (xmsend_block node turn p found)
   xmsend_block-alike node turn p found both new =
@@ -118,15 +115,12 @@ module _ (names : Names) where
       (answers-alike names node turn p 3 both)
       (reading-alike names node turn p (λ places. places) (λ places. Unit {0}) _ (places_at p.space (argument p 2) (argument p 1)) _ _ both
       (places-renamed names.rename p.space (argument p 2) (argument p 1) ∙ map_same (places_at p.space (argument p 2) (argument p 1)))
-      (each_ok (places_at p.space (argument p 2) (argument p 1)))
+      (any_ok (places_at p.space (argument p 2) (argument p 1)))
       (λ places is. sends_copies-alike node turn p found places both new))
 
   xmsend-alike : IsCallAlike names xmsend
   xmsend-alike = record {
-    did = λ node turn p both.
-        reading-alike names node turn p (found_with names.rename) (λ found. names.P found.1.id) _ _ _ _ both
-        (named-renamed names.rename p.space (argument p 0)) (named-named names.P p.space (argument p 0) both.own)
-        (λ found new. xmsend_block-alike node turn p found both new);
+    did = λ node turn p both. named-alike node turn p _ _ both (λ found new. xmsend_block-alike node turn p found both new);
   }
 
   -- ---- processes
@@ -205,7 +199,7 @@ module _ (names : Names) where
       if-alike names _ (nat_lt turn.calls turn_calls) _ _ _ _ refl
       (alike.did node (record turn { calls = turn.calls + 1 }) p both) (stops-alike names node turn p TurnSpent both)
 
-  does-alike : (call : Option KernelCall) (node : Node) (turn : Turn) (p : Process) → EachSome (λ call. IsCallAlike names call.does) call → AreNamedBoth names node p
+  does-alike : (call : Option KernelCall) (node : Node) (turn : Turn) (p : Process) → IfSome call (λ call. IsCallAlike names call.does) → AreNamedBoth names node p
       → AreDid names (kernel_does call (node_by names node) turn (process_by names p)) (kernel_does call node turn p)
   does-alike None node turn p alike both = stops-alike names node turn p (NoCall (call_number p)) both
   does-alike (Some call) node turn p alike both =
@@ -216,6 +210,4 @@ module _ (names : Names) where
   unfolding kernel
   kernel-alike node turn p both =
       does-alike (kernel_call (call_number p)) node turn p
-      (if_each (EachSome (λ call. IsCallAlike names call.does)) (call_number p == 0) _ _ tt
-      (all-get (λ call. IsCallAlike names call.does) kernel_calls (call_number p - 1) calls-alike))
-      both
+      (call_numbered (λ call. IsCallAlike names call.does) (call_number p) calls-alike) both

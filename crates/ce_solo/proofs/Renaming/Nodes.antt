@@ -7,10 +7,11 @@ use Rattle.ce_model.specs.declared.process.Status.TheVariants.{Stopped}
 use Rattle.ce_model.specs.declared.topology.BlockId.{BlockId}
 use Rattle.ce_model.specs.Blocks.{put_all}
 use Rattle.ce_model.specs.Space.{mapped_ids}
-use Rattle.ce_model.specs.Process.{Process, unborn, ended, is_receiving, is_stopped}
+use Rattle.ce_model.specs.Process.{Process, unborn_process, ended_process, is_receiving, is_stopped}
 use Rattle.ce_model.specs.Node.{Node, process_at, with_process, without_poller, with_stopped, blocks_of, takes, ids_of, take_of}
 use Rattle.ce_model.specs.Renaming.{process_with}
-use Rattle.ce_solo.proofs.Renaming.Lists.{all-front, all-back, all-set, all-at, all-flat, all-weaker, at-map, set-map}
+use Rattle.ce_solo.proofs.Lists.{all-front, all-back, all-weaker}
+use Rattle.ce_solo.proofs.Renaming.Lists.{all-set, all-at, all-flat, at-map, set-map}
 use Rattle.ce_solo.proofs.Renaming.Memory.{IsNamedSpace, ids-renamed, emptied-renamed, ids-named, space-named}
 use Rattle.ce_solo.proofs.Renaming.Store.{IsOrderKept, AreNamed, put_all-renamed}
 
@@ -39,7 +40,7 @@ module _ (P : BlockId → Type 0) where
   }
 
   pub process-named : (node : Node) (pid : ℕ) → IsNamed P node → IsNamedSpace P (process_at node pid).space
-  process-named node pid named = all-at (λ p. IsNamedSpace P p.space) node.processes pid unborn named.processes tt
+  process-named node pid named = all-at (λ p. IsNamedSpace P p.space) node.processes pid unborn_process named.processes tt
 
   pub with_process-named : (node : Node) (pid : ℕ) (p : Process) → IsNamed P node → IsNamedSpace P p.space → IsNamed P (with_process node pid p)
   with_process-named node pid p named new = record {
@@ -51,7 +52,7 @@ module _ (P : BlockId → Type 0) where
 
 module _ (rename : BlockId → BlockId) (home : ℕ → ℕ) where
   pub process-renamed : (node : Node) (pid : ℕ) → process_at (node_with rename home node) pid ≡ process_with rename (process_at node pid)
-  process-renamed node pid = at-map (process_with rename) node.processes pid unborn
+  process-renamed node pid = at-map (process_with rename) node.processes pid unborn_process
 
   pub with_process-renamed : (node : Node) (pid : ℕ) (p : Process)
       → with_process (node_with rename home node) pid (process_with rename p) ≡ node_with rename home (with_process node pid p)
@@ -59,7 +60,7 @@ module _ (rename : BlockId → BlockId) (home : ℕ → ℕ) where
       ap (λ processes. record node { home = home node.home; processes = processes; store = map rename node.store })
       (set-map (process_with rename) node.processes pid p)
 
-  ended-renamed : (cause : Stop) (p : Process) → ended cause (process_with rename p) ≡ process_with rename (ended cause p)
+  ended-renamed : (cause : Stop) (p : Process) → ended_process cause (process_with rename p) ≡ process_with rename (ended_process cause p)
   ended-renamed cause p = ap (λ space. record p { status = Stopped cause; space = space }) (emptied-renamed rename p.space)
 
   pub with_stopped-renamed : (P : BlockId → Type 0) (node : Node) (pid : ℕ) (p : Process) (cause : Stop) → IsOrderKept rename P → IsNamed P node → IsNamedSpace P p.space
@@ -67,7 +68,7 @@ module _ (rename : BlockId → BlockId) (home : ℕ → ℕ) where
   with_stopped-renamed P node pid p cause order named own =
       ap₂ (λ processes store. node_stopped processes store)
       (ap (λ q. slice_set (map (process_with rename) node.processes) pid q) (ended-renamed cause p)
-      ∙ set-map (process_with rename) node.processes pid (ended cause p))
+      ∙ set-map (process_with rename) node.processes pid (ended_process cause p))
       (ap (λ ids. put_all ids (map rename node.store)) (ids-renamed rename p.space)
       ∙ put_all-renamed rename P (mapped_ids p.space) node.store order (ids-named P p.space own) named.store)
     where

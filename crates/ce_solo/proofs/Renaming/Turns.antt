@@ -4,9 +4,9 @@ use Rattle.rv_model.specs.declared.stop.Stop.{Stop}
 use Rattle.rv_model.specs.declared.stop.Stop.TheVariants.{TurnSpent}
 use Rattle.rv_model.specs.Exec.{Outcome, went, called, stopped}
 use Rattle.ce_model.specs.Space.{Space, process_access}
-use Rattle.ce_model.specs.Process.{Process, moved}
+use Rattle.ce_model.specs.Process.{Process, moved_process}
 use Rattle.ce_model.specs.Node.{Turn, Node, process_at, with_process, with_stopped}
-use Rattle.ce_model.specs.Kernel.{Did, goes_on, leaves, turn_ends, kernel}
+use Rattle.ce_model.specs.Kernel.{CallOutcome, goes_on, leaves, turn_ends, kernel}
 use Rattle.ce_model.specs.Saying.{Saying, asks, after_call, after_instruction, instruction, runs, says_in, says}
 use Rattle.ce_model.specs.Renaming.{space_with, call_with}
 use Rattle.ce_solo.proofs.Renaming.Memory.{IsNamedSpace, loaded-renamed, stored-renamed, stored-named}
@@ -47,7 +47,7 @@ module _ (names : Names) where
   IsTurnAlike : (Node → Turn → Saying) → Type 0
   IsTurnAlike onward = (node : Node) (turn : Turn) → IsNamed names.P node → onward (node_by names node) turn ≡ saying_by (onward node turn)
 
-  after_call-alike : (onward : Node → Turn → Saying) (there here : Did) → IsTurnAlike onward → AreDid names there here
+  after_call-alike : (onward : Node → Turn → Saying) (there here : CallOutcome) → IsTurnAlike onward → AreDid names there here
       → after_call onward there ≡ saying_by (after_call onward here)
   unfolding IsTurnAlike
   after_call-alike onward there (goes_on node turn) each did = ap (after_call onward) did.same ∙ each node turn did.named
@@ -60,12 +60,12 @@ module _ (names : Names) where
   unfolding IsTurnAlike
   after_instruction-alike onward left node turn p there (went regs pc space) each named own alike =
       ap (after_instruction onward left (node_by names node) turn (process_by names p)) alike.same
-      ∙ ap (λ node. onward node turn) (with_process-renamed names.rename names.home node turn.pid (moved p regs pc space))
-      ∙ each (with_process node turn.pid (moved p regs pc space)) turn (with_process-named names.P node turn.pid (moved p regs pc space) named alike.left)
+      ∙ ap (λ node. onward node turn) (with_process-renamed names.rename names.home node turn.pid (moved_process p regs pc space))
+      ∙ each (with_process node turn.pid (moved_process p regs pc space)) turn (with_process-named names.P node turn.pid (moved_process p regs pc space) named alike.left)
   after_instruction-alike onward left node turn p there (called regs pc space) each named own alike =
       ap (after_instruction onward left (node_by names node) turn (process_by names p)) alike.same
-      ∙ after_call-alike onward _ (kernel node (record turn { left = left }) (moved p regs pc space)) each
-      (kernel-alike names node (record turn { left = left }) (moved p regs pc space) (record { around = named; own = alike.left }))
+      ∙ after_call-alike onward _ (kernel node (record turn { left = left }) (moved_process p regs pc space)) each
+      (kernel-alike names node (record turn { left = left }) (moved_process p regs pc space) (record { around = named; own = alike.left }))
   after_instruction-alike onward left node turn p there (stopped cause) each named own alike =
       ap (after_instruction onward left (node_by names node) turn (process_by names p)) alike.same ∙ stopped-renamed node turn.pid p cause named own
 

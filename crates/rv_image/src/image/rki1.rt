@@ -49,7 +49,8 @@ fn number_at(bytes: &[u8], place: usize) -> u32
 
 /// What the bytes hold, or why they are no RKI1.
 fn fields_in(bytes: &[u8]) -> Result<Fields<'_>, ImageFault>
-    ensures found { IfOk result (λ fields. image_parts fields.entry fields.loaded.now fields.zero ≡ fields_of bytes.now) }
+    ensures found { IfOk result
+        (λ fields. image_parts fields.entry fields.loaded.now fields.zero ≡ fields_of bytes.now) }
     ensures fault { result_err result ≡ fault_of bytes.now }
 {
     if bytes.len() < HEADER_LEN {

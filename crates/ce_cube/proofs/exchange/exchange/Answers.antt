@@ -11,21 +11,16 @@ use Rattle.ce_cube.proofs.Exchanging.{mask-small, base-small, base-apart, number
 use Rattle.ce_cube.proofs.exchange.exchange.Goals as goal
 
 pub node_of-requires-clause-mask_within : goal.node_of-requires-clause-mask_within
-node_of-requires-clause-mask_within c =
-    mask-small c.args.machine.now c.args.grant.now c.args.r c.requires.node c.requires.said.0 c.args.node.now (call_said c.args.said) c.requires.said.1
+node_of-requires-clause-mask_within c = mask-small c.args.machine.now c.args.grant.now c.args.r c.requires.node
 
 pub node_of-requires-clause-base_within : goal.node_of-requires-clause-base_within
-node_of-requires-clause-base_within c =
-    base-small c.args.machine.now c.args.grant.now c.args.r c.requires.node c.requires.said.0 c.args.node.now (call_said c.args.said) c.requires.said.1
+node_of-requires-clause-base_within c = base-small c.args.machine.now c.args.grant.now c.args.r c.requires.node
 
 pub node_of-requires-clause-apart : goal.node_of-requires-clause-apart
-node_of-requires-clause-apart c =
-    base-apart c.args.machine.now c.args.grant.now c.args.r c.requires.node c.requires.said.0 c.args.node.now (call_said c.args.said) c.requires.said.1
+node_of-requires-clause-apart c = base-apart c.args.machine.now c.args.grant.now c.args.r c.requires.node
 
 pub node_of-requires-clause-relative : goal.node_of-requires-clause-relative
-node_of-requires-clause-relative c =
-    number-small c.args.machine.now c.args.grant.now c.args.r c.requires.node c.requires.said.0 c.args.node.now (call_said c.args.said) c.requires.said.1
-    c.args.r c.requires.node.within
+node_of-requires-clause-relative c = number-small c.args.machine.now c.args.grant.now c.args.r c.requires.node
 
 pub act-requires : goal.act-requires
 act-requires c = record {

@@ -1,4 +1,4 @@
-use Rattle.ce_cube.proofs.Resting.{rounds-rest}
+use Rattle.ce_cube.proofs.Idle.{rounds-rest}
 use Rattle.ce_cube.proofs.laws.rounds_rest_law.Goals as goal
 
 pub returns : goal.returns

@@ -1,5 +1,4 @@
-use Rattle.std.proofs.Common.{◌≡◌, List, [], ◌∷◌, ◌++◌, length, refl, sym, ap, ◌∙◌, subst, arith, append_assoc}
-use Rattle.std.specs.List.{AllByRecursion}
+use Rattle.std.proofs.Common.{◌≡◌, List, [], ◌∷◌, ◌++◌, length, refl, sym, ap, ◌∙◌, arith, append_assoc}
 use Rattle.std.proofs.lemmas.Bool.{eq-eqb}
 use Rattle.std.proofs.lemmas.List.{length-append}
 use Rattle.ce_model.specs.declared.topology.TheConstants.{HOST}
@@ -7,10 +6,8 @@ use Rattle.ce_model.specs.declared.topology.Place.{Place}
 use Rattle.ce_model.specs.declared.topology.BlockId.{BlockId}
 use Rattle.ce_model.specs.Blocks.{Block}
 use Rattle.ce_model.specs.Renaming.{place_outward, targets_renamed}
-use Rattle.ce_model.specs.Subcubes.{node_of}
 use Rattle.rk_mail.specs.Targets.{targets_of}
-use Rattle.ce_machine.specs.Desks.{IsInCube}
-use Rattle.ce_machine.proofs.Letters.{IsPosted, posted-none, posted-more, out-apart, out-own, node-left, host-left}
+use Rattle.ce_machine.proofs.Letters.{posted-none, posted-more, out-apart, out-own, node-left, host-left}
 use Rattle.ce_machine.proofs.desks.post_all.Goals as goal
 
 pub loop-to-init : goal.loop-to-init
@@ -25,37 +22,25 @@ loop-to-init c = record {
 
 pub post-requires-clause-at_node : goal.post-requires-clause-at_node
 post-requires-clause-at_node c = λ below.
-    let sub = c.args.grant.now.sub in
-    let inv = c.loop-to.invariant in
-    let from = c.args.from in
-    let posted = rw c.in-Some.ensures.taken at c.loop-to.invariant.posted in
-    node-left sub from c.args.first c.args.batch c.args.desks.now.items c.args.host.now c.requires.room c.loop-to.number (c.in-Some.to, c.in-Some.block) c.take_first.new.self c.loop-to.desks.items c.loop-to.host posted
-    (node_of sub c.in-Some.to.node) (c.requires.sub.within c.in-Some.to.node below) (out-own (length c.args.desks.now.items) c.args.grant.now.dim sub c.in-Some.to.node c.requires.sub below)
+    node-left c.requires.room (rw c.in-Some.ensures.taken at c.loop-to.invariant.posted)
+    _ (c.requires.sub.within c.in-Some.to.node below) (out-own c.in-Some.to.node c.requires.sub below)
 
 pub post-requires-clause-at_host : goal.post-requires-clause-at_host
 post-requires-clause-at_host c = λ host.
-    let sub = c.args.grant.now.sub in
-    let inv = c.loop-to.invariant in
-    let from = c.args.from in
-    let posted = rw c.in-Some.ensures.taken at c.loop-to.invariant.posted in
-    let places = subst (λ b. AllByRecursion (λ (target : Place × Block). IsInCube c.args.grant.now.dim target.0) b) c.in-Some.ensures.taken inv.places in
-    host-left sub from c.args.first c.args.batch c.args.desks.now.items c.args.host.now c.requires.room c.loop-to.number (c.in-Some.to, c.in-Some.block) c.take_first.new.self c.loop-to.desks.items c.loop-to.host posted
-    (out-apart (length c.args.desks.now.items) c.args.grant.now.dim sub c.in-Some.to c.requires.sub places.0 ∙ eq-eqb c.in-Some.to.node HOST host)
+    let places = rw c.in-Some.ensures.taken at c.loop-to.invariant.places in
+    host-left c.requires.room (rw c.in-Some.ensures.taken at c.loop-to.invariant.posted)
+    (out-apart c.in-Some.to c.requires.sub places.0 ∙ eq-eqb c.in-Some.to.node HOST host)
 
 pub loop-to-preserved : goal.loop-to-preserved
 loop-to-preserved c =
-    let sub = c.args.grant.now.sub in
     let inv = c.loop-to.invariant in
-    let from = c.args.from in
     let taken : c.loop-to.batch ≡ (c.in-Some.to, c.in-Some.block) ∷ c.take_first.new.self = c.in-Some.ensures.taken in
-    let posted = subst (λ b. IsPosted sub from c.args.first c.args.batch c.args.desks.now.items c.args.host.now c.loop-to.number b c.loop-to.desks.items c.loop-to.host) taken inv.posted in
-    let places = subst (λ b. AllByRecursion (λ (target : Place × Block). IsInCube c.args.grant.now.dim target.0) b) taken inv.places in
-    let named : List (Place × Block) → List (Place × BlockId) = λ b. targets_renamed (place_outward sub) (λ id. id) (targets_of b) in
+    let places = rw taken at inv.places in
+    let named : List (Place × Block) → List (Place × BlockId) = λ b. targets_renamed (place_outward c.args.grant.now.sub) (λ id. id) (targets_of b) in
     let rest = named c.take_first.new.self in
     let one : List (Place × BlockId) = (c.outward.result, c.id.result) ∷ [] in
     record {
-      posted = posted-more sub from c.args.first c.args.batch c.args.desks.now.items c.args.host.now c.loop-to.number (c.in-Some.to, c.in-Some.block) c.take_first.new.self c.loop-to.desks.items c.post.new.desks.items
-          c.loop-to.host c.post.new.host posted c.post.ensures.desks c.post.ensures.host (out-apart (length c.args.desks.now.items) c.args.grant.now.dim sub c.in-Some.to c.requires.sub places.0);
+      posted = posted-more (rw taken at inv.posted) c.post.ensures.desks c.post.ensures.host (out-apart c.in-Some.to c.requires.sub places.0);
       places = places.1;
       numbers = omega (arith, inv.numbers, ap length taken);
       targets = ap (λ front. front ++ rest) c.push_reserved.ensures.items ∙ append_assoc c.loop-to.targets.items one rest

@@ -1,4 +1,4 @@
-use Rattle.std.proofs.Common.{◌≡◌, ℕ, ◌+◌, ◌<◌, ◌^◌, List, flat_map, map, length, ap, ◌∙◌, arith}
+use Rattle.std.proofs.Common.{◌≡◌, ℕ, ◌+◌, ◌^◌, List, flat_map, map, length, ap, ◌∙◌, arith}
 use Rattle.std.specs.List.{range_with_len}
 use Rattle.std.proofs.lemmas.List.{length-append}
 use Rattle.ce_model.specs.Parcels.{Item}
@@ -6,7 +6,7 @@ use Rattle.ce_model.specs.Trace.{NodeRecord}
 use Rattle.ce_model.specs.Subcubes.{node_of}
 use Rattle.ce_machine.specs.Rooms.{node_room_lem}
 use Rattle.ce_machine.specs.Tables.{desk_at}
-use Rattle.ce_machine.proofs.Loops.{read-at, rest_from, rest-more, rest-none, rest-whole, few-nodes}
+use Rattle.ce_machine.proofs.Loops.{rest_from, rest-more, rest-none, rest-whole, few-nodes}
 use Rattle.ce_machine.proofs.desks.waiting_count.Goals as goal
 
 pub overflow_add-count : goal.overflow_add-count
@@ -17,16 +17,12 @@ pub loop-r-preserved : goal.loop-r-preserved
 loop-r-preserved c =
     let desks = c.args.desks.now.items in
     let sub = c.args.grant.now.sub in
-    let d = c.args.grant.now.dim in
     let r = c.loop-r.r in
     let end = c.node_count-r-end.result in
-    let below : r < 2 ^ d = omega (arith, c.loop-r-test.true, c.node_count-r-end.ensures) in
-    let desk : c.index-desk.result.now ≡ desk_at desks (node_of sub r) =
-    read-at desks (node_of sub r) _ c.index-desk.result.now (c.requires.within r below) c.node_at.ensures c.index-desk.ensures in
     let waits : List ℕ → List Item = λ nodes. flat_map (λ node. (desk_at desks node).waiting) nodes in
     let step : length (waits (rest_from sub r end)) ≡ length (desk_at desks (node_of sub r)).waiting + length (waits (rest_from sub (r + 1) end)) =
     ap (λ nodes. length (waits nodes)) (rest-more sub r end c.loop-r-test.true) ∙ length-append (desk_at desks (node_of sub r)).waiting (waits (rest_from sub (r + 1) end)) in
-    let here : c.count.result ≡ length (desk_at desks (node_of sub r)).waiting = c.count.ensures.value ∙ ap (λ (kept : NodeRecord). length kept.waiting) desk in
+    let here : c.count.result ≡ length (desk_at desks (node_of sub r)).waiting = c.count.ensures.value ∙ ap (λ (kept : NodeRecord). length kept.waiting) c.desk_of.ensures in
     record {
       all = omega (arith, c.loop-r.invariant.all, step, here);
       few = omega (arith, c.loop-r.invariant.few, c.count.ensures.within, node_room_lem);

@@ -3,7 +3,7 @@ use Rattle.std.specs.String.{string_bytes}
 use Rattle.ce_io.specs.Whole.{reading, writing}
 use Rattle.ce_words.specs.Line.{line_of}
 use Rattle.ce_script.specs.Load.{load}
-use Rattle.ce_run.specs.declared.ended.Ended.{Ended}
+use Rattle.ce_run.specs.declared.ended.RunEnd.{RunEnd}
 use Rattle.ce_run.specs.Promise.{HasEnded, HasFinished, HasScript}
 use Rattle.ce_run.proofs.Ends.{ends_at_words, ends_of_load, runs_as_promised}
 use Rattle.ce_run.proofs.program.serial_call.Goals as goal
@@ -11,7 +11,7 @@ use Rattle.ce_run.proofs.program.serial_call.Goals as goal
 pub returns-in-Err-clause-ended : goal.returns-in-Err-clause-ended
 returns-in-Err-clause-ended g c =
     let words : List (List ℕ) = map string_bytes c.args.words.now in
-    let P : Ended → Type 0 = HasEnded words (reading g.S.Source.left g.S.Source.given g.S.Source.faults c.args.source.now c.args.source.now)
+    let P : RunEnd → Type 0 = HasEnded words (reading g.S.Source.left g.S.Source.given g.S.Source.faults c.args.source.now c.args.source.now)
     (writing g.K.Sink.written g.K.Sink.faults c.args.sink.now c.args.sink.now) in
     subst P (sym c.refused.ensures)
     (ends_at_words g.S.Source.left g.S.Source.given g.S.Source.faults c.args.source.now g.K.Sink.written g.K.Sink.faults c.args.sink.now words

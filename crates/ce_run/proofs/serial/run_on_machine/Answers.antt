@@ -17,43 +17,31 @@ loop-user-init c =
     run-opens-by c.args.script.now c.in_ok-machine.machine c.in_ok-seats.seats.items c.in_ok-users.users.items c.len.result c.as_slice-2.result.now c.in_ok-machine.ensures
     c.len.ensures c.in_ok-seats.ensures c.as_slice-2.ensures c.in_ok-users.ensures
 
-pub go_further-requires-clause-machine : goal.go_further-requires-clause-machine
-go_further-requires-clause-machine c =
-    within-machine c.args.script.now c.loop-user.machine c.loop-user.seats.items c.loop-user.users.items c.loop-user.user-index c.loop-user.invariant
-    c.requires.within c.requires.users
-
-pub go_further-requires-clause-images : goal.go_further-requires-clause-images
-go_further-requires-clause-images c =
-    same-images c.args.script.now c.loop-user.machine c.loop-user.seats.items c.loop-user.users.items c.loop-user.user-index c.loop-user.invariant
-    c.as_slice-in-loop-user.result.now (c.as_slice-in-loop-user.ensures.value ∙ c.in_ok-images.ensures ∙ ap (map (λ named. named.image)) c.as_slice.ensures)
-
-pub go_further-requires-clause-user : goal.go_further-requires-clause-user
-go_further-requires-clause-user c =
-    let item = c.loop-user-item.result in
-    let i = c.loop-user.user-index in
-    let below = subst (λ (commands : List (ℕ × Command)). i < length commands) c.as_slice-user-items.ensures c.loop-user-test.true in
-    let is = subst (λ (commands : List (ℕ × Command)). item ≡ get_or commands i item) c.as_slice-user-items.ensures c.loop-user-item.is in
-    let own = next-within c.args.script.now c.loop-user.machine c.loop-user.seats.items c.loop-user.users.items i c.loop-user.invariant c.requires.within item.0 item.1 below is in
-    subst (λ (users : List UserRecord). item.0 < length users) (sym c.as_mut_slice-in-loop-user.ensures.value) own.0
-
-pub go_further-requires-clause-command : goal.go_further-requires-clause-command
-go_further-requires-clause-command c =
-    let item = c.loop-user-item.result in
-    let i = c.loop-user.user-index in
-    let below = subst (λ (commands : List (ℕ × Command)). i < length commands) c.as_slice-user-items.ensures c.loop-user-test.true in
-    let is = subst (λ (commands : List (ℕ × Command)). item ≡ get_or commands i item) c.as_slice-user-items.ensures c.loop-user-item.is in
-    (next-within c.args.script.now c.loop-user.machine c.loop-user.seats.items c.loop-user.users.items i c.loop-user.invariant c.requires.within item.0 item.1 below is).1
-
-pub go_further-requires-clause-behind : goal.go_further-requires-clause-behind
-go_further-requires-clause-behind c =
+pub go_further-requires : goal.go_further-requires
+go_further-requires c =
     let script = c.args.script.now in
     let machine = c.loop-user.machine in
-    let part = c.loop-user.invariant in (
-      script,
-      part.all,
-      subst (λ seats. IsRunBehind script machine seats c.as_mut_slice-in-loop-user.result.now part.all) (sym c.as_mut_slice.ensures.value)
-          (subst (λ users. IsRunBehind script machine c.loop-user.seats.items users part.all) (sym c.as_mut_slice-in-loop-user.ensures.value) part.behind),
-    )
+    let seats = c.loop-user.seats.items in
+    let users = c.loop-user.users.items in
+    let i = c.loop-user.user-index in
+    let part = c.loop-user.invariant in
+    let item = c.loop-user-item.result in
+    let below = subst (λ (commands : List (ℕ × Command)). i < length commands) c.as_slice-user-items.ensures c.loop-user-test.true in
+    let is = subst (λ (commands : List (ℕ × Command)). item ≡ get_or commands i item) c.as_slice-user-items.ensures c.loop-user-item.is in
+    let own = next-within script machine seats users i part c.requires.within item.0 item.1 below is in
+    record {
+      machine = within-machine script machine seats users i part c.requires.within c.requires.users;
+      images = same-images script machine seats users i part c.as_slice-in-loop-user.result.now
+          (c.as_slice-in-loop-user.ensures.value ∙ c.in_ok-images.ensures ∙ ap (map (λ named. named.image)) c.as_slice.ensures);
+      user = subst (λ (users : List UserRecord). item.0 < length users) (sym c.as_mut_slice-in-loop-user.ensures.value) own.0;
+      command = own.1;
+      behind = (
+        script,
+        part.all,
+        subst (λ seats. IsRunBehind script machine seats c.as_mut_slice-in-loop-user.result.now part.all) (sym c.as_mut_slice.ensures.value)
+            (subst (λ users. IsRunBehind script machine seats users part.all) (sym c.as_mut_slice-in-loop-user.ensures.value) part.behind),
+      );
+    }
 
 pub loop-user-preserved : goal.loop-user-preserved
 loop-user-preserved c =

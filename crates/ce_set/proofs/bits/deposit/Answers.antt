@@ -1,8 +1,8 @@
-use Rattle.std.proofs.Common.{◌≡◌, ℕ, ◌+◌, ◌-◌, ◌*◌, ◌%◌, ◌^◌, ◌<◌, ◌≤◌, sym, ap, ◌∙◌, arith}
+use Rattle.std.proofs.Common.{◌≡◌, ◌-◌, ◌%◌, ◌^◌, ◌<◌, refl, sym, ap, ◌∙◌, arith}
 use Rattle.ce_model.specs.Limits.{greatest_dim, greatest_dim_lem}
-use Rattle.ce_model.specs.Subcubes.{deposit, deposited, extract}
+use Rattle.ce_model.specs.Subcubes.{deposit, deposited_bits, extract}
 use Rattle.ce_model.proofs.Subcubes.{deposited-below, deposited-part, extracted-deposited, deposited-rises}
-use Rattle.ce_set.proofs.Steps.{low_bit, low_bit_shifted, deposit_more_one, deposit_more_none}
+use Rattle.ce_set.proofs.Steps.{low_bit, low_bit_shifted, deposit_more_one, deposit_more_none, none_left}
 use Rattle.ce_set.proofs.bits.deposit.Goals as goal
 use Rattle.ce_set.proofs.bits.deposit.Goals.{then-rest-eq1, else-rest-eq1}
 
@@ -30,17 +30,10 @@ loop-place-preserved c =
           rw (w.node-is, w.left-is, deposit_more_none greatest_dim l.place l.node l.left l.rest below none) l.invariant
     ]
 
--- at the end no bit is left
-whole : (bits place node left rest all : ℕ) → bits ≤ place → node + 2 ^ place * deposited (bits - place) left rest ≡ all → node ≡ all
-whole bits place node left rest all past is =
-    let none : bits - place ≡ 0 = omega arith in
-    let after : node + 2 ^ place * 0 ≡ all = rw none at is in
-    omega arith
-
-is_deposited : (c : goal.After-loop-place) → c.loop-place.node ≡ deposited greatest_dim c.args.r c.args.mask
+is_deposited : (c : goal.After-loop-place) → c.loop-place.node ≡ deposited_bits greatest_dim c.args.r c.args.mask
 is_deposited c =
     let l = c.loop-place in
-    whole greatest_dim l.place l.node l.left l.rest _ (omega (arith, greatest_dim_lem)) l.invariant
+    none_left (λ bits. deposited_bits bits l.left l.rest) greatest_dim l.place (2 ^ l.place) l.node _ refl (omega (arith, greatest_dim_lem)) l.invariant
 
 pub returns-clause-value : goal.returns-clause-value
 unfolding deposit

@@ -1,8 +1,8 @@
-use Rattle.std.proofs.Common.{◌≡◌, ℕ, ◌+◌, ◌-◌, ◌*◌, ◌%◌, ◌^◌, ◌<◌, ◌≤◌, sym, ◌∙◌, arith}
+use Rattle.std.proofs.Common.{◌≡◌, ◌-◌, ◌%◌, ◌^◌, ◌<◌, refl, sym, ◌∙◌, arith}
 use Rattle.ce_model.specs.Limits.{greatest_dim, greatest_dim_lem}
-use Rattle.ce_model.specs.Subcubes.{deposit, extract, extracted, ones_of}
+use Rattle.ce_model.specs.Subcubes.{deposit, extract, extracted_bits, ones_of}
 use Rattle.ce_model.proofs.Subcubes.{extracted-below, ones_of-bound, deposited-extracted, extracted-rises}
-use Rattle.ce_set.proofs.Steps.{low_bit, low_bit_shifted, extract_more_one, extract_more_none, pow_le}
+use Rattle.ce_set.proofs.Steps.{low_bit, low_bit_shifted, extract_more_one, extract_more_none, none_left, pow_le}
 use Rattle.ce_set.proofs.bits.extract.Goals as goal
 use Rattle.ce_set.proofs.bits.extract.Goals.{then-rest-eq1, else-rest-eq1}
 
@@ -36,17 +36,10 @@ loop-place-preserved c =
           }
     ]
 
--- at the end no bit is left
-whole : (bits place found r left rest all : ℕ) → bits ≤ place → r + 2 ^ found * extracted (bits - place) left rest ≡ all → r ≡ all
-whole bits place found r left rest all past is =
-    let none : bits - place ≡ 0 = omega arith in
-    let after : r + 2 ^ found * 0 ≡ all = rw none at is in
-    omega arith
-
-is_extracted : (c : goal.After-loop-place) → c.loop-place.r ≡ extracted greatest_dim c.args.node c.args.mask
+is_extracted : (c : goal.After-loop-place) → c.loop-place.r ≡ extracted_bits greatest_dim c.args.node c.args.mask
 is_extracted c =
     let l = c.loop-place in
-    whole greatest_dim l.place l.found l.r l.left l.rest _ (omega (arith, greatest_dim_lem)) l.invariant.whole
+    none_left (λ bits. extracted_bits bits l.left l.rest) greatest_dim l.place (2 ^ l.found) l.r _ refl (omega (arith, greatest_dim_lem)) l.invariant.whole
 
 pub returns-clause-value : goal.returns-clause-value
 unfolding extract

@@ -5,7 +5,7 @@ use Rattle.std.proofs.lemmas.Nat.{one_shl, pow_below}
 use Rattle.std.proofs.lemmas.Nat.Bits.{bit_at-pow_same, bit_at-pow_other}
 use Rattle.ce_model.specs.declared.topology.Subcube.{Subcube}
 use Rattle.ce_model.specs.Limits.{greatest_dim, greatest_dim_lem}
-use Rattle.ce_model.specs.Subcubes.{extract, deposit, deposited, is_inside, node_of}
+use Rattle.ce_model.specs.Subcubes.{extract, deposit, deposited_bits, is_inside, node_of}
 use Rattle.ce_model.proofs.Subcubes.{extract-below, node_of-extract, is_inside-node_of, is_inside-within}
 use Rattle.ce_set.specs.Words.{has_bit}
 use Rattle.ce_set.proofs.Steps.{low_bit}
@@ -80,7 +80,7 @@ reaches-all sub n apart =
     (λ inside.
     let r = extract n sub.mask in
     let there = reaches-placed greatest_dim 0 sub.mask sub.base r (extract-below n sub.mask) in
-    let same : sub.base + 1 * deposited greatest_dim r sub.mask ≡ n = omega (arith, node_of-extract sub n inside) in
+    let same : sub.base + 1 * deposited_bits greatest_dim r sub.mask ≡ n = omega (arith, node_of-extract sub n inside) in
     rw same at there)
 
 pub returns : goal.returns

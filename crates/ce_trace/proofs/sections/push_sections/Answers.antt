@@ -3,13 +3,13 @@ use Rattle.ce_trace.specs.Sections.{cube_of}
 use Rattle.ce_trace.proofs.Ahead.{ahead-none, ahead-some}
 use Rattle.ce_trace.proofs.Lasts.{behind_linked, length-links_of}
 use Rattle.ce_trace.proofs.sections.push_sections.Goals as goal
-use Rattle.ce_trace.proofs.sections.push_sections.Goals.{in-Some+in_ok-push_section, in_default}
+use Rattle.ce_trace.proofs.sections.push_sections.Goals.{in-Some+in_ok-push_head+in_ok-push_trace, in_default}
 
 pub bounds-links-history : goal.bounds-links-history
 bounds-links-history c = omega (arith, ap length c.requires, length-links_of c.args.history.now)
 
-pub push_section-requires-clause-own : goal.push_section-requires-clause-own
-push_section-requires-clause-own c =
+pub push_trace-requires-clause-own : goal.push_trace-requires-clause-own
+push_trace-requires-clause-own c =
     (behind_linked (cube_of c.in-Some.grant) c.args.history.now c.args.links.now c.loop-at.at c.index-history-at.result c.requires (omega arith) c.index-history-at.is (sym c.in-Some.ensures.user)).own
 
 pub loop-at-preserved : goal.loop-at-preserved
@@ -21,11 +21,11 @@ loop-at-preserved c =
     let at = c.loop-at.at in
     let entry = c.index-history-at.result in
     elim c.match-grant_by.branch [
-      | in-Some+in_ok-push_section w ↦
+      | in-Some+in_ok-push_head+in_ok-push_trace w ↦
           let own = behind_linked (cube_of w.in-Some.grant) history c.args.links.now at entry c.requires (omega arith) c.index-history-at.is (sym w.in-Some.ensures.user) in
           record {
             counted = omega arith;
-            sections = rw (w.text-is, w.number-is) (ahead-some script kept number history at entry w.in-Some.grant _ _ _ _ (omega arith) c.index-history-at.is w.in-Some.ensures.cube own c.loop-at.invariant.sections w.in_ok-push_section.ensures);
+            sections = rw (w.text-is, w.number-is) (ahead-some script kept number history at entry w.in-Some.grant _ _ _ _ _ (omega arith) c.index-history-at.is w.in-Some.ensures.cube own c.loop-at.invariant.sections w.in_ok-push_head.ensures w.in_ok-push_trace.ensures);
           }
       | in_default w ↦
           record {

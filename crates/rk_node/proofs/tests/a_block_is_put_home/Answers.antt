@@ -4,7 +4,7 @@ use Rattle.ce_model.specs.Blocks.{put}
 use Rattle.ce_model.specs.Node.{blocks_of}
 use Rattle.ce_model.specs.Kernel.{with_store}
 use Rattle.ce_solo.proofs.Counting.{hit-le, count, count-nil, count-one}
-use Rattle.xm_block.specs.Stores.{Kept, ids_of}
+use Rattle.xm_block.specs.Stores.{KeptBlock, ids_of}
 use Rattle.rk_node.specs.Boxes.{Box}
 use Rattle.rk_node.proofs.Names.{not_contained}
 use Rattle.rk_node.proofs.Rooms.{blocks-fresh, blocks-scrubbed, blocks-put}
@@ -15,7 +15,7 @@ new-requires g c = omega (arith, greatest_blocks_lem)
 
 pub scrub-requires-clause-room : goal.scrub-requires-clause-room
 scrub-requires-clause-room g c =
-    omega (arith, blocks-fresh c.in_ok-node.node.node c.in_ok-node.ensures.clean.node, home_blocks_lem, ap (λ (store : Kept). store.spare) c.in_ok-all.ensures)
+    omega (arith, blocks-fresh c.in_ok-node.node.node c.in_ok-node.ensures.clean.node, home_blocks_lem, ap (λ (store : KeptBlock). store.spare) c.in_ok-all.ensures)
 
 pub put_home-requires-clause-apart : goal.put_home-requires-clause-apart
 put_home-requires-clause-apart g c =
@@ -32,7 +32,7 @@ scrub-requires-2-clause-room g c =
     let id = c.in_ok-new.field-0.id in
     let one = ap (λ (box : Box). blocks_of box.node) c.put_home.ensures
     ∙ ap (λ (box : Box). blocks_of (with_store (put id box.node.store) box.node)) c.scrub.ensures.after ∙ blocks-put id c.in_ok-node.node.node in
-    omega (arith, ap {B = ℕ} length one, ap (λ (store : Kept). store.spare) c.in_ok-one.ensures)
+    omega (arith, ap {B = ℕ} length one, ap (λ (store : KeptBlock). store.spare) c.in_ok-one.ensures)
 
 pub scrub-requires-2-clause-apart : goal.scrub-requires-2-clause-apart
 scrub-requires-2-clause-apart g c =
@@ -42,6 +42,6 @@ scrub-requires-2-clause-apart g c =
     record {
       apart = λ other.
           let same = ap (λ ids. count other (ids ++ ids_of c.in_ok-one.one.blocks)) one
-          ∙ ap (λ (store : Kept). count other (id ∷ ids_of store.blocks)) c.in_ok-one.ensures ∙ count-one other id in
+          ∙ ap (λ (store : KeptBlock). count other (id ∷ ids_of store.blocks)) c.in_ok-one.ensures ∙ count-one other id in
           omega (arith, same, hit-le other id);
     }

@@ -1,6 +1,6 @@
 use Rattle.std.proofs.Common.{◌+◌, ◌∙◌, sym, arith, length}
 use Rattle.ce_text.specs.Bytes.{is_line_feed}
-use Rattle.rv_asm.specs.FirstPass.{Laid, line_laid, lines_laid, first_pass}
+use Rattle.rv_asm.specs.FirstPass.{LayoutSoFar, line_laid, lines_laid, first_pass}
 use Rattle.rv_asm.specs.LaidOut.{laid_out}
 use Rattle.ce_text.proofs.Splitting.{split_behind}
 use Rattle.rv_asm.proofs.Gathering.{left, left_shorter}
@@ -13,7 +13,7 @@ unfolding first_pass
 returns-in-Err c =
     let parts = rw c.in-Some.bytes-is at c.cut_at.ensures.parts in
     let so_far = rw c.in-Some.is at c.loop-rest.invariant.whole in
-    let next = λ (one : Laid). lines_laid (c.loop-rest.number + 1) one (split_behind is_line_feed (left c.cut_at.result.1)) in
+    let next = λ (one : LayoutSoFar). lines_laid (c.loop-rest.number + 1) one (split_behind is_line_feed (left c.cut_at.result.1)) in
     let step = lines_step c.loop-rest.number (laid_out c.loop-rest.layout) c.in-Some.bytes.now c.cut_at.result.0.now (left c.cut_at.result.1) parts in
     rw c.at.ensures
     (stops_all c.in-Err.halt (c.loop-rest.number + 1) (line_laid (c.loop-rest.number + 1) (laid_out c.loop-rest.layout) c.cut_at.result.0.now) next (first_pass c.args.text.now) (sym so_far ∙ step) c.in-Err.ensures)

@@ -1,8 +1,8 @@
 use Rattle.std.proofs.Common.{◌≡◌, ℕ, ◌+◌, vec_len, Ok, sym, subst, arith, length, drop}
 use Rattle.std.proofs.lemmas.Grind.{common_steps}
 use Rattle.rv_model.specs.Image.{image_start}
-use Rattle.rv_asm.specs.declared.statement.Placed.{Placed}
-use Rattle.rv_asm.specs.Symbols.{names_of}
+use Rattle.rv_asm.specs.declared.statement.PlacedStatement.{PlacedStatement}
+use Rattle.ce_text.specs.Names.{meanings_of}
 use Rattle.rv_asm.specs.Sizes.{size_of}
 use Rattle.rv_asm.specs.Faults.{◌>>=◌, IsHaltOf}
 use Rattle.rv_asm.specs.FirstPass.{at_line}
@@ -13,7 +13,7 @@ use Rattle.rv_asm.proofs.second_pass.second_pass.Goals as goal
 
 pub loop-placed-init : goal.loop-placed-init
 loop-placed-init c = record {
-  put = put_none (names_of c.args.layout.now.symbols) c.args.layout.now.statements.items c.new-out.result.items c.new-out.ensures.items;
+  put = put_none (meanings_of c.args.layout.now.symbols) c.args.layout.now.statements.items c.new-out.result.items c.new-out.ensures.items;
   size = c.new-out.ensures.len;
 }
 
@@ -26,7 +26,7 @@ put_statement-requires-clause-sound c =
 pub returns-in-Err-clause-parts : goal.returns-in-Err-clause-parts
 returns-in-Err-clause-parts c =
     let all = c.args.layout.now.statements.items in
-    let names = names_of c.args.layout.now.symbols in
+    let names = meanings_of c.args.layout.now.symbols in
     let out = c.loop-placed.out.items in
     let i = c.loop-placed.placed-index in
     let d = c.placed-item.result in
@@ -36,7 +36,7 @@ returns-in-Err-clause-parts c =
     let stopped = subst (λ (n : ℕ). IsHaltOf c.in-Err.halt (parts_of names (image_start + n) d.statement)) (sym len) c.in-Err.ensures.parts in
     let step = put_step names all i d out (omega arith) before in
     let step_here = subst
-    (λ (p : Placed). second_pass names image_start all ≡ (at_line p.line (parts_of names (image_start + length out) p.statement) >>= onward names (image_start + length out + size_of p.statement) (drop (i + 1) all) before.parts))
+    (λ (p : PlacedStatement). second_pass names image_start all ≡ (at_line p.line (parts_of names (image_start + length out) p.statement) >>= onward names (image_start + length out + size_of p.statement) (drop (i + 1) all) before.parts))
     (sym item) step in
     rw c.at.ensures
     (stops_all c.in-Err.halt d.line (parts_of names (image_start + length out) d.statement) (onward names (image_start + length out + size_of d.statement) (drop (i + 1) all) before.parts)
@@ -45,7 +45,7 @@ returns-in-Err-clause-parts c =
 pub loop-placed-preserved : goal.loop-placed-preserved
 loop-placed-preserved c =
     let all = c.args.layout.now.statements.items in
-    let names = names_of c.args.layout.now.symbols in
+    let names = meanings_of c.args.layout.now.symbols in
     let out = c.loop-placed.out.items in
     let i = c.loop-placed.placed-index in
     let d = c.placed-item.result in
@@ -54,9 +54,9 @@ loop-placed-preserved c =
     let new_len : length c.put_statement.new.out.items ≡ vec_len c.put_statement.new.out = omega (arith, c.put_statement.new.out.ok.0) in
     let parts = c.in_default.ensures.parts.0 in
     let known = subst (λ (n : ℕ). parts_of names (image_start + n) d.statement ≡ Ok parts) (sym len) c.in_default.ensures.parts.1 in
-    let known_here = subst (λ (p : Placed). parts_of names (image_start + length out) p.statement ≡ Ok parts) item known in
+    let known_here = subst (λ (p : PlacedStatement). parts_of names (image_start + length out) p.statement ≡ Ok parts) item known in
     let grown : length c.put_statement.new.out.items ≡ length out + size_of d.statement = omega (arith, c.in_default.ensures.size) in
-    let grown_here = subst (λ (p : Placed). length c.put_statement.new.out.items ≡ length out + size_of p.statement) item grown in
+    let grown_here = subst (λ (p : PlacedStatement). length c.put_statement.new.out.items ≡ length out + size_of p.statement) item grown in
     record {
       put = put_more names all i d out c.put_statement.new.out.items (omega arith) c.loop-placed.invariant.put parts known_here c.in_default.ensures.parts.2 grown_here;
       size = grind (arith, common_steps);
@@ -65,4 +65,4 @@ loop-placed-preserved c =
 pub returns-clause-parts : goal.returns-clause-parts
 returns-clause-parts c =
     let so_far = c.loop-placed.invariant.put in
-    (so_far.parts, put_all (names_of c.args.layout.now.symbols) c.args.layout.now.statements.items c.loop-placed.placed-index c.loop-placed.out.items (omega arith) so_far, so_far.spelled)
+    (so_far.parts, put_all (meanings_of c.args.layout.now.symbols) c.args.layout.now.statements.items c.loop-placed.placed-index c.loop-placed.out.items (omega arith) so_far, so_far.spelled)

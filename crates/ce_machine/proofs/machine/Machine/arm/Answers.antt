@@ -1,23 +1,12 @@
-use Rattle.ce_machine.specs.declared.call.Call.TheVariants.{Arm}
-use Rattle.ce_machine.proofs.Steps.{history-is, few-now, fits-inside, answered-outside}
+use Rattle.ce_machine.proofs.Steps.{begun, history-is, fits-inside, answered-outside}
 use Rattle.ce_machine.proofs.HeadSteps.{armed}
 use Rattle.ce_machine.proofs.machine.Machine.arm.Goals as goal
 
 pub invariant_of-self-2 : goal.invariant_of-self-2
 invariant_of-self-2 g c =
-    let m = c.self.inside in
-    let home = g.N.Homed.home in
-    let clean = g.N.Homed.clean in
-    (armed home clean _ m.history.items m.daemon m.desks.items m.hosts.items c.self.invariant (few-now _ _ c.make_room.ensures.same c.in_ok-make_room.ensures.few) c.args.who c.push_reserved.new.self.items
-    c.args.count c.index_mut-host.result.now c.arm.new.self (fits-inside home clean _ _ c.self.view_is c.args.who (Arm c.args.count) c.requires) c.index_mut-host.ensures.value c.arm.ensures
-    (history-is _ _ _ _ _ c.push_reserved.ensures.items c.make_room.ensures.same c.entry.ensures)).sound
+    (armed (begun c.self.invariant c.in_ok-make_room.ensures.few) _ (fits-inside c.self.view_is c.requires) c.index_mut-host.ensures.value c.arm.ensures (history-is _ c.add_entry.ensures c.make_room.ensures.same)).sound
 
 pub returns-clause-answered : goal.returns-clause-answered
 returns-clause-answered g c =
-    let m = c.self.inside in
-    let home = g.N.Homed.home in
-    let clean = g.N.Homed.clean in
-    answered-outside home clean _ _ c.self.view_is c.args.who (Arm c.args.count) _ _
-    (armed home clean _ m.history.items m.daemon m.desks.items m.hosts.items c.self.invariant (few-now _ _ c.make_room.ensures.same c.in_ok-make_room.ensures.few) c.args.who c.push_reserved.new.self.items
-    c.args.count c.index_mut-host.result.now c.arm.new.self (fits-inside home clean _ _ c.self.view_is c.args.who (Arm c.args.count) c.requires) c.index_mut-host.ensures.value c.arm.ensures
-    (history-is _ _ _ _ _ c.push_reserved.ensures.items c.make_room.ensures.same c.entry.ensures)).answered
+    answered-outside c.self.view_is
+    (armed (begun c.self.invariant c.in_ok-make_room.ensures.few) _ (fits-inside c.self.view_is c.requires) c.index_mut-host.ensures.value c.arm.ensures (history-is _ c.add_entry.ensures c.make_room.ensures.same)).answered

@@ -1,4 +1,4 @@
-use Rattle.ce_model.specs.declared.entry.Found.TheVariants as found
+use Rattle.ce_model.specs.declared.entry.LookResult.TheVariants as found
 use Rattle.ce_run.proofs.Seating.{may-look}
 use Rattle.ce_run.proofs.Looking.{looked, look-ends}
 use Rattle.ce_run.proofs.commands.running.look.Goals as goal

@@ -2,7 +2,7 @@ use Rattle.std.proofs.Common.{◌∙◌, ◌++◌, sym, ap, arith, Option, ℕ, 
 use Rattle.std.specs.Prelude.{option_map}
 use Rattle.ce_script.specs.Lines.{Line}
 use Rattle.ce_script.specs.Bodies.{has_bad_word, bytes_of, fault_at}
-use Rattle.ce_script.specs.ReadLines.{numbered, texts_left, lines_shown}
+use Rattle.ce_script.specs.ReadLines.{numbered_lines, texts_left, lines_shown}
 use Rattle.ce_script.specs.declared.script.ScriptKind.TheVariants.{BadImage}
 use Rattle.ce_script.proofs.BodyFaults.{bad_word}
 use Rattle.ce_script.specs.ReadWords.{read_as}
@@ -32,7 +32,7 @@ loop-rest-preserved c =
     let so_far = rw c.in-Some.is at c.loop-rest.invariant.found in
     let bytes = rw c.in-Some.is at c.loop-rest.invariant.bytes in
     let read = read_as c.args.kind in
-    let after = numbered (c.loop-rest.number + 1 + 1) (texts_left (left c.cut_at.result.1)) in
+    let after = numbered_lines (c.loop-rest.number + 1 + 1) (texts_left (left c.cut_at.result.1)) in
     record {
       found = sym (goes_on (c.loop-rest.number + 1) c.in-Some.text.now c.cut_at.result.0.now (left c.cut_at.result.1) parts (has_bad_word read) c.in_default-push_line.ensures.0) ∙ so_far;
       bytes =

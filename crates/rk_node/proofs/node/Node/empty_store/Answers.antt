@@ -1,7 +1,7 @@
 use Rattle.std.proofs.Common.{◌≡◌, ℕ, List, [], ◌∷◌, length, suc, ap, sym, ◌∙◌, subst, arith}
 use Rattle.ce_model.specs.Blocks.{Block, put_all}
 use Rattle.ce_model.specs.Node.{Node}
-use Rattle.xm_block.specs.Stores.{Kept, ids_of}
+use Rattle.xm_block.specs.Stores.{KeptBlock, ids_of}
 use Rattle.rk_node.specs.Hearings.{AreApartFrom}
 use Rattle.rk_node.proofs.Names.{length-ids_of}
 use Rattle.rk_node.proofs.Moved.{apart-next, not_stored}
@@ -25,7 +25,7 @@ loop-block-preserved c =
     let out = c.loop-block.out in
     let taken : c.loop-block.self.store.blocks ≡ block ∷ rest = c.in-Some.ensures.taken in
     let fewer : length c.loop-block.self.store.blocks ≡ suc (length rest) = ap (λ (blocks : List Block). length blocks) taken in
-    let spare = ap (λ (store : Kept). store.spare) c.give.ensures.after in
+    let spare = ap (λ (store : KeptBlock). store.spare) c.give.ensures.after in
     let s = was.stocked in
     record {
       node = ap (λ (n : Node). record n { store = ids_of rest }) was.node;

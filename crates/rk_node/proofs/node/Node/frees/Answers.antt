@@ -4,7 +4,7 @@ use Rattle.ce_model.specs.Node as model
 use Rattle.ce_model.specs.Kernel.{gives_up, with_store}
 use Rattle.ce_solo.proofs.Counting.{count}
 use Rattle.rk_node.specs.Standing.{node_of, turn_of}
-use Rattle.rk_node.proofs.Processes.{length-processes_from}
+use Rattle.rk_node.proofs.Processes.{length-processes}
 use Rattle.rk_node.proofs.Made.{well-once, window-held, store-apart, returns-after}
 use Rattle.rk_node.proofs.node.Node.frees.Goals as goal
 
@@ -12,22 +12,20 @@ pub give-requires-clause-apart : goal.give-requires-clause-apart
 give-requires-clause-apart c =
     let node = c.args.self.now in
     let s = c.requires.ready.stocked in
-    let long = length-processes_from node.held.mappings 0 node.processes.items in
     let at = window-held node.held.mappings node.processes.items c.args.turn.pid c.args.window c.take_out-block.result (omega (arith, s.processes, c.requires.ready.sound.pid)) s.windows c.take_out-block.ensures.block in
     ap {B = ℕ} (λ (n : model.Node). count c.take_out-block.result.id n.store) c.take_out-block.ensures.node
-    ∙ store-apart (node_of node) c.args.turn.pid c.args.window c.take_out-block.result (well-once _ (node_of node) c.requires.ready.well) (omega (arith, long, s.processes, c.requires.ready.sound.pid)) at
+    ∙ store-apart (node_of node) c.args.turn.pid c.args.window c.take_out-block.result (well-once _ (node_of node) c.requires.ready.well) (omega (arith, length-processes node s, c.requires.ready.sound.pid)) at
 
 pub returns : goal.returns
 returns c =
     let node = c.args.self.now in
     let p = model.process_at (node_of node) c.args.turn.pid in
     let s = c.requires.ready.stocked in
-    let long = length-processes_from node.held.mappings 0 node.processes.items in
     let block = c.take_out-block.result in
     let store = put block.id (node_of node).store in
     let after = c.give.ensures.node ∙ ap (λ (n : model.Node). with_store (put block.id n.store) n) c.take_out-block.ensures.node in
     rw c.take_out-block.ensures.block (record {
-      did = c.returns.ensures.did ∙ returns-after (node_of node) (node_of c.give.new.self) (turn_of c.args.turn) (gives_up c.args.window p) store 0 (omega (arith, long, s.processes, c.requires.ready.sound.pid)) after;
+      did = c.returns.ensures.did ∙ returns-after (node_of node) (node_of c.give.new.self) (turn_of c.args.turn) (gives_up c.args.window p) store 0 (omega (arith, length-processes node s, c.requires.ready.sound.pid)) after;
       stocked = c.returns.ensures.stocked;
       batch = c.returns.ensures.batch;
       room = c.returns.ensures.room ∙ c.give.ensures.room ∙ c.take_out-block.ensures.size;

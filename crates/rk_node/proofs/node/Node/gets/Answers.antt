@@ -6,7 +6,7 @@ use Rattle.rk_mail.specs.Items.{parcel_of}
 use Rattle.rk_node.specs.Moves.{with_mapped}
 use Rattle.rk_node.specs.Standing.{node_of}
 use Rattle.rk_node.specs.Stocked.{IsOnce}
-use Rattle.rk_node.proofs.Processes.{length-processes_from}
+use Rattle.rk_node.proofs.Processes.{length-processes}
 use Rattle.rk_node.proofs.Heard.{begins-after, gets-begins, apart-stored, once-stored}
 use Rattle.rk_node.proofs.node.Node.gets.Goals as goal
 
@@ -22,9 +22,8 @@ returns-then-has_unused_window-clause-node c =
     let node = c.args.self.now in
     let n = node_of node in
     let pid = c.args.parcel.to.pid in
-    let long = length-processes_from node.held.mappings 0 node.processes.items in
     c.begins_with.ensures.node
     ∙ begins-after n (node_of c.map-address.new.self) pid (with_mapped c.args.parcel.block (process_at n pid)) (with_answer c.map-address.result)
-    (omega (arith, long, c.requires.ready.stocked.processes, c.requires.pid)) c.map-address.ensures.node
+    (omega (arith, length-processes node c.requires.ready.stocked, c.requires.pid)) c.map-address.ensures.node
     ∙ ap (λ a. begins n pid (with_answer a (with_mapped c.args.parcel.block (process_at n pid)))) c.map-address.ensures.start
     ∙ sym (gets-begins n (parcel_of c.args.parcel) (process_at n pid) (cc))

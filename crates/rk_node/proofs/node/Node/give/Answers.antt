@@ -1,5 +1,5 @@
 use Rattle.std.proofs.Common.{◌≡◌, length, suc, ap, ◌∙◌, arith}
-use Rattle.xm_block.specs.Stores.{Kept}
+use Rattle.xm_block.specs.Stores.{KeptBlock}
 use Rattle.rk_node.specs.Standing.{node_of}
 use Rattle.rk_node.proofs.Names.{not_contained, length-with_block}
 use Rattle.rk_node.proofs.node.Node.give.Goals as goal
@@ -14,8 +14,8 @@ pub returns-clause-stocked : goal.returns-clause-stocked
 returns-clause-stocked c =
     let s = c.requires.stocked in
     let more : length c.give.new.self.blocks ≡ suc (length c.args.self.now.store.blocks) =
-    ap (λ (store : Kept). length store.blocks) c.give.ensures.after ∙ length-with_block c.args.block c.args.self.now.store.blocks in
-    let spare = ap (λ (store : Kept). store.spare) c.give.ensures.after in
+    ap (λ (store : KeptBlock). length store.blocks) c.give.ensures.after ∙ length-with_block c.args.block c.args.self.now.store.blocks in
+    let spare = ap (λ (store : KeptBlock). store.spare) c.give.ensures.after in
     record {
       processes = s.processes;
       rising = s.rising;

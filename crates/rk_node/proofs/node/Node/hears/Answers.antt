@@ -1,63 +1,71 @@
-use Rattle.std.proofs.Common.{ap, ◌∙◌, sym, subst}
+use Rattle.std.proofs.Common.{◌≡◌, List, refl, ap, ◌∙◌, sym, subst}
 use Rattle.std.proofs.lemmas.List.{get_or_read}
 use Rattle.ce_model.specs.Hearing.{hears, begins}
-use Rattle.ce_model.specs.Process.{started}
+use Rattle.ce_model.specs.Process.{started_process}
+use Rattle.rv_model.specs.Image.{ImageParts}
+use Rattle.ce_model.specs.Node.{Node}
+use Rattle.rk_mail.specs.declared.talk.Hearing.{Hearing}
 use Rattle.rk_mail.specs.Talk.{heard_as}
 use Rattle.rk_node.specs.Standing.{node_of}
 use Rattle.rk_node.specs.Hearings.{IsWorkOf}
 use Rattle.rk_node.proofs.node.Node.hears.Goals as goal
 
+-- what the node becomes by the answer that this one is
+by_answer : (images : List ImageParts) (node : Node) {after : Node} {heard heard' : Hearing} → heard ≡ heard' → after ≡ hears images node (heard_as heard')
+    → after ≡ hears images node (heard_as heard)
+by_answer images node is e = e ∙ sym (ap (λ heard. hears images node (heard_as heard)) is)
+
 pub returns-in-Start-clause-node : goal.returns-in-Start-clause-node
 unfolding hears
 returns-in-Start-clause-node c =
-    c.starts.ensures.node
-    ∙ ap (λ image. begins (node_of c.args.self.now) c.in-Start.pid (started image)) (get_or_read c.args.images.now c.in-Start.image _ (subst (IsWorkOf c.args.images.now (node_of c.args.self.now)) c.in-Start.is c.requires.work).2 c.index-images-image.is _)
-    ∙ sym (ap (λ heard. hears c.args.images.now (node_of c.args.self.now) (heard_as heard)) c.in-Start.is)
+    by_answer c.args.images.now (node_of c.args.self.now) c.in-Start.is
+    (c.starts.ensures.node
+    ∙ ap (λ image. begins (node_of c.args.self.now) c.in-Start.pid (started_process image)) (get_or_read c.args.images.now c.in-Start.image _ (subst (IsWorkOf c.args.images.now (node_of c.args.self.now)) c.in-Start.is c.requires.work).2 c.index-images-image.is _))
 
 pub returns-in-Mail-clause-node : goal.returns-in-Mail-clause-node
 unfolding hears
-returns-in-Mail-clause-node c = c.has_mail.ensures.node ∙ sym (ap (λ heard. hears c.args.images.now (node_of c.args.self.now) (heard_as heard)) c.in-Mail.is)
+returns-in-Mail-clause-node c = by_answer c.args.images.now (node_of c.args.self.now) c.in-Mail.is c.has_mail.ensures.node
 
 pub returns-in-Kill-clause-node : goal.returns-in-Kill-clause-node
 unfolding hears
-returns-in-Kill-clause-node c = c.is_killed.ensures.node ∙ sym (ap (λ heard. hears c.args.images.now (node_of c.args.self.now) (heard_as heard)) c.in-Kill.is)
+returns-in-Kill-clause-node c = by_answer c.args.images.now (node_of c.args.self.now) c.in-Kill.is c.is_killed.ensures.node
 
 pub returns-in-Poll-clause-node : goal.returns-in-Poll-clause-node
 unfolding hears
-returns-in-Poll-clause-node c = c.begins_with.ensures.node ∙ sym (ap (λ heard. hears c.args.images.now (node_of c.args.self.now) (heard_as heard)) c.in-Poll.is)
+returns-in-Poll-clause-node c = by_answer c.args.images.now (node_of c.args.self.now) c.in-Poll.is c.begins_with.ensures.node
 
 pub returns-in-Posted-clause-node : goal.returns-in-Posted-clause-node
 unfolding hears
-returns-in-Posted-clause-node c = c.regains.ensures.node ∙ sym (ap (λ heard. hears c.args.images.now (node_of c.args.self.now) (heard_as heard)) c.in-Posted.is)
+returns-in-Posted-clause-node c = by_answer c.args.images.now (node_of c.args.self.now) c.in-Posted.is c.regains.ensures.node
 
 pub returns-in-Spawned-clause-node : goal.returns-in-Spawned-clause-node
 unfolding hears
-returns-in-Spawned-clause-node c = c.tells.ensures.node ∙ sym (ap (λ heard. hears c.args.images.now (node_of c.args.self.now) (heard_as heard)) c.in-Spawned.is)
+returns-in-Spawned-clause-node c = by_answer c.args.images.now (node_of c.args.self.now) c.in-Spawned.is c.tells.ensures.node
 
 pub returns-in-Killed-clause-node : goal.returns-in-Killed-clause-node
 unfolding hears
-returns-in-Killed-clause-node c = c.tells-in-Killed.ensures.node ∙ sym (ap (λ heard. hears c.args.images.now (node_of c.args.self.now) (heard_as heard)) c.in-Killed.is)
+returns-in-Killed-clause-node c = by_answer c.args.images.now (node_of c.args.self.now) c.in-Killed.is c.tells-in-Killed.ensures.node
 
 pub returns-in-Used-clause-node : goal.returns-in-Used-clause-node
 unfolding hears
-returns-in-Used-clause-node c = c.tells-in-Used.ensures.node ∙ sym (ap (λ heard. hears c.args.images.now (node_of c.args.self.now) (heard_as heard)) c.in-Used.is)
+returns-in-Used-clause-node c = by_answer c.args.images.now (node_of c.args.self.now) c.in-Used.is c.tells-in-Used.ensures.node
 
 pub returns-in-Unused-clause-node : goal.returns-in-Unused-clause-node
 unfolding hears
-returns-in-Unused-clause-node c = c.tells-in-Unused.ensures.node ∙ sym (ap (λ heard. hears c.args.images.now (node_of c.args.self.now) (heard_as heard)) c.in-Unused.is)
+returns-in-Unused-clause-node c = by_answer c.args.images.now (node_of c.args.self.now) c.in-Unused.is c.tells-in-Unused.ensures.node
 
 pub returns-in-Already-clause-node : goal.returns-in-Already-clause-node
 unfolding hears
-returns-in-Already-clause-node c = c.tells-in-Already.ensures.node ∙ sym (ap (λ heard. hears c.args.images.now (node_of c.args.self.now) (heard_as heard)) c.in-Already.is)
+returns-in-Already-clause-node c = by_answer c.args.images.now (node_of c.args.self.now) c.in-Already.is c.tells-in-Already.ensures.node
 
 pub returns-in-Idle-clause-node : goal.returns-in-Idle-clause-node
 unfolding hears
-returns-in-Idle-clause-node c = sym (ap (λ heard. hears c.args.images.now (node_of c.args.self.now) (heard_as heard)) c.in-Idle.is)
+returns-in-Idle-clause-node c = by_answer c.args.images.now (node_of c.args.self.now) c.in-Idle.is refl
 
 pub returns-in-Spent-clause-node : goal.returns-in-Spent-clause-node
 unfolding hears
-returns-in-Spent-clause-node c = sym (ap (λ heard. hears c.args.images.now (node_of c.args.self.now) (heard_as heard)) c.in-Spent.is)
+returns-in-Spent-clause-node c = by_answer c.args.images.now (node_of c.args.self.now) c.in-Spent.is refl
 
 pub returns-in-Noted-clause-node : goal.returns-in-Noted-clause-node
 unfolding hears
-returns-in-Noted-clause-node c = sym (ap (λ heard. hears c.args.images.now (node_of c.args.self.now) (heard_as heard)) c.in-Noted.is)
+returns-in-Noted-clause-node c = by_answer c.args.images.now (node_of c.args.self.now) c.in-Noted.is refl

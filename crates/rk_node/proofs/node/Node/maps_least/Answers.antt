@@ -5,7 +5,7 @@ use Rattle.ce_model.specs.Kernel.{returns, maps_least, with_store}
 use Rattle.xm_block.specs.Stores.{ids_of}
 use Rattle.rk_node.specs.Moves.{with_mapped}
 use Rattle.rk_node.specs.Standing.{node_of, turn_of}
-use Rattle.rk_node.proofs.Processes.{length-processes_from}
+use Rattle.rk_node.proofs.Processes.{length-processes}
 use Rattle.rk_node.proofs.Made.{returns-after}
 use Rattle.rk_node.proofs.node.Node.maps_least.Goals as goal
 
@@ -16,12 +16,11 @@ returns-in-Some c =
     let turn = turn_of c.args.turn in
     let p = process_at n turn.pid in
     let rest = ids_of c.take_least.new.self.blocks in
-    let long = length-processes_from node.held.mappings 0 node.processes.items in
     let taken : ids_of node.store.blocks ≡ c.in-Some.block.id ∷ rest = ap ids_of c.in-Some.ensures.taken in
     let block : c.reset.new.self ≡ record { id = c.in-Some.block.id; bytes = replicate c.args.length 0 } = c.reset.ensures in
     record {
       did = c.returns-in-Some.ensures.did
-          ∙ returns-after n (node_of c.map-address.new.self) turn (with_mapped c.reset.new.self p) rest c.map-address.result (omega (arith, long, c.requires.ready.stocked.processes, c.requires.ready.sound.pid)) c.map-address.ensures.node
+          ∙ returns-after n (node_of c.map-address.new.self) turn (with_mapped c.reset.new.self p) rest c.map-address.result (omega (arith, length-processes node c.requires.ready.stocked, c.requires.ready.sound.pid)) c.map-address.ensures.node
           ∙ ap (λ (b : Block). returns (with_store rest n) turn (with_mapped b p) c.map-address.result) block
           ∙ ap (λ a. returns (with_store rest n) turn (with_mapped (record { id = c.in-Some.block.id; bytes = replicate c.args.length 0 }) p) a) c.map-address.ensures.start
           ∙ sym (ap (λ ids. maps_least n turn p c.args.length ids) taken);

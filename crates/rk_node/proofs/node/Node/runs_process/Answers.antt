@@ -1,6 +1,6 @@
 use Rattle.std.proofs.Common.{◌≡◌, ◌<◌, ℕ, List, length, map, slice_set, ap, sym, subst, ◌∙◌, arith, length-set}
 use Rattle.std.proofs.lemmas.List.{length-map}
-use Rattle.ce_model.specs.Process.{Process, reached}
+use Rattle.ce_model.specs.Process.{Process, turn_end}
 use Rattle.xm_owner.specs.Holdings.{Mapping}
 use Rattle.rk_process.specs.Seen.{Own, Rest, place_of}
 use Rattle.rk_process.specs.Runs.{reached_at}
@@ -31,7 +31,7 @@ module _ (c : goal.After-self-1) where
 pub returns-clause-reached : goal.returns-clause-reached
 returns-clause-reached c =
     let within : pid c < length (owns c) = omega (arith, c.requires.stocked.processes, c.requires.sound.pid) in
-    ap (reached c.args.turn.now.left) (process-read (m c) (owns c) (pid c) c.index_mut-process.result.now within c.index_mut-process.ensures.value)
+    ap (turn_end c.args.turn.now.left) (process-read (m c) (owns c) (pid c) c.index_mut-process.result.now within c.index_mut-process.ensures.value)
     ∙ c.run_to_call.ensures.reached
     ∙ ap (reached_at c.run_to_call.result c.run_to_call.new.left) (sym (process-put (m' c) (owns c) (pid c) c.run_to_call.new.self within))
 

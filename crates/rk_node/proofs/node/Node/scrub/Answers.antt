@@ -4,7 +4,7 @@ use Rattle.ce_model.specs.Blocks.{put_all}
 use Rattle.xm_block.specs.Stores.{ids_of}
 use Rattle.rk_node.specs.Standing.{node_of}
 use Rattle.rk_node.specs.Hearings.{AreApartFrom, ids_in}
-use Rattle.rk_node.proofs.Processes.{length-processes_from}
+use Rattle.rk_node.proofs.Processes.{length-processes}
 use Rattle.rk_node.proofs.Moved.{put_all-append, apart-first, apart-next, ids_from, ids-past, ids-split, node-next, node-scrubbed}
 use Rattle.rk_node.proofs.node.Node.scrub.Goals as goal
 
@@ -35,20 +35,14 @@ loop-pid-init c =
 pub scrub_process-requires-clause-apart : goal.scrub_process-requires-clause-apart
 scrub_process-requires-clause-apart c =
     let n = node_of c.args.self.now in
-    let now = node_of c.loop-pid.self in
-    let k = c.loop-pid.pid in
-    let long = length-processes_from c.args.self.now.held.mappings 0 c.args.self.now.processes.items in
-    let split = ids-split n now k c.loop-pid.invariant.node (omega (arith, long, c.requires.stocked.processes, process_count_lem)) in
-    apart-first (ids_in k now) (ids_from (k + 1) n.processes) c.loop-pid.out (subst (λ ids. AreApartFrom ids c.loop-pid.out) split c.loop-pid.invariant.apart)
+    let split = ids-split n (node_of c.loop-pid.self) c.loop-pid.pid c.loop-pid.invariant.node (omega (arith, length-processes c.args.self.now c.requires.stocked, process_count_lem)) in
+    apart-first _ (ids_from (c.loop-pid.pid + 1) n.processes) c.loop-pid.out (subst (λ ids. AreApartFrom ids c.loop-pid.out) split c.loop-pid.invariant.apart)
 
 pub scrub_process-requires-clause-room : goal.scrub_process-requires-clause-room
 scrub_process-requires-clause-room c =
     let n = node_of c.args.self.now in
-    let now = node_of c.loop-pid.self in
-    let k = c.loop-pid.pid in
-    let long = length-processes_from c.args.self.now.held.mappings 0 c.args.self.now.processes.items in
-    let split = ids-split n now k c.loop-pid.invariant.node (omega (arith, long, c.requires.stocked.processes, process_count_lem)) in
-    omega (arith, c.requires.room, c.loop-pid.invariant.spare, ap {B = ℕ} length split, length-append (ids_in k now) (ids_from (k + 1) n.processes))
+    let split = ids-split n (node_of c.loop-pid.self) c.loop-pid.pid c.loop-pid.invariant.node (omega (arith, length-processes c.args.self.now c.requires.stocked, process_count_lem)) in
+    omega (arith, c.requires.room, c.loop-pid.invariant.spare, ap {B = ℕ} length split, length-append (ids_in c.loop-pid.pid (node_of c.loop-pid.self)) (ids_from (c.loop-pid.pid + 1) n.processes))
 
 pub loop-pid-preserved : goal.loop-pid-preserved
 loop-pid-preserved c =
@@ -56,8 +50,7 @@ loop-pid-preserved c =
     let n = node_of c.args.self.now in
     let now = node_of c.loop-pid.self in
     let k = c.loop-pid.pid in
-    let long = length-processes_from c.args.self.now.held.mappings 0 c.args.self.now.processes.items in
-    let fewer : k < length n.processes = omega (arith, long, c.requires.stocked.processes, process_count_lem) in
+    let fewer : k < length n.processes = omega (arith, length-processes c.args.self.now c.requires.stocked, process_count_lem) in
     let first = ids_in k now in
     let rest = ids_from (k + 1) n.processes in
     let split = ids-split n now k was.node fewer in
@@ -81,20 +74,17 @@ pub returns-clause-node : goal.returns-clause-node
 returns-clause-node c =
     let n = node_of c.args.self.now in
     let now = node_of c.loop-pid.self in
-    let long = length-processes_from c.args.self.now.held.mappings 0 c.args.self.now.processes.items in
     ap (λ polling. record now { polling = polling; turn = None }) c.clear.ensures.items
-    ∙ node-scrubbed n now c.loop-pid.pid c.loop-pid.invariant.node (omega (arith, process_count_lem)) (omega (arith, long, c.requires.stocked.processes))
+    ∙ node-scrubbed n now c.loop-pid.pid c.loop-pid.invariant.node (omega (arith, process_count_lem)) (omega (arith, length-processes c.args.self.now c.requires.stocked))
 
 pub returns-clause-moved : goal.returns-clause-moved
 returns-clause-moved c =
     let n = node_of c.args.self.now in
-    let long = length-processes_from c.args.self.now.held.mappings 0 c.args.self.now.processes.items in
-    let none = ids-past c.loop-pid.pid n.processes (omega (arith, process_count_lem, long, c.requires.stocked.processes)) in
+    let none = ids-past c.loop-pid.pid n.processes (omega (arith, process_count_lem, length-processes c.args.self.now c.requires.stocked)) in
     sym (ap (λ ids. put_all ids (ids_of c.loop-pid.out.blocks)) none) ∙ c.loop-pid.invariant.moved
 
 pub returns-clause-spare : goal.returns-clause-spare
 returns-clause-spare c =
     let n = node_of c.args.self.now in
-    let long = length-processes_from c.args.self.now.held.mappings 0 c.args.self.now.processes.items in
-    let none = ids-past c.loop-pid.pid n.processes (omega (arith, process_count_lem, long, c.requires.stocked.processes)) in
+    let none = ids-past c.loop-pid.pid n.processes (omega (arith, process_count_lem, length-processes c.args.self.now c.requires.stocked)) in
     omega (arith, c.loop-pid.invariant.spare, ap {B = ℕ} length none)

@@ -1,8 +1,8 @@
 use Rattle.std.proofs.Common.{length, map, ap, sym, ◌∙◌, refl, arith, length-set}
-use Rattle.ce_model.specs.Process.{Process, started}
+use Rattle.ce_model.specs.Process.{Process, started_process}
 use Rattle.rk_process.specs.Seen.{place_of}
 use Rattle.rk_node.specs.Standing.{node_of}
-use Rattle.rk_node.proofs.Processes.{process-read, used-read, processes-change, within-change, length-processes_from}
+use Rattle.rk_node.proofs.Processes.{process-read, used-read, processes-change, within-change, length-processes}
 use Rattle.rk_node.proofs.Heard.{begins-after}
 use Rattle.rk_node.proofs.node.Node.starts.Goals as goal
 
@@ -34,8 +34,7 @@ pub returns-clause-node : goal.returns-clause-node
 returns-clause-node c =
     let node = c.args.self.now in
     let m = node.held.mappings in
-    let long = length-processes_from m 0 node.processes.items in
     let after = ap (λ ps. record (node_of node) { processes = ps })
-    (processes-change m m node.processes.items c.args.pid c.index_mut-process.result.now c.start.new.self (λ p. started c.args.image.now) (omega (arith, c.requires.stocked.processes, c.requires.pid))
+    (processes-change m m node.processes.items c.args.pid c.index_mut-process.result.now c.start.new.self (λ p. started_process c.args.image.now) (omega (arith, c.requires.stocked.processes, c.requires.pid))
     c.index_mut-process.ensures.value (λ q differ. refl) (c.start.ensures.started c.args.pid node.held)) in
-    c.begins.ensures.node ∙ begins-after (node_of node) _ c.args.pid (started c.args.image.now) (λ q. q) (omega (arith, long, c.requires.stocked.processes, c.requires.pid)) after
+    c.begins.ensures.node ∙ begins-after (node_of node) _ c.args.pid (started_process c.args.image.now) (λ q. q) (omega (arith, length-processes node c.requires.stocked, c.requires.pid)) after

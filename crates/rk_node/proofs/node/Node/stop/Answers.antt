@@ -1,12 +1,11 @@
 use Rattle.std.proofs.Common.{arith}
 use Rattle.rk_node.specs.Standing.{node_of}
-use Rattle.rk_node.proofs.Processes.{length-processes_from}
+use Rattle.rk_node.proofs.Processes.{length-processes}
 use Rattle.rk_node.proofs.Stops.{stopped-steps}
 use Rattle.rk_node.proofs.node.Node.stop.Goals as goal
 
 pub returns-clause-node : goal.returns-clause-node
 returns-clause-node c =
     let node = c.args.self.now in
-    let long = length-processes_from node.held.mappings 0 node.processes.items in
     stopped-steps (node_of node) (node_of c.release.new.self) (node_of c.set_status.new.self) (node_of c.leave_polling.new.self) c.args.pid c.args.cause
-    (omega (arith, long, c.requires.stocked.processes)) c.release.ensures.node c.set_status.ensures.node c.leave_polling.ensures.node
+    (omega (arith, length-processes node c.requires.stocked)) c.release.ensures.node c.set_status.ensures.node c.leave_polling.ensures.node

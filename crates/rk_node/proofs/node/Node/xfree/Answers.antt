@@ -1,17 +1,12 @@
 use Rattle.ce_model.specs.Kernel.{frees}
-use Rattle.rk_node.specs.Standing.{turn_of}
-use Rattle.rk_node.proofs.Made.{made-named, made-refused, made-at, is_held}
+use Rattle.rk_node.proofs.Made.{made-named, made-refused, is_held}
 use Rattle.rk_node.proofs.node.Node.xfree.Goals as goal
 
 pub frees-requires : goal.frees-requires
-frees-requires c = record { ready = c.requires; held = is_held _ c.in-Ok.ensures.0 c.in-Ok.ensures.1 }
+frees-requires c = record { ready = c.requires; held = is_held c.in-Ok.ensures.1 }
 
 pub returns-in-Ok : goal.returns-in-Ok
-returns-in-Ok c =
-    let found = c.in-Ok.ensures in
-    made-named (λ node turn p found. frees node turn p found) c.args.self.now c.frees.new.self (turn_of c.args.turn) c.frees.result c.argument.result c.in-Ok.window found.0 c.argument.ensures found.2
-    (made-at (λ found node turn p. frees node turn p found) _ c.in-Ok.window found.0 c.args.self.now c.frees.new.self (turn_of c.args.turn) (turn_of c.args.turn) c.frees.result found.1 c.frees.ensures)
+returns-in-Ok c = made-named (λ node turn p found. frees node turn p found) c.argument.ensures c.in-Ok.ensures.1 c.in-Ok.ensures.2 c.frees.ensures
 
 pub returns-in-Err : goal.returns-in-Err
-returns-in-Err c =
-    made-refused (λ node turn p found. frees node turn p found) c.args.self.now c.stops.new.self (turn_of c.args.turn) c.stops.result c.argument.result c.in-Err.cause c.argument.ensures c.in-Err.ensures c.stops.ensures
+returns-in-Err c = made-refused (λ node turn p found. frees node turn p found) c.argument.ensures c.in-Err.ensures c.stops.ensures

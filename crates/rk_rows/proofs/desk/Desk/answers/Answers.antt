@@ -1,6 +1,6 @@
 use Rattle.std.proofs.Common.{refl, ap, sym, subst, inl, inr}
 use Rattle.ce_model.specs.Node.{spawns}
-use Rattle.rk_mail.specs.declared.talk.Heard.TheVariants.{Posted, Spawned, Used}
+use Rattle.rk_mail.specs.declared.talk.Hearing.TheVariants.{Posted, Spawned, Used}
 use Rattle.rk_mail.specs.declared.talk.Say.TheVariants.{Send}
 use Rattle.rk_mail.specs.Talk.{call_said}
 use Rattle.rk_rows.specs.Lone.{IsAnswerable, IsAnswered}

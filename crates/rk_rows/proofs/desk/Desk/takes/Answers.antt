@@ -1,6 +1,6 @@
 use Rattle.std.proofs.Common.{sym, ap, ◌∙◌, subst}
 use Rattle.ce_model.specs.Node.{takes}
-use Rattle.rk_mail.specs.declared.talk.Heard.TheVariants.{Poll, Idle}
+use Rattle.rk_mail.specs.declared.talk.Hearing.TheVariants.{Poll, Idle}
 use Rattle.rk_mail.specs.Queue.{Queue}
 use Rattle.rk_mail.specs.Items.{item_of}
 use Rattle.rk_rows.specs.declared.desk.Desk.{Desk}

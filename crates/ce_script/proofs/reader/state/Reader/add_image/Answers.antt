@@ -19,7 +19,7 @@ returns-clause-indexed c =
     record {
       users = c.requires.indexed.users;
       images =
-          subst (IsIndexOf c.add.new.self) (sym names)
-          (index_more c.args.indexes.now.images c.add.new.self (names_of old) c.args.word.now c.len-number.result c.requires.indexed.images c.requires.free
-          (c.len-number.ensures ∙ sym (length-map old.script.images (λ (named : Named). named.name))) c.in_ok-add.ensures);
+          subst (IsIndexOf c.define.new.self) (sym names)
+          (index_more c.args.indexes.now.images c.define.new.self (names_of old) c.args.word.now c.len-number.result c.requires.indexed.images c.requires.free
+          (c.len-number.ensures ∙ sym (length-map old.script.images (λ (named : Named). named.name))) c.in_ok-define.ensures);
     }

@@ -9,20 +9,20 @@ use Rattle.ce_script.proofs.reader.state.Reader.check_image.Goals as goal
 pub returns-then-is_some : goal.returns-then-is_some
 returns-then-is_some c =
     let names = names_of c.args.self.now in
-    let among = sym (among_place names c.args.word.now) ∙ ap is_some (sym (c.requires c.args.word.now) ∙ sym c.place.ensures) ∙ sym c.is_some.ensures ∙ c.if-is_some.true in
+    let among = sym (among_place names c.args.word.now) ∙ ap is_some (sym (c.requires c.args.word.now) ∙ sym c.meaning.ensures) ∙ sym c.is_some.ensures ∙ c.if-is_some.true in
     image_taken names c.args.word.now (sym c.if-not-is_name.ensures) among
 
 pub returns-then-len : goal.returns-then-len
 returns-then-len c =
     let names = names_of c.args.self.now in
-    let among = sym (among_place names c.args.word.now) ∙ ap is_some (sym (c.requires c.args.word.now) ∙ sym c.place.ensures) ∙ sym c.is_some.ensures ∙ c.if-is_some.false in
+    let among = sym (among_place names c.args.word.now) ∙ ap is_some (sym (c.requires c.args.word.now) ∙ sym c.meaning.ensures) ∙ sym c.is_some.ensures ∙ c.if-is_some.false in
     image_over names c.args.word.now (sym c.if-not-is_name.ensures) among
     (omega (arith, c.if-len.true, c.len.ensures, length-map c.args.self.now.script.images (λ (named : Named). named.name)))
 
 pub returns : goal.returns
 returns c =
     let names = names_of c.args.self.now in
-    let among = sym (among_place names c.args.word.now) ∙ ap is_some (sym (c.requires c.args.word.now) ∙ sym c.place.ensures) ∙ sym c.is_some.ensures ∙ c.if-is_some.false in (
+    let among = sym (among_place names c.args.word.now) ∙ ap is_some (sym (c.requires c.args.word.now) ∙ sym c.meaning.ensures) ∙ sym c.is_some.ensures ∙ c.if-is_some.false in (
       image_fits names c.args.word.now (sym c.if-not-is_name.ensures) among
           (omega (arith, c.if-len.false, c.len.ensures, length-map c.args.self.now.script.images (λ (named : Named). named.name))),
       refl,

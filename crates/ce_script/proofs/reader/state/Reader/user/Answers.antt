@@ -8,12 +8,12 @@ use Rattle.ce_script.proofs.reader.state.Reader.user.Goals as goal
 
 pub returns-in-Some-clause-judged : goal.returns-in-Some-clause-judged
 returns-in-Some-clause-judged c =
-    let found = sym (c.requires.indexed.users c.args.word.now) ∙ sym c.place.ensures in
+    let found = sym (c.requires.indexed.users c.args.word.now) ∙ sym c.meaning.ensures in
     (known_user c.args.self.now.script.users c.args.word.now c.in-Some.number c.requires.few.users (sym c.if-not-is_name.ensures) (found ∙ c.in-Some.is), refl)
 
 pub returns-in-Some-clause-said : goal.returns-in-Some-clause-said
 returns-in-Some-clause-said c =
-    let found = sym (c.requires.indexed.users c.args.word.now) ∙ sym c.place.ensures in
+    let found = sym (c.requires.indexed.users c.args.word.now) ∙ sym c.meaning.ensures in
     known_speaks c.args.self.now c.args.word.now c.in-Some.number (found ∙ c.in-Some.is)
 
 pub overflow_cast-number : goal.overflow_cast-number
@@ -21,13 +21,13 @@ overflow_cast-number c = omega (arith, c.len-number.ensures, c.requires.few.user
 
 pub returns-then-number-ge-GREATEST_USERS-clause-judged : goal.returns-then-number-ge-GREATEST_USERS-clause-judged
 returns-then-number-ge-GREATEST_USERS-clause-judged c =
-    let found = sym (c.requires.indexed.users c.args.word.now) ∙ sym c.place.ensures in
+    let found = sym (c.requires.indexed.users c.args.word.now) ∙ sym c.meaning.ensures in
     user_over c.args.self.now.script.users c.args.word.now (sym c.if-not-is_name.ensures) (found ∙ c.in_default.is)
     (omega (arith, c.len-number.ensures))
 
 pub returns-clause-judged : goal.returns-clause-judged
 returns-clause-judged c =
-    let found = sym (c.requires.indexed.users c.args.word.now) ∙ sym c.place.ensures in (
+    let found = sym (c.requires.indexed.users c.args.word.now) ∙ sym c.meaning.ensures in (
       user_fits c.args.self.now.script.users c.args.word.now (sym c.if-not-is_name.ensures) (found ∙ c.in_default.is)
           (omega (arith, c.len-number.ensures)),
       refl,
@@ -36,7 +36,7 @@ returns-clause-judged c =
 pub returns-clause-said : goal.returns-clause-said
 returns-clause-said c =
     let old = c.args.self.now in
-    let found = sym (c.requires.indexed.users c.args.word.now) ∙ sym c.place.ensures in
+    let found = sym (c.requires.indexed.users c.args.word.now) ∙ sym c.meaning.ensures in
     let users = rw c.in_ok-name_of.ensures at c.in_ok-push.ensures.ok in
     let made : List (List ℕ) → Reader = λ names. record { script = record { dim = old.script.dim; images = old.script.images; users = names; commands = old.script.commands }; user = Some c.len-number.result } in
     ap made users ∙ new_speaks old c.args.word.now c.len-number.result (found ∙ c.in_default.is) c.len-number.ensures
@@ -44,12 +44,12 @@ returns-clause-said c =
 pub returns-clause-indexed : goal.returns-clause-indexed
 returns-clause-indexed c =
     let old = c.args.self.now in
-    let found = sym (c.requires.indexed.users c.args.word.now) ∙ sym c.place.ensures in
+    let found = sym (c.requires.indexed.users c.args.word.now) ∙ sym c.meaning.ensures in
     let users = rw c.in_ok-name_of.ensures at c.in_ok-push.ensures.ok in
     record {
       users =
-          subst (IsIndexOf c.add.new.self) (sym users)
-          (index_more c.args.indexes.now.users c.add.new.self old.script.users c.args.word.now c.len-number.result c.requires.indexed.users (found ∙ c.in_default.is) c.len-number.ensures
-          c.in_ok-add.ensures);
+          subst (IsIndexOf c.define.new.self) (sym users)
+          (index_more c.args.indexes.now.users c.define.new.self old.script.users c.args.word.now c.len-number.result c.requires.indexed.users (found ∙ c.in_default.is) c.len-number.ensures
+          c.in_ok-define.ensures);
       images = c.requires.indexed.images;
     }
