@@ -7,12 +7,12 @@ use Rattle.ce_model.specs.declared.entry.Entry.{Entry}
 use Rattle.ce_model.specs.declared.entry.What.{What}
 use Rattle.ce_model.specs.declared.entry.What.TheVariants.{Peek}
 use Rattle.ce_model.specs.Node.{Call}
-use Rattle.ce_model.specs.Answers.{answer, call_of}
+use Rattle.ce_model.specs.Answers.{answer, recorded_call}
 use Rattle.ce_model.specs.Cube.{Cube, CubeState, opening, state, hoststore}
-use Rattle.ce_model.specs.Subcubes.{relative, node_of}
+use Rattle.ce_model.specs.Subcubes.{relative_number, node_of}
 use Rattle.ce_model.specs.Renaming.{number_outward, entry_inward}
 use Rattle.ce_model.specs.Views.{trace_behind, view}
-use Rattle.ce_model.specs.Machine.{MachineParts, HeldCube, IsLawfulEntry, IsFitting, IsCallOf, in_cube, what_of_request, after, held_by, held_by_entry, with_cube, record_by, changed_by, changed_by_call, nodes_of, standing_of, with_places_outward, cube_of}
+use Rattle.ce_model.specs.Machine.{MachineParts, HeldCube, IsLawfulEntry, IsFitting, IsCallOf, in_cube, what_of_request, after, cube_held_by, cube_after_entry, with_cube, record_by, state_after_entry, state_after_call, nodes_of, cube_standing, with_places_outward, cube_of}
 use Rattle.ce_model.proofs.Walked.{each-more}
 use Rattle.ce_model.proofs.OneMore.{state-more, hoststore-more}
 use Rattle.ce_solo.proofs.Projection.Views.{found-more, trace-grows, trace-stays, view-is}
@@ -22,7 +22,7 @@ use Rattle.ce_solo.proofs.Projection.Invariant.{other_way}
 use Rattle.ce_solo.proofs.Projection.Own.{IsOwnEntry, actor_back}
 use Rattle.ce_solo.proofs.Projection.Law.{projected, after-more, own-called, lawful-step}
 use Rattle.ce_solo.proofs.Projection.Kinds.{and_false}
-use Rattle.ce_cube.specs.Boxes.{node_now, IsMadeBy, IsOneMore, IsAside}
+use Rattle.ce_cube.specs.Boxes.{trace_node, IsMadeBy, IsOneMore, IsAside}
 use Rattle.ce_cube.specs.Laws.{CallsAdd, OthersKeep}
 use Rattle.ce_cube.proofs.Held.{IsSeen, by_seen}
 
@@ -37,11 +37,11 @@ lawful_entry parts history user actor call entry fits user_is actor_is what = re
 }
 
 -- the entry has the call's answer in the cube that is held
-pub answer-made : (parts : MachineParts) (history : List Entry) (cube : HeldCube) (actor : ℕ) (call : Call) (entry : Entry) → held_by (after history) cube.grant.user ≡ Some cube
+pub answer-made : (parts : MachineParts) (history : List Entry) (cube : HeldCube) (actor : ℕ) (call : Call) (entry : Entry) → cube_held_by (after history) cube.grant.user ≡ Some cube
     → IsMadeBy parts history cube.grant actor call entry
-    → answer (nodes_of cube.grant) (standing_of (after history) cube) actor (with_places_outward cube.grant call) ≡ entry.what
+    → answer (nodes_of cube.grant) (cube_standing (after history) cube) actor (with_places_outward cube.grant call) ≡ entry.what
 answer-made parts history cube actor call entry holds made =
-    some_what _ _ (ap (option_map (λ (one : HeldCube). answer (nodes_of one.grant) (standing_of (after history) one) actor (with_places_outward one.grant call))) (sym holds) ∙ made.what)
+    some_what _ _ (ap (option_map (λ (one : HeldCube). answer (nodes_of one.grant) (cube_standing (after history) one) actor (with_places_outward one.grant call))) (sym holds) ∙ made.what)
   where
     some_what : (x y : What) → Some x ≡ Some y → x ≡ y
     some_what x y e = ap (λ o. elim o [ None ↦ x | Some z ↦ z ]) e
@@ -63,25 +63,25 @@ module _ (parts : MachineParts) (history : List Entry) (cube : HeldCube) (now : 
   call-of =
       subst (λ a. IsCallOf parts history a call cube) (sym made.actor_is) (subst (λ held. IsSomeAnd held (IsCallOf parts history actor call)) now.holds fits.1)
 
-  holds_now : held_by (after history) entry.user ≡ Some cube
-  holds_now = ap (held_by (after history)) made.user ∙ now.holds
+  holds_now : cube_held_by (after history) entry.user ≡ Some cube
+  holds_now = ap (cube_held_by (after history)) made.user ∙ now.holds
 
-  answer_now : answer (nodes_of cube.grant) (standing_of (after history) cube) entry.actor (with_places_outward cube.grant call) ≡ entry.what
+  answer_now : answer (nodes_of cube.grant) (cube_standing (after history) cube) entry.actor (with_places_outward cube.grant call) ≡ entry.what
   answer_now =
-      ap (λ a. answer (nodes_of cube.grant) (standing_of (after history) cube) a (with_places_outward cube.grant call)) made.actor_is
+      ap (λ a. answer (nodes_of cube.grant) (cube_standing (after history) cube) a (with_places_outward cube.grant call)) made.actor_is
       ∙ answer-made parts history cube actor call entry now.holds made
 
   abbrev own : IsOwnEntry parts cube.grant (trace_behind cube.grant ((projected parts history now.machine now.lawful).held entry.user cube holds_now).behind) entry
   own = own-called parts now.machine history (projected parts history now.machine now.lawful) entry call cube holds_now call-of (ap Some answer_now)
 
-  pub is-called : is_some (call_of entry.what) ≡ true
+  pub is-called : is_some (recorded_call entry.what) ≡ true
   is-called = ap is_some own.called
 
-  held_next : held_by (after h') cube.grant.user ≡ Some (held_by_entry entry cube)
+  held_next : cube_held_by (after h') cube.grant.user ≡ Some (cube_after_entry entry cube)
   held_next =
-      ap (λ state. held_by state cube.grant.user) (after-more history entry ∙ ap (λ call. changed_by_call call entry (after history)) own.called)
-      ∙ ap (held_by (with_cube entry.user (held_by_entry entry) (λ cube. record_by cube.grant.sub entry) (after history))) (sym made.user)
-      ∙ held-own entry.user (held_by_entry entry) (λ cube. refl) (λ cube. record_by cube.grant.sub entry) (after history) cube holds_now
+      ap (λ state. cube_held_by state cube.grant.user) (after-more history entry ∙ ap (λ call. state_after_call call entry (after history)) own.called)
+      ∙ ap (cube_held_by (with_cube entry.user (cube_after_entry entry) (λ cube. record_by cube.grant.sub entry) (after history))) (sym made.user)
+      ∙ held-own entry.user (cube_after_entry entry) (λ cube. refl) (λ cube. record_by cube.grant.sub entry) (after history) cube holds_now
 
   pub trace_next : view h' cube.number ≡ view history cube.number ++ entry_inward cube.grant.sub entry ∷ []
   trace_next =
@@ -90,21 +90,21 @@ module _ (parts : MachineParts) (history : List Entry) (cube : HeldCube) (now : 
       ∙ trace-grows cube.grant was.behind entry own.call (was.over ∙ now.goes) (eq-eqb _ _ made.user) own.called
       ∙ ap (λ t. t ++ entry_inward cube.grant.sub entry ∷ []) (sym (view-is history cube.number cube.grant was.behind was.found))
 
-  inner_node : (q : ℕ) → q < 2 ^ cube.grant.dim → entry.actor ≡ node_of cube.grant.sub q → relative cube.grant.sub entry.actor ≡ q
+  inner_node : (q : ℕ) → q < 2 ^ cube.grant.dim → entry.actor ≡ node_of cube.grant.sub q → relative_number cube.grant.sub entry.actor ≡ q
   inner_node q below is =
-      ap (relative cube.grant.sub) is ∙ relative_out parts.dim cube.grant now.placed q below
+      ap (relative_number cube.grant.sub) is ∙ relative_out parts.dim cube.grant now.placed q below
 
-  inner_host : entry.actor ≡ HOST → (r : ℕ) → r < 2 ^ cube.grant.dim → (relative cube.grant.sub entry.actor == r) ≡ false
+  inner_host : entry.actor ≡ HOST → (r : ℕ) → r < 2 ^ cube.grant.dim → (relative_number cube.grant.sub entry.actor == r) ≡ false
   inner_host is r below =
-      ap (λ n. n == r) (ap (relative cube.grant.sub) is ∙ relative_host parts.dim cube.grant now.placed)
+      ap (λ n. n == r) (ap (relative_number cube.grant.sub) is ∙ relative_host parts.dim cube.grant now.placed)
       ∙ other_way r HOST (node_no_host parts.dim cube.grant now.placed r below)
 
-  stays : (r : ℕ) → (relative cube.grant.sub entry.actor == r) ≡ false → node_now parts h' cube.number cube.grant r ≡ node_now parts history cube.number cube.grant r
+  stays : (r : ℕ) → (relative_number cube.grant.sub entry.actor == r) ≡ false → trace_node parts h' cube.number cube.grant r ≡ trace_node parts history cube.number cube.grant r
   stays r other =
       ap (state (cube_of parts.images cube.grant) (opening (cube_of parts.images cube.grant)) r) trace_next
       ∙ state-other (cube_of parts.images cube.grant) r (view history cube.number) (entry_inward cube.grant.sub entry) other
 
-  no_host_inner : (entry.actor == HOST) ≡ false → (relative cube.grant.sub entry.actor == HOST) ≡ false
+  no_host_inner : (entry.actor == HOST) ≡ false → (relative_number cube.grant.sub entry.actor == HOST) ≡ false
   no_host_inner other =
       ne_eqb _ _ (λ same. both_ways _ other (eq-eqb _ _ (actor_back parts.dim cube.grant now.placed entry.actor call-of.inside ∙ ap (number_outward cube.grant.sub) same)))
 
@@ -112,7 +112,7 @@ module _ (parts : MachineParts) (history : List Entry) (cube : HeldCube) (now : 
   one-more = record {
     lawful = each-more (IsLawfulEntry parts) history entry now.lawful
         (lawful_entry parts history cube.grant.user actor call entry fits made.user made.actor_is made.what);
-    held = record { cube = held_by_entry entry cube; held = held_next; number_is = refl; grant_is = refl; goes_on = now.goes };
+    held = record { cube = cube_after_entry entry cube; held = held_next; number_is = refl; grant_is = refl; goes_on = now.goes };
     trace = trace_next;
     others = λ q r below is differ. stays r (ap (λ n. n == r) (inner_node q below is) ∙ differ);
     all = λ is r below. stays r (inner_host is r below);
@@ -131,8 +131,8 @@ calls-add parts history number grant machine lawful held actor call entry fits m
 -- ---- entries that are none of the cube
 
 module _ (parts : MachineParts) (history : List Entry) (cube : HeldCube) (now : IsSeen parts history cube) (entry : Entry) (is : IsLawfulEntry parts history entry) where
-  aside : held_by (after (history ++ entry ∷ [])) cube.grant.user ≡ held_by (after history) cube.grant.user
-      → (entry.user == cube.grant.user && is_some (call_of entry.what)) ≡ false → IsAside parts history cube.number cube.grant entry
+  aside : cube_held_by (after (history ++ entry ∷ [])) cube.grant.user ≡ cube_held_by (after history) cube.grant.user
+      → (entry.user == cube.grant.user && is_some (recorded_call entry.what)) ≡ false → IsAside parts history cube.number cube.grant entry
   aside same none =
       let was = (projected parts history now.machine now.lawful).held cube.grant.user cube now.holds in
       let trace : view (history ++ entry ∷ []) cube.number ≡ view history cube.number =
@@ -149,11 +149,11 @@ module _ (parts : MachineParts) (history : List Entry) (cube : HeldCube) (now : 
   others_keep : ((entry.user == cube.grant.user) ≡ false) ⊎ (entry.what ≡ Peek) → IsAside parts history cube.number cube.grant entry
   others_keep (inl other) =
       aside ((lawful-step parts now.machine history (projected parts history now.machine now.lawful) entry is).others cube.grant.user other)
-      (ap (λ b. b && is_some (call_of entry.what)) other)
+      (ap (λ b. b && is_some (recorded_call entry.what)) other)
   others_keep (inr peek) =
-      aside (ap (λ state. held_by state cube.grant.user) (after-more history entry
-      ∙ ap (λ what. changed_by (after history) (record { user = entry.user; actor = entry.actor; what = what })) peek))
-      (and_false _ _ (ap (λ what. is_some (call_of what)) peek))
+      aside (ap (λ state. cube_held_by state cube.grant.user) (after-more history entry
+      ∙ ap (λ what. state_after_entry (after history) (record { user = entry.user; actor = entry.actor; what = what })) peek))
+      (and_false _ _ (ap (λ what. is_some (recorded_call what)) peek))
 
 pub others-keep : OthersKeep
 others-keep parts history number grant machine lawful held entry is beside =

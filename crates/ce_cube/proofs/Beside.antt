@@ -9,11 +9,11 @@ use Rattle.ce_model.specs.declared.entry.Entry.{Entry}
 use Rattle.ce_model.specs.declared.entry.What.TheVariants.{Peek}
 use Rattle.ce_model.specs.Lists.{EachAfter}
 use Rattle.ce_model.specs.Node.{Call}
-use Rattle.ce_model.specs.Answers.{call_of}
+use Rattle.ce_model.specs.Answers.{recorded_call}
 use Rattle.ce_model.specs.Subcubes.{extract, node_of, is_inside}
 use Rattle.ce_model.specs.Renaming.{CubeGrant, entry_inward}
 use Rattle.ce_model.specs.Views.{view}
-use Rattle.ce_model.specs.Machine.{MachineParts, IsMachine, HeldCube, IsLawful, IsLawfulEntry, IsFitting, Request, peek, in_cube, what_of_request, after, held_by}
+use Rattle.ce_model.specs.Machine.{MachineParts, IsMachine, HeldCube, IsLawful, IsLawfulEntry, IsFitting, Request, peek, in_cube, what_of_request, after, cube_held_by}
 use Rattle.ce_model.proofs.Subcubes.{node_of-extract}
 use Rattle.ce_model.proofs.Walked.{each_behind, each-more}
 use Rattle.ce_lock.proofs.Histories.{of_actor, own_append}
@@ -22,7 +22,7 @@ use Rattle.ce_machine.specs.Keeping.{alone-answered}
 use Rattle.ce_solo.proofs.Lists.{all-append}
 use Rattle.ce_solo.proofs.Projection.Numbers.{inside_below}
 use Rattle.ce_solo.proofs.Projection.Kinds.{and_false}
-use Rattle.ce_cube.specs.Boxes.{IsHeldAs, node_now, store_now, IsMadeBy, IsOneMore, IsAside}
+use Rattle.ce_cube.specs.Boxes.{IsHeldAs, trace_node, trace_store, IsMadeBy, IsOneMore, IsAside}
 use Rattle.ce_cube.specs.Beside.{actor_entries, cube_entries, AreNotMadeAlone, IsByHostOrNode, IsHeldBeside}
 use Rattle.ce_cube.specs.Laws.{BesideKeeps}
 use Rattle.ce_cube.proofs.Held.{seen, by_cube}
@@ -36,7 +36,7 @@ nil-parts (x ∷ xs) ys e = absurd (cc)
 
 calls-append : (grant : CubeGrant) (xs ys : List Entry) → cube_entries grant (xs ++ ys) ≡ cube_entries grant xs ++ cube_entries grant ys
 calls-append grant xs ys =
-    let is_call = λ (entry : Entry). entry.user == grant.user && is_some (call_of entry.what) in
+    let is_call = λ (entry : Entry). entry.user == grant.user && is_some (recorded_call entry.what) in
     ap (map (entry_inward grant.sub)) (filter-append is_call xs ys)
     ∙ map-append (entry_inward grant.sub) (filter is_call xs) (filter is_call ys)
 
@@ -47,8 +47,8 @@ module _ (parts : MachineParts) (history : List Entry) (number : ℕ) (grant : C
       record {
         held = subst (λ h. IsHeldAs h number grant) (sym same) held;
         trace = ap (λ h. view h number) same ∙ sym (append-nil (view history number));
-        nodes = λ r below none. ap (λ h. node_now parts h number grant r) same;
-        store = λ none. ap (λ h. store_now parts h number grant) same;
+        nodes = λ r below none. ap (λ h. trace_node parts h number grant r) same;
+        store = λ none. ap (λ h. trace_store parts h number grant) same;
         actors = tt;
       }
 
@@ -69,10 +69,10 @@ module _ (parts : MachineParts) (history : List Entry) (number : ℕ) (grant : C
             ∙ ap (λ calls. view history number ++ calls) (sym (calls-append grant front rest));
         nodes = λ r below none.
             let parts_none = none-of front rest (node_of grant.sub r) none in
-            ap (λ h. node_now parts h number grant r) (sym same) ∙ next.nodes r below parts_none.1 ∙ first.nodes r below parts_none.0;
+            ap (λ h. trace_node parts h number grant r) (sym same) ∙ next.nodes r below parts_none.1 ∙ first.nodes r below parts_none.0;
         store = λ none.
             let parts_none = none-of front rest HOST none in
-            ap (λ h. store_now parts h number grant) (sym same) ∙ next.store parts_none.1 ∙ first.store parts_none.0;
+            ap (λ h. trace_store parts h number grant) (sym same) ∙ next.store parts_none.1 ∙ first.store parts_none.0;
         actors = all-append (λ (entry : Entry). entry.user ≡ grant.user → IsByHostOrNode grant entry) front rest first.actors next.actors;
       }
 
@@ -87,12 +87,12 @@ some-of user actor entry user_is actor_is none =
     absurd (cc)
 
 module _ (parts : MachineParts) (history : List Entry) (machine : IsMachine parts) (lawful : IsLawful parts history) (cube : HeldCube)
-    (holds : held_by (after history) cube.grant.user ≡ Some cube) (goes : cube.drained ≡ false) (entry : Entry) (is : IsLawfulEntry parts history entry) where
+    (holds : cube_held_by (after history) cube.grant.user ≡ Some cube) (goes : cube.is_drained ≡ false) (entry : Entry) (is : IsLawfulEntry parts history entry) where
   abbrev IsKept : Type 0
   IsKept = IsHeldBeside parts history cube.number cube.grant (entry ∷ [])
 
   -- it is none of the cube's calls
-  none-kept : IsAside parts history cube.number cube.grant entry → (entry.user == cube.grant.user && is_some (call_of entry.what)) ≡ false
+  none-kept : IsAside parts history cube.number cube.grant entry → (entry.user == cube.grant.user && is_some (recorded_call entry.what)) ≡ false
       → (entry.user ≡ cube.grant.user → IsByHostOrNode cube.grant entry) → IsKept
   none-kept aside none actor = record {
     held = aside.held;
@@ -114,7 +114,7 @@ module _ (parts : MachineParts) (history : List Entry) (machine : IsMachine part
     abbrev more : IsOneMore parts history cube.number cube.grant entry
     more = one-more parts history cube (seen parts history cube machine lawful holds goes) entry.actor call entry fits made
 
-    called : is_some (call_of entry.what) ≡ true
+    called : is_some (recorded_call entry.what) ≡ true
     called = is-called parts history cube (seen parts history cube machine lawful holds goes) entry.actor call entry fits made
 
     -- the node that made it
@@ -135,7 +135,7 @@ module _ (parts : MachineParts) (history : List Entry) (machine : IsMachine part
         })
 
     own-nodes : (entry.actor ≡ HOST) ⊎ IsNodes → (r : ℕ) → r < 2 ^ cube.grant.dim → actor_entries cube.grant.user (node_of cube.grant.sub r) (entry ∷ []) ≡ []
-        → node_now parts (history ++ entry ∷ []) cube.number cube.grant r ≡ node_now parts history cube.number cube.grant r
+        → trace_node parts (history ++ entry ∷ []) cube.number cube.grant r ≡ trace_node parts history cube.number cube.grant r
     own-nodes (inl host) r below none = more.all host r below
     own-nodes (inr node) r below none =
         more.others node.q r node.below node.actor
@@ -150,7 +150,7 @@ module _ (parts : MachineParts) (history : List Entry) (machine : IsMachine part
       held = more.held;
       trace = more.trace
           ∙ ap (λ b. view history cube.number ++ map (entry_inward cube.grant.sub) (if b then entry ∷ [] else []))
-          (sym (and_from (entry.user == cube.grant.user) (is_some (call_of entry.what)) (eq-eqb _ _ own) called));
+          (sym (and_from (entry.user == cube.grant.user) (is_some (recorded_call entry.what)) (eq-eqb _ _ own) called));
       nodes = own-nodes who;
       store = λ none. more.store (ne_eqb _ _ (λ host. some-of cube.grant.user HOST entry own host none));
       actors = (λ same. own-actor who, tt);
@@ -160,7 +160,7 @@ module _ (parts : MachineParts) (history : List Entry) (machine : IsMachine part
       → what_of_request parts (after history) entry.user entry.actor request ≡ Some entry.what → IsKept
   own-kept own beside peek fits e =
       let peeks : entry.what ≡ Peek = cc in
-      none-kept (kept-aside (inr peeks)) (and_false _ _ (ap (λ what. is_some (call_of what)) peeks)) (λ same. inl fits.1)
+      none-kept (kept-aside (inr peeks)) (and_false _ _ (ap (λ what. is_some (recorded_call what)) peeks)) (λ same. inl fits.1)
   own-kept own beside (in_cube call) fits e =
       call-kept own call (subst (λ user. IsFitting parts history user entry.actor (in_cube call)) own fits)
       (record { user = own; actor_is = refl; what = subst (λ user. what_of_request parts (after history) user entry.actor (in_cube call) ≡ Some entry.what) own e })
@@ -172,7 +172,7 @@ module _ (parts : MachineParts) (history : List Entry) (machine : IsMachine part
       elim (cases_Bool (entry.user == cube.grant.user)) [
         | inl own ↦ let same = eqb-true _ _ own in own-kept same (beside same) is.request is.fits is.answer
         | inr other ↦
-            none-kept (kept-aside (inl other)) (ap (λ b. b && is_some (call_of entry.what)) other) (λ same. absurd (both_ways _ other (eq-eqb _ _ same)))
+            none-kept (kept-aside (inl other)) (ap (λ b. b && is_some (recorded_call entry.what)) other) (λ same. absurd (both_ways _ other (eq-eqb _ _ same)))
       ]
 
 -- ---- entry by entry

@@ -4,19 +4,19 @@ use Rattle.ce_model.specs.declared.topology.BlockId.{BlockId}
 use Rattle.ce_model.specs.declared.topology.Place.{Place}
 use Rattle.ce_model.specs.declared.entry.Entry.{Entry}
 use Rattle.ce_model.specs.declared.entry.What.{What}
-use Rattle.ce_model.specs.declared.entry.What.TheVariants as entry
+use Rattle.ce_model.specs.declared.entry.What.TheVariants as whats
 use Rattle.ce_model.specs.declared.entry.KillFound.{KillFound}
-use Rattle.ce_model.specs.declared.entry.KillFound.TheVariants as found
+use Rattle.ce_model.specs.declared.entry.KillFound.TheVariants as kill_found
 use Rattle.ce_model.specs.declared.entry.TakeResult.{TakeResult}
-use Rattle.ce_model.specs.declared.entry.TakeResult.TheVariants as given
+use Rattle.ce_model.specs.declared.entry.TakeResult.TheVariants as take_result
 use Rattle.ce_model.specs.Parcels.{Item}
-use Rattle.ce_model.specs.Node.{Node, Call, takes, sends, spawns, kills, notes, arms, looks, takes_mail}
+use Rattle.ce_model.specs.Node.{Node, Call, take_call, send_call, spawn_call, kill_call, note_call, arm_call, look_call, mail_call}
 use Rattle.ce_model.specs.Saying.{says}
-use Rattle.ce_model.specs.Trace.{Standing, is_work, armed_by, dispatched_by, allowed_dispatches, made_dispatches, waiting_items}
+use Rattle.ce_model.specs.Trace.{Standing, is_work, allowed_dispatches_after, made_dispatches_after, allowed_dispatches, made_dispatches, waiting_items}
 use Rattle.ce_model.specs.Answers.{answer}
-use Rattle.ce_model.specs.Cube.{Cube, opening, left_by, node_numbers}
-use Rattle.ce_model.specs.Subcubes.{relative, node_of}
-use Rattle.ce_model.specs.Renaming.{place_inward, block_inward, block_outward, what_renamed, item_with, entry_inward}
+use Rattle.ce_model.specs.Cube.{Cube, opening, state_after_trace, node_numbers}
+use Rattle.ce_model.specs.Subcubes.{relative_number, node_of}
+use Rattle.ce_model.specs.Renaming.{place_inward, block_inward, block_outward, renamed_what, renamed_item, entry_inward}
 use Rattle.ce_model.specs.Views.{view}
 use Rattle.ce_model.specs.Machine.{MachineParts, HeldCube, cube_of}
 use Rattle.ce_model.proofs.OneMore.{armed-more, dispatched-more}
@@ -24,9 +24,9 @@ use Rattle.rk_mail.specs.declared.talk.Hearing.{Hearing}
 use Rattle.rk_mail.specs.Talk.{IsGiven, heard_of_kill, IsHeardIn}
 use Rattle.ce_script.specs.Rounds.{is_take, is_dispatch, asks_for_work}
 use Rattle.ce_solo.proofs.Projection.Numbers.{relative_out}
-use Rattle.ce_cube.specs.Boxes.{node_now, IsStandIn, IsMadeBy, IsAnswered}
+use Rattle.ce_cube.specs.Boxes.{trace_node, IsStandIn, IsMadeBy, IsHeardByNode}
 use Rattle.ce_cube.specs.Rounds.{is_work_heard, dispatches_left, IsEntryOf}
-use Rattle.ce_cube.specs.Laws.{EntriesCount, StepsEndTurns}
+use Rattle.ce_cube.specs.Laws.{EntriesCount, BoxesInStepEndTurns}
 use Rattle.ce_cube.proofs.Held.{IsSeen, by_seen, held-within}
 use Rattle.ce_cube.proofs.Says.{says-of, asks-renamed}
 use Rattle.ce_cube.proofs.Adds.{one-more}
@@ -37,81 +37,81 @@ use Rattle.ce_cube.proofs.CanHear.{entry-is}
 
 -- work that is given is work that is heard
 given-work : (items : List Item) (given : TakeResult) (heard : Hearing) → IsGiven items given heard → is_work given ≡ is_work_heard heard
-given-work items (given.Start pid image) heard is = sym (ap is_work_heard is)
-given-work items (given.Mail pid number) heard is = sym (ap is_work_heard is.1)
-given-work items (given.Kill pid) heard is = sym (ap is_work_heard is)
-given-work items (given.Poll pid) heard is = sym (ap is_work_heard is)
-given-work items given.Idle heard is = sym (ap is_work_heard is)
-given-work items given.Spent heard is = sym (ap is_work_heard is)
+given-work items (take_result.Start pid image) heard is = sym (ap is_work_heard is)
+given-work items (take_result.Mail pid number) heard is = sym (ap is_work_heard is.1)
+given-work items (take_result.Kill pid) heard is = sym (ap is_work_heard is)
+given-work items (take_result.Poll pid) heard is = sym (ap is_work_heard is)
+given-work items take_result.Idle heard is = sym (ap is_work_heard is)
+given-work items take_result.Spent heard is = sym (ap is_work_heard is)
 
 -- an entry counts so, by what was heard
 record IsCounted (what : What) (heard : Hearing) : Type 0 where
   dispatch : (user actor : ℕ) → is_dispatch (record { user = user; actor = actor; what = what }) ≡ is_work_heard heard
-  armed : (count : ℕ) → armed_by count what ≡ count
-  dispatched : (count : ℕ) → dispatched_by count what ≡ count + (if is_work_heard heard then 1 else 0)
+  allowed_dispatches : (count : ℕ) → allowed_dispatches_after count what ≡ count
+  made_dispatches : (count : ℕ) → made_dispatches_after count what ≡ count + (if is_work_heard heard then 1 else 0)
 
 taken-counts : (b : Bool) (count : ℕ) → (if b then count + 1 else count) ≡ count + (if b then 1 else 0)
 taken-counts true count = refl
 taken-counts false count = omega arith
 
-take-counts : (asking dead : ℕ) (poller : Option ℕ) (given : TakeResult) (heard : Hearing) → is_work given ≡ is_work_heard heard → IsCounted (entry.Take asking dead poller given) heard
+take-counts : (asking dead : ℕ) (poller : Option ℕ) (given : TakeResult) (heard : Hearing) → is_work given ≡ is_work_heard heard → IsCounted (whats.Take asking dead poller given) heard
 take-counts asking dead poller given heard work = record {
   dispatch = λ user actor. work;
-  armed = λ count. refl;
-  dispatched = λ count. ap (λ b. if b then count + 1 else count) work ∙ taken-counts (is_work_heard heard) count;
+  allowed_dispatches = λ count. refl;
+  made_dispatches = λ count. ap (λ b. if b then count + 1 else count) work ∙ taken-counts (is_work_heard heard) count;
 }
 
-no_work : (what : What) (heard : Hearing) → ((user actor : ℕ) → is_dispatch (record { user = user; actor = actor; what = what }) ≡ false) → ((count : ℕ) → armed_by count what ≡ count)
-    → ((count : ℕ) → dispatched_by count what ≡ count) → is_work_heard heard ≡ false → IsCounted what heard
+no_work : (what : What) (heard : Hearing) → ((user actor : ℕ) → is_dispatch (record { user = user; actor = actor; what = what }) ≡ false) → ((count : ℕ) → allowed_dispatches_after count what ≡ count)
+    → ((count : ℕ) → made_dispatches_after count what ≡ count) → is_work_heard heard ≡ false → IsCounted what heard
 no_work what heard dispatch allowed_dispatches made_dispatches none = record {
   dispatch = λ user actor. dispatch user actor ∙ sym none;
-  armed = allowed_dispatches;
-  dispatched = λ count. made_dispatches count ∙ omega (arith, ap {B = ℕ} (λ b. if b then 1 else 0) none);
+  allowed_dispatches = allowed_dispatches;
+  made_dispatches = λ count. made_dispatches count ∙ omega (arith, ap {B = ℕ} (λ b. if b then 1 else 0) none);
 }
 
-fresh-work : (fresh : Bool) (items : List Item) (to : Place) (heard : Hearing) → IsHeardIn items (entry.Spawn 0 0 to fresh) heard → is_work_heard heard ≡ false
+fresh-work : (fresh : Bool) (items : List Item) (to : Place) (heard : Hearing) → IsHeardIn items (whats.Spawn 0 0 to fresh) heard → is_work_heard heard ≡ false
 fresh-work true items to heard is = ap is_work_heard is
 fresh-work false items to heard is = ap is_work_heard is
 
 kill-work : (found : KillFound) (heard : Hearing) → heard ≡ heard_of_kill found → is_work_heard heard ≡ false
-kill-work found.Killed heard is = ap is_work_heard is
-kill-work found.Unused heard is = ap is_work_heard is
-kill-work found.Already heard is = ap is_work_heard is
+kill-work kill_found.Killed heard is = ap is_work_heard is
+kill-work kill_found.Unused heard is = ap is_work_heard is
+kill-work kill_found.Already heard is = ap is_work_heard is
 
-heard-counts : (place : Place → Place) (block : BlockId → BlockId) (items : List Item) (what : What) (heard : Hearing) → IsHeardIn items what heard → IsCounted (what_renamed place block what) heard
-heard-counts place block items (entry.Take asking dead poller given) heard is = take-counts asking dead poller given heard (given-work items given heard is)
-heard-counts place block items (entry.Send pid first to bytes) heard is = no_work _ heard (λ user actor. refl) (λ count. refl) (λ count. refl) (ap is_work_heard is)
-heard-counts place block items (entry.Spawn pid image to fresh) heard is = no_work _ heard (λ user actor. refl) (λ count. refl) (λ count. refl) (fresh-work fresh items to heard is)
-heard-counts place block items (entry.Kill pid to found) heard is = no_work _ heard (λ user actor. refl) (λ count. refl) (λ count. refl) (kill-work found heard is)
-heard-counts place block items (entry.Note pid word) heard is = no_work _ heard (λ user actor. refl) (λ count. refl) (λ count. refl) (ap is_work_heard is)
+heard-counts : (place : Place → Place) (block : BlockId → BlockId) (items : List Item) (what : What) (heard : Hearing) → IsHeardIn items what heard → IsCounted (renamed_what place block what) heard
+heard-counts place block items (whats.Take asking dead poller given) heard is = take-counts asking dead poller given heard (given-work items given heard is)
+heard-counts place block items (whats.Send pid first to bytes) heard is = no_work _ heard (λ user actor. refl) (λ count. refl) (λ count. refl) (ap is_work_heard is)
+heard-counts place block items (whats.Spawn pid image to fresh) heard is = no_work _ heard (λ user actor. refl) (λ count. refl) (λ count. refl) (fresh-work fresh items to heard is)
+heard-counts place block items (whats.Kill pid to found) heard is = no_work _ heard (λ user actor. refl) (λ count. refl) (λ count. refl) (kill-work found heard is)
+heard-counts place block items (whats.Note pid word) heard is = no_work _ heard (λ user actor. refl) (λ count. refl) (λ count. refl) (ap is_work_heard is)
 heard-counts place block items other heard is = absurd is
 
 -- an entry is a Take whatever its names are, and is one where its call asks for work
 takes-renamed : (place : Place → Place) (block : BlockId → BlockId) (user actor : ℕ) (what : What)
-    → is_take (record { user = user; actor = actor; what = what_renamed place block what }) ≡ is_take (record { user = user; actor = actor; what = what })
-takes-renamed place block user actor (entry.Send pid first to bytes) = refl
-takes-renamed place block user actor (entry.Spawn pid image to fresh) = refl
-takes-renamed place block user actor (entry.Kill pid to found) = refl
+    → is_take (record { user = user; actor = actor; what = renamed_what place block what }) ≡ is_take (record { user = user; actor = actor; what = what })
+takes-renamed place block user actor (whats.Send pid first to bytes) = refl
+takes-renamed place block user actor (whats.Spawn pid image to fresh) = refl
+takes-renamed place block user actor (whats.Kill pid to found) = refl
 takes-renamed place block user actor other = refl
 
 pub call-takes : (nodes : List ℕ) (standing : Standing) (r user actor : ℕ) (call : Call)
     → is_take (record { user = user; actor = actor; what = answer nodes standing r call }) ≡ asks_for_work call
 unfolding answer
-call-takes nodes standing r user actor (takes asking dead poller) = refl
-call-takes nodes standing r user actor (sends pid to bytes) = refl
-call-takes nodes standing r user actor (spawns pid image to) = refl
-call-takes nodes standing r user actor (kills pid to) = refl
-call-takes nodes standing r user actor (notes pid word) = refl
-call-takes nodes standing r user actor (arms count) = refl
-call-takes nodes standing r user actor looks = refl
-call-takes nodes standing r user actor takes_mail = refl
+call-takes nodes standing r user actor (take_call asking dead poller) = refl
+call-takes nodes standing r user actor (send_call pid to bytes) = refl
+call-takes nodes standing r user actor (spawn_call pid image to) = refl
+call-takes nodes standing r user actor (kill_call pid to) = refl
+call-takes nodes standing r user actor (note_call pid word) = refl
+call-takes nodes standing r user actor (arm_call count) = refl
+call-takes nodes standing r user actor look_call = refl
+call-takes nodes standing r user actor mail_call = refl
 
 -- ---- the box
 
 module _ (parts : MachineParts) (history : List Entry) (cube : HeldCube) (now : IsSeen parts history cube) (r : ℕ) (below : r < 2 ^ cube.grant.dim) (box : Node)
-    (stands : IsStandIn cube.grant (node_now parts history cube.number cube.grant r) box) (entry : Entry)
+    (stands : IsStandIn cube.grant (trace_node parts history cube.number cube.grant r) box) (entry : Entry)
     (made : IsMadeBy parts history cube.grant (node_of cube.grant.sub r) (says box).call entry) (heard : Hearing)
-    (is : IsAnswered history cube.grant r entry.what heard) where
+    (is : IsHeardByNode history cube.grant r entry.what heard) where
   abbrev own : Cube
   own = cube_of parts.images cube.grant
 
@@ -119,7 +119,7 @@ module _ (parts : MachineParts) (history : List Entry) (cube : HeldCube) (now : 
   inner = entry_inward cube.grant.sub entry
 
   abbrev call : Call
-  call = (says (node_now parts history cube.number cube.grant r)).call
+  call = (says (trace_node parts history cube.number cube.grant r)).call
 
   abbrev work : ℕ
   work = if is_work_heard heard then 1 else 0
@@ -127,7 +127,7 @@ module _ (parts : MachineParts) (history : List Entry) (cube : HeldCube) (now : 
   counts : IsCounted inner.what heard
   counts =
       heard-counts (place_inward cube.grant.sub) (block_inward cube.grant.sub)
-      (map (item_with (block_outward cube.grant)) (waiting_items (opening own).standing r (view history cube.number))) entry.what heard
+      (map (renamed_item (block_outward cube.grant)) (waiting_items (opening own).standing r (view history cube.number))) entry.what heard
       (heard-own parts history cube now r below box stands entry heard is)
 
   left-by : (t : List Entry) → t ≡ view history cube.number ++ inner ∷ [] → made_dispatches (opening own).standing t ≤ allowed_dispatches (opening own).standing t
@@ -138,8 +138,8 @@ module _ (parts : MachineParts) (history : List Entry) (cube : HeldCube) (now : 
       omega (
         arith,
         within,
-        ap (allowed_dispatches o) same ∙ armed-more o before inner ∙ counts.armed (allowed_dispatches o before),
-        ap (made_dispatches o) same ∙ dispatched-more o before inner ∙ counts.dispatched (made_dispatches o before),
+        ap (allowed_dispatches o) same ∙ armed-more o before inner ∙ counts.allowed_dispatches (allowed_dispatches o before),
+        ap (made_dispatches o) same ∙ dispatched-more o before inner ∙ counts.made_dispatches (made_dispatches o before),
       )
 
   entry-of : IsEntryOf parts history cube.number cube.grant r (says box).call entry heard
@@ -147,12 +147,12 @@ module _ (parts : MachineParts) (history : List Entry) (cube : HeldCube) (now : 
       let said = says-of parts history cube now r below box stands in
       let more = one-more parts history cube now (node_of cube.grant.sub r) (says box).call entry said.fits made in
       record {
-        actor_is = ap (relative cube.grant.sub) made.actor_is ∙ relative_out parts.dim cube.grant now.placed r below;
+        actor_is = ap (relative_number cube.grant.sub) made.actor_is ∙ relative_out parts.dim cube.grant now.placed r below;
         take = takes-renamed (place_inward cube.grant.sub) (block_inward cube.grant.sub) entry.user inner.actor entry.what
             ∙ ap (λ what. is_take (record { user = entry.user; actor = inner.actor; what = what }))
             (entry-is parts history cube now r below box stands entry made)
             ∙ takes-renamed _ _ entry.user inner.actor _
-            ∙ call-takes (node_numbers cube.grant.dim) (left_by own (opening own) (view history cube.number)).standing r entry.user inner.actor call
+            ∙ call-takes (node_numbers cube.grant.dim) (state_after_trace own (opening own) (view history cube.number)).standing r entry.user inner.actor call
             ∙ sym (ap asks_for_work said.call ∙ asks-renamed (block_outward cube.grant) call);
         dispatch = counts.dispatch inner.user inner.actor;
         left = left-by (view (history ++ entry ∷ []) cube.number) more.trace
@@ -162,10 +162,10 @@ module _ (parts : MachineParts) (history : List Entry) (cube : HeldCube) (now : 
 pub entries-count : EntriesCount
 entries-count parts history number grant machine lawful held r box entry heard below stands made is =
     by_seen
-    (λ number grant. r < 2 ^ grant.dim → IsStandIn grant (node_now parts history number grant r) box
-    → IsMadeBy parts history grant (node_of grant.sub r) (says box).call entry → IsAnswered history grant r entry.what heard
+    (λ number grant. r < 2 ^ grant.dim → IsStandIn grant (trace_node parts history number grant r) box
+    → IsMadeBy parts history grant (node_of grant.sub r) (says box).call entry → IsHeardByNode history grant r entry.what heard
     → IsEntryOf parts history number grant r (says box).call entry heard) parts history number grant machine lawful
     (λ cube now below stands made is. entry-of parts history cube now r below box stands entry made heard is) held below stands made is
 
-pub steps-end-turns : StepsEndTurns
-steps-end-turns parts history number grant box steps = λ r below. (steps r below).asks
+pub boxes_in_step-end-turns : BoxesInStepEndTurns
+boxes_in_step-end-turns parts history number grant box steps = λ r below. (steps r below).asks

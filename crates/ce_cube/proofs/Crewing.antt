@@ -7,9 +7,9 @@ use Rattle.std.proofs.lemmas.List.{map-append, length-map}
 use Rattle.std.proofs.lemmas.List.Sums.{length-filter, count_by-le-length, take_while-cons}
 use Rattle.std.proofs.Math.ListN.{length-set}
 use Rattle.ce_model.specs.declared.entry.Entry.{Entry}
-use Rattle.ce_model.specs.Answers.{call_of}
+use Rattle.ce_model.specs.Answers.{recorded_call}
 use Rattle.ce_model.specs.Renaming.{CubeGrant, entry_inward, block_outward}
-use Rattle.ce_model.specs.Views.{view, from_grant, grant_by, grant_or_later, is_drain, trace_behind}
+use Rattle.ce_model.specs.Views.{view, history_behind_grant, entry_grant, grant_or_later, is_drain, trace_behind}
 use Rattle.ce_model.specs.Machine.{IsMachine}
 use Rattle.ce_solo.proofs.Lists.{all-append}
 use Rattle.ce_solo.proofs.Projection.Numbers.{few_relative}
@@ -22,7 +22,7 @@ use Rattle.ce_cube.specs.declared.crew.SerialCrew.{SerialCrew}
 use Rattle.ce_cube.specs.Boxes.{IsHeldAs, IsInStep}
 use Rattle.ce_cube.specs.Rounds.{IsPartOfRound}
 use Rattle.ce_cube.specs.Crews.{HasStopped, IsLawfulMachine, IsReady, AreBoxesInStep, IsHostInStep, IsCrewInStep, HasGoneOn, HasMadeRound, AreCallsOf, box_at, cube_grant}
-use Rattle.ce_cube.specs.Exchanges.{HasNode, IsTurning, HasTakenTurn, IsRoundUnderWay, node_in, left_in}
+use Rattle.ce_cube.specs.Exchanges.{HasNode, IsTurning, HasTakenTurn, IsRoundUnderWay, machine_node, left_in}
 use Rattle.ce_cube.proofs.Held.{placed-of}
 use Rattle.ce_cube.proofs.Rounds.{are-made}
 
@@ -40,7 +40,7 @@ take_while-short {X = X} p (x ∷ xs) =
 behind-short : (grant : CubeGrant) (behind : List Entry) → length (trace_behind grant behind) ≤ length behind
 behind-short grant behind =
     let open_now = λ (entry : Entry). not (entry.user == grant.user && is_drain entry.what) in
-    let own = λ (entry : Entry). entry.user == grant.user && is_some (call_of entry.what) in
+    let own = λ (entry : Entry). entry.user == grant.user && is_some (recorded_call entry.what) in
     let kept = take_while open_now behind in
     omega (arith, length-map (filter own kept) (entry_inward grant.sub), length-filter own kept, count_by-le-length own kept, take_while-short open_now behind)
 
@@ -56,19 +56,19 @@ either : (n : ℕ) (b : Bool) (found other : Option (CubeGrant × List Entry)) �
 either n true found other is also = is
 either n false found other is also = also
 
-from-short : (history : List Entry) (number : ℕ) → IsShort (length history) (from_grant history number)
+from-short : (history : List Entry) (number : ℕ) → IsShort (length history) (history_behind_grant history number)
 from-short [] number = tt
-from-short (entry ∷ behind) number = by_grant (grant_by entry) (λ number. longer (length behind) (from_grant behind number) (from-short behind number))
+from-short (entry ∷ behind) number = by_grant (entry_grant entry) (λ number. longer (length behind) (history_behind_grant behind number) (from-short behind number))
   where
-    by_grant : (grant : Option CubeGrant) → ((number : ℕ) → IsShort (length (entry ∷ behind)) (from_grant behind number))
-        → IsShort (length (entry ∷ behind)) (grant_or_later grant behind number (from_grant behind))
+    by_grant : (grant : Option CubeGrant) → ((number : ℕ) → IsShort (length (entry ∷ behind)) (history_behind_grant behind number))
+        → IsShort (length (entry ∷ behind)) (grant_or_later grant behind number (history_behind_grant behind))
     by_grant None later = later number
     by_grant (Some grant) later =
-        either (length (entry ∷ behind)) (number == 0) (Some (grant, behind)) (from_grant behind (number - 1)) (omega arith) (later (number - 1))
+        either (length (entry ∷ behind)) (number == 0) (Some (grant, behind)) (history_behind_grant behind (number - 1)) (omega arith) (later (number - 1))
 
 pub view-short : (history : List Entry) (number : ℕ) → length (view history number) ≤ length history
 unfolding view
-view-short history number = by_found (from_grant history number) (from-short history number)
+view-short history number = by_found (history_behind_grant history number) (from-short history number)
   where
     by_found : (found : Option (CubeGrant × List Entry)) → IsShort (length history) found
         → length (option_map_or (λ (found : CubeGrant × List Entry). trace_behind found.0 found.1) found []) ≤ length history
@@ -90,9 +90,9 @@ module _ (m : MachineFacts) (crew : SerialCrew) (sound : IsLawfulMachine m) (ste
   pub crew-ready : (box : Box) → box ≡ box_at crew.nodes.items r → IsReady box
   crew-ready box is = subst IsReady (sym is) (step.boxes.ready r below)
 
-  pub crew-steps : (box : Box) → box ≡ box_at crew.nodes.items r → IsInStep (cube_grant crew.grant) (node_in m crew.grant r) box.node
+  pub crew-steps : (box : Box) → box ≡ box_at crew.nodes.items r → IsInStep (cube_grant crew.grant) (machine_node m crew.grant r) box.node
   crew-steps box is =
-      subst (λ (box : Box). IsInStep (cube_grant crew.grant) (node_in m crew.grant r) box.node) (sym is) (step.boxes.in_step r below)
+      subst (λ (box : Box). IsInStep (cube_grant crew.grant) (machine_node m crew.grant r) box.node) (sym is) (step.boxes.in_step r below)
 
 -- with the grant that the crew has
 in-step-by : (m : MachineFacts) (grant : Grant) (crew : SerialCrew) → crew.grant ≡ grant → IsHeldAs m.history grant.number (cube_grant grant)
@@ -108,19 +108,19 @@ in-step-by m grant crew is held boxes host entries = record {
 -- ---- a turn
 
 module _ (m m' : MachineFacts) (crew crew' : SerialCrew) (r count : ℕ) (box : Box) (work : Bool) (step : IsCrewInStep m.parts m.history crew) (below : r < 2 ^ crew.grant.dim)
-    (turn : IsTurning m m' crew.grant r box work count) (steps : IsInStep (cube_grant crew.grant) (node_in m' crew.grant r) box.node) where
+    (turn : IsTurning m m' crew.grant r box work count) (steps : IsInStep (cube_grant crew.grant) (machine_node m' crew.grant r) box.node) where
   -- each box is ready and in step
   box-at : (q : ℕ) → q < 2 ^ crew.grant.dim
-      → IsReady (box_at (set crew.nodes.items r box) q) × IsInStep (cube_grant crew.grant) (node_in m' crew.grant q) (box_at (set crew.nodes.items r box) q).node
+      → IsReady (box_at (set crew.nodes.items r box) q) × IsInStep (cube_grant crew.grant) (machine_node m' crew.grant q) (box_at (set crew.nodes.items r box) q).node
   box-at q within = elim (cases_Bool (q == r)) [
     | inl same ↦
         let at = eqb-true q r same in
-        subst (λ q. IsReady (box_at (set crew.nodes.items r box) q) × IsInStep (cube_grant crew.grant) (node_in m' crew.grant q) (box_at (set crew.nodes.items r box) q).node) (sym at)
-        (subst (λ (b : Box). IsReady b × IsInStep (cube_grant crew.grant) (node_in m' crew.grant r) b.node)
+        subst (λ q. IsReady (box_at (set crew.nodes.items r box) q) × IsInStep (cube_grant crew.grant) (machine_node m' crew.grant q) (box_at (set crew.nodes.items r box) q).node) (sym at)
+        (subst (λ (b : Box). IsReady b × IsInStep (cube_grant crew.grant) (machine_node m' crew.grant r) b.node)
         (sym (get_or-set_same crew.nodes.items r box (record { node = fresh_at 0 0 0 0; room = 0; out = Nothing }) (omega (arith, step.boxes.all, below))))
         (turn.stands.ready, steps))
     | inr differ ↦
-        subst (λ (b : Box). IsReady b × IsInStep (cube_grant crew.grant) (node_in m' crew.grant q) b.node)
+        subst (λ (b : Box). IsReady b × IsInStep (cube_grant crew.grant) (machine_node m' crew.grant q) b.node)
         (sym (get_or-set_other crew.nodes.items r q box (record { node = fresh_at 0 0 0 0; room = 0; out = Nothing }) (λ e. both_ways (q == r) differ (eq-eqb q r e)))) (
           step.boxes.ready q within,
           subst (λ node. IsInStep (cube_grant crew.grant) node (box_at crew.nodes.items q).node) (sym (turn.goes_on.others q within differ)) (step.boxes.in_step q within),
@@ -221,7 +221,7 @@ gone-both m now now' crew crew' crew'' made turn on next =
       parts = next.parts ∙ on.parts;
       history = next.history ∙ ap (λ h. h ++ turn) on.history ∙ append_assoc m.history made turn;
       lawful = next.lawful;
-      calls = all-append (λ (entry : Entry). (entry.user ≡ crew.grant.user) × IsTrue (is_some (call_of entry.what))) made turn on.calls
+      calls = all-append (λ (entry : Entry). (entry.user ≡ crew.grant.user) × IsTrue (is_some (recorded_call entry.what))) made turn on.calls
           (subst (λ (g : Grant). AreCallsOf g.user turn) on.grant next.calls);
       grant = next.grant ∙ on.grant;
       trace = subst (λ (g : Grant). view now'.history g.number ≡ view now.history g.number ++ map (entry_inward g.sub) turn) on.grant next.trace
@@ -257,7 +257,7 @@ stopped-round m now now' crew crew' r work way stopped = record {
   parts = stopped.parts ∙ way.goes_on.parts;
   history = stopped.history ∙ ap (λ h. h ++ stopped.made) way.goes_on.history ∙ append_assoc m.history way.made stopped.made;
   lawful = stopped.lawful;
-  calls = all-append (λ (entry : Entry). (entry.user ≡ crew.grant.user) × IsTrue (is_some (call_of entry.what))) way.made stopped.made way.goes_on.calls
+  calls = all-append (λ (entry : Entry). (entry.user ≡ crew.grant.user) × IsTrue (is_some (recorded_call entry.what))) way.made stopped.made way.goes_on.calls
       (subst (λ (g : Grant). AreCallsOf g.user stopped.made) way.goes_on.grant stopped.calls);
 }
 

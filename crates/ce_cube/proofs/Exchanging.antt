@@ -8,12 +8,12 @@ use Rattle.ce_model.specs.declared.process.Status.{Status}
 use Rattle.ce_model.specs.declared.process.Status.TheVariants.{Unborn, Running, Asking, Polling, Stopped}
 use Rattle.ce_model.specs.declared.entry.Entry.{Entry}
 use Rattle.ce_model.specs.declared.entry.What.{What}
-use Rattle.ce_model.specs.declared.entry.What.TheVariants as entry
+use Rattle.ce_model.specs.declared.entry.What.TheVariants as whats
 use Rattle.ce_model.specs.Limits.{greatest_dim, greatest_nodes_lem, greatest_blocks}
 use Rattle.ce_model.specs.Parcels.{Item, mail, is_eligible}
 use Rattle.ce_model.specs.Process.{is_receiving, is_stopped}
-use Rattle.ce_model.specs.Answers.{answer, call_of}
-use Rattle.ce_model.specs.Hearing.{hears}
+use Rattle.ce_model.specs.Answers.{answer, recorded_call}
+use Rattle.ce_model.specs.Hearing.{node_after_hearing}
 use Rattle.ce_model.specs.Subcubes.{node_of, ones_of, extract, is_base}
 use Rattle.ce_model.proofs.AloneByEntries.{call_of-answer}
 use Rattle.ce_solo.proofs.Counting.{count-is}
@@ -23,10 +23,10 @@ use Rattle.ce_model.specs.Node.{Node, Call, process_at, blocks_of, ids_of}
 use Rattle.ce_model.specs.Saying.{says}
 use Rattle.ce_model.specs.Sound.{is_unborn}
 use Rattle.ce_model.specs.Renaming.{CubeGrant}
-use Rattle.ce_model.specs.Machine.{MachineParts, MachineState, IsFitting, held_by, in_cube, after, what_of_request, HeldCube, nodes_of, standing_of, with_places_outward}
+use Rattle.ce_model.specs.Machine.{MachineParts, MachineState, IsFitting, cube_held_by, in_cube, after, what_of_request, HeldCube, nodes_of, cube_standing, with_places_outward}
 use Rattle.ce_daemon.specs.declared.grant.Grant.{Grant}
 use Rattle.rk_mail.specs.declared.talk.Hearing.{Hearing}
-use Rattle.rk_mail.specs.declared.talk.Hearing.TheVariants as heard
+use Rattle.rk_mail.specs.declared.talk.Hearing.TheVariants as hearing
 use Rattle.rk_mail.specs.Items.{parcel_of}
 use Rattle.rk_mail.specs.Talk.{IsHeardIn, IsAnswerTo, call_said, heard_as}
 use Rattle.rk_node.specs.Boxes.{Box}
@@ -34,18 +34,18 @@ use Rattle.rk_node.specs.declared.out.Out.TheVariants.{Nothing}
 use Rattle.rk_node.proofs.Names.{not_contained}
 use Rattle.rk_node.specs.Answering.{IsAbleToHear, IsWork}
 use Rattle.ce_machine.specs.declared.call.Reply.{Reply}
-use Rattle.ce_machine.specs.declared.call.Reply.TheVariants.{Heard as ReplyHeard}
-use Rattle.ce_machine.specs.Replies.{IsReplyTo, IsHeard, OfHeldCube, items_for, found_reply}
+use Rattle.ce_machine.specs.declared.call.Reply.TheVariants as replies
+use Rattle.ce_machine.specs.Replies.{IsReplyTo, IsHeard, OfHeldCube, actor_items, found_reply}
 use Rattle.ce_model.specs.declared.entry.LookResult.{LookResult}
 use Rattle.ce_model.specs.declared.entry.LookResult.TheVariants.{Quiet, Spent, Busy}
-use Rattle.ce_machine.specs.declared.call.Call.TheVariants.{Say as SaySaid}
+use Rattle.ce_machine.specs.declared.call.Call.TheVariants as calls
 use Rattle.ce_machine.specs.Meanings.{MachineFacts, IsAnsweredBy}
 use Rattle.ce_lock.specs.declared.who.Who.{Who}
 use Rattle.rk_mail.specs.declared.talk.Say.{Say}
 use Rattle.rk_mail.specs.declared.talk.Say.TheVariants as say
 use Rattle.ce_model.specs.Trace.{Standing}
 use Rattle.ce_script.specs.Rounds.{asks_for_work}
-use Rattle.ce_cube.specs.Boxes.{IsSaidBy, IsMadeBy, node_now}
+use Rattle.ce_cube.specs.Boxes.{IsSaidBy, IsMadeBy, trace_node}
 use Rattle.ce_cube.specs.Hearable.{IsHearable, IsRightAnswer, calls_left}
 use Rattle.ce_cube.specs.Rounds.{is_work_heard}
 use Rattle.ce_cube.specs.Crews.{cube_grant}
@@ -67,51 +67,51 @@ of_nobody (Some cube) is = absurd is
 abbrev IsSameReply : {N : Type 0} → Reply N → Reply N → Type 0
 IsSameReply reply other = reply ≡ other
 
-heard-not_found : {N X : Type 0} (heard : Hearing) (found : LookResult) → IsSameReply {N = N} (ReplyHeard heard) (found_reply found) → X
+heard-not_found : {N X : Type 0} (heard : Hearing) (found : LookResult) → IsSameReply {N = N} (replies.Heard heard) (found_reply found) → X
 heard-not_found heard Quiet is = absurd (cc)
 heard-not_found heard Spent is = absurd (cc)
 heard-not_found heard Busy is = absurd (cc)
 
 -- a machine that lets hear replies to a call of a cube, in what waited for its actor
 pub heard-reply : {N : Type 0} (home : N → ℕ) (clean : N → Type 0) (parts : MachineParts) (state : MachineState) (user actor : ℕ) (what : What) (heard : Hearing)
-    → IsReplyTo home clean parts state user actor what (ReplyHeard heard)
-    → OfHeldCube state user (λ cube. IsHeardIn (items_for state cube actor) what heard)
-heard-reply home clean parts state user actor (entry.Getcube dim None) heard is = absurd (cc)
-heard-reply home clean parts state user actor (entry.Getcube dim (Some sub)) heard is = absurd is
-heard-reply home clean parts state user actor entry.Peek heard is = absurd (cc)
-heard-reply home clean parts state user actor entry.Drain heard is = of_nobody (held_by state user) is
-heard-reply home clean parts state user actor entry.Freecube heard is = absurd (cc)
-heard-reply home clean parts state user actor (entry.Arm count) heard is = absurd (cc)
-heard-reply home clean parts state user actor (entry.Look found) heard is = heard-not_found heard found is
-heard-reply home clean parts state user actor (entry.HostTake None) heard is = absurd (cc)
-heard-reply home clean parts state user actor (entry.HostTake (Some number)) heard is = of_nobody (held_by state user) is
-heard-reply home clean parts state user actor (entry.Send pid first to bytes) heard is = is
-heard-reply home clean parts state user actor (entry.Spawn pid image to fresh) heard is = is
-heard-reply home clean parts state user actor (entry.Kill pid to found) heard is = is
-heard-reply home clean parts state user actor (entry.Note pid word) heard is = is
-heard-reply home clean parts state user actor (entry.Take asking dead poller given) heard is = is
+    → IsReplyTo home clean parts state user actor what (replies.Heard heard)
+    → OfHeldCube state user (λ cube. IsHeardIn (actor_items state cube actor) what heard)
+heard-reply home clean parts state user actor (whats.Getcube dim None) heard is = absurd (cc)
+heard-reply home clean parts state user actor (whats.Getcube dim (Some sub)) heard is = absurd is
+heard-reply home clean parts state user actor whats.Peek heard is = absurd (cc)
+heard-reply home clean parts state user actor whats.Drain heard is = of_nobody (cube_held_by state user) is
+heard-reply home clean parts state user actor whats.Freecube heard is = absurd (cc)
+heard-reply home clean parts state user actor (whats.Arm count) heard is = absurd (cc)
+heard-reply home clean parts state user actor (whats.Look found) heard is = heard-not_found heard found is
+heard-reply home clean parts state user actor (whats.HostTake None) heard is = absurd (cc)
+heard-reply home clean parts state user actor (whats.HostTake (Some number)) heard is = of_nobody (cube_held_by state user) is
+heard-reply home clean parts state user actor (whats.Send pid first to bytes) heard is = is
+heard-reply home clean parts state user actor (whats.Spawn pid image to fresh) heard is = is
+heard-reply home clean parts state user actor (whats.Kill pid to found) heard is = is
+heard-reply home clean parts state user actor (whats.Note pid word) heard is = is
+heard-reply home clean parts state user actor (whats.Take asking dead poller given) heard is = is
 
 -- to what was said the machine replies by letting hear
 heard-by : {N : Type 0} (held : Option HeldCube) (items : HeldCube → List Item) (what : What) (reply : Reply N)
-    → IsSomeAnd held (λ cube. IsHeard (items cube) what reply) → (heard : Hearing) × (reply ≡ ReplyHeard heard)
+    → IsSomeAnd held (λ cube. IsHeard (items cube) what reply) → (heard : Hearing) × (reply ≡ replies.Heard heard)
 heard-by None items what reply is = absurd is
-heard-by (Some cube) items what (ReplyHeard heard) is = (heard, refl)
+heard-by (Some cube) items what (replies.Heard heard) is = (heard, refl)
 heard-by (Some cube) items what other is = absurd is
 
 pub said-heard : {N : Type 0} (home : N → ℕ) (clean : N → Type 0) (parts : MachineParts) (state : MachineState) (user actor : ℕ) (nodes : List ℕ) (standing : Standing)
     (grant : CubeGrant) (said : Say) (reply : Reply N) → IsReplyTo home clean parts state user actor (answer nodes standing actor (with_places_outward grant (call_said said))) reply
-    → (heard : Hearing) × (reply ≡ ReplyHeard heard)
+    → (heard : Hearing) × (reply ≡ replies.Heard heard)
 unfolding answer
 said-heard home clean parts state user actor nodes standing grant (say.Take asking dead poller) reply is =
-    heard-by (held_by state user) (λ cube. items_for state cube actor) (answer nodes standing actor (with_places_outward grant (call_said (say.Take asking dead poller)))) reply is
+    heard-by (cube_held_by state user) (λ cube. actor_items state cube actor) (answer nodes standing actor (with_places_outward grant (call_said (say.Take asking dead poller)))) reply is
 said-heard home clean parts state user actor nodes standing grant (say.Send pid batch) reply is =
-    heard-by (held_by state user) (λ cube. items_for state cube actor) (answer nodes standing actor (with_places_outward grant (call_said (say.Send pid batch)))) reply is
+    heard-by (cube_held_by state user) (λ cube. actor_items state cube actor) (answer nodes standing actor (with_places_outward grant (call_said (say.Send pid batch)))) reply is
 said-heard home clean parts state user actor nodes standing grant (say.Spawn pid image to) reply is =
-    heard-by (held_by state user) (λ cube. items_for state cube actor) (answer nodes standing actor (with_places_outward grant (call_said (say.Spawn pid image to)))) reply is
+    heard-by (cube_held_by state user) (λ cube. actor_items state cube actor) (answer nodes standing actor (with_places_outward grant (call_said (say.Spawn pid image to)))) reply is
 said-heard home clean parts state user actor nodes standing grant (say.Kill pid to) reply is =
-    heard-by (held_by state user) (λ cube. items_for state cube actor) (answer nodes standing actor (with_places_outward grant (call_said (say.Kill pid to)))) reply is
+    heard-by (cube_held_by state user) (λ cube. actor_items state cube actor) (answer nodes standing actor (with_places_outward grant (call_said (say.Kill pid to)))) reply is
 said-heard home clean parts state user actor nodes standing grant (say.Note pid word) reply is =
-    heard-by (held_by state user) (λ cube. items_for state cube actor) (answer nodes standing actor (with_places_outward grant (call_said (say.Note pid word)))) reply is
+    heard-by (cube_held_by state user) (λ cube. actor_items state cube actor) (answer nodes standing actor (with_places_outward grant (call_said (say.Note pid word)))) reply is
 
 -- ---- what a box can hear
 
@@ -128,25 +128,25 @@ born-is status born e = absurd (both_ways (is_unborn status) born (ap is_unborn 
 -- a box can hear what its node can
 can-work : (images : List ImageParts) (box : Box) (node : Node) (heard : Hearing) → box.node ≡ node → greatest_blocks ≤ box.room
     → IsHearable images node (heard_as heard) → IsWork images box heard
-can-work images box node (heard.Start pid image) same room is =
+can-work images box node (hearing.Start pid image) same room is =
     (is.pid_within, ap (λ (node : Node). (process_at node pid).status) same ∙ unborn-is (process_at node pid).status is.unborn, is.image_within)
-can-work images box node (heard.Mail parcel) same room is = record {
+can-work images box node (hearing.Mail parcel) same room is = record {
   eligible = subst (λ (node : Node). IsTrue (is_eligible (ids_of is_receiving node.processes) (ids_of is_stopped node.processes) (mail (parcel_of parcel)))) (sym same) is.eligible;
   apart = subst (λ (node : Node). ¬ Contains (blocks_of node) parcel.block.id) (sym same) (not_contained parcel.block.id (blocks_of node) (sym (count-is parcel.block.id (blocks_of node)) ∙ is.new));
   room = omega (arith, ap (λ (node : Node). length (blocks_of node)) same, is.room, room);
 }
-can-work images box node (heard.Kill pid) same room is =
+can-work images box node (hearing.Kill pid) same room is =
     (is.pid_within, λ e. born-is (process_at node pid).status is.born (sym (ap (λ (node : Node). (process_at node pid).status) same) ∙ e))
-can-work images box node (heard.Poll pid) same room is = ap (λ (node : Node). slice_get node.polling 0) same ∙ is.first
-can-work images box node heard.Idle same room is = tt
-can-work images box node heard.Spent same room is = tt
-can-work images box node (heard.Posted batch) same room is = tt
-can-work images box node heard.Spawned same room is = tt
-can-work images box node heard.Used same room is = tt
-can-work images box node heard.Killed same room is = tt
-can-work images box node heard.Unused same room is = tt
-can-work images box node heard.Already same room is = tt
-can-work images box node heard.Noted same room is = tt
+can-work images box node (hearing.Poll pid) same room is = ap (λ (node : Node). slice_get node.polling_ids 0) same ∙ is.first
+can-work images box node hearing.Idle same room is = tt
+can-work images box node hearing.Spent same room is = tt
+can-work images box node (hearing.Posted batch) same room is = tt
+can-work images box node hearing.Spawned same room is = tt
+can-work images box node hearing.Used same room is = tt
+can-work images box node hearing.Killed same room is = tt
+can-work images box node hearing.Unused same room is = tt
+can-work images box node hearing.Already same room is = tt
+can-work images box node hearing.Noted same room is = tt
 
 some-is : {X : Type 0} {x y : X} → Some x ≡ Some y → x ≡ y
 some-is e = cc
@@ -189,13 +189,13 @@ module _ (m : MachineFacts) (grant : Grant) (r : ℕ) (node : HasNode m grant r)
   pub images-are : box'.node.images ≡ length m.parts.images
   images-are =
       ap (λ (node : Node). node.images) (called.node ∙ said.at_rest)
-      ∙ by_seen (λ number grant. r < 2 ^ grant.dim → (says (node_now m.parts m.history number grant r)).node.images ≡ length m.parts.images)
+      ∙ by_seen (λ number grant. r < 2 ^ grant.dim → (says (trace_node m.parts m.history number grant r)).node.images ≡ length m.parts.images)
       m.parts m.history grant.number cg node.sound.within node.sound.lawful
       (λ cube now below. (node-said m.parts m.history cube now r below).became.images ∙ (now.stands.sound.nodes r below).images) node.held node.within
 
   -- the machine's entry and its reply
   module _ (what : What) (heard : Hearing) (answered_so : what_of_request m.parts (after m.history) grant.user (node_of grant.sub r) (in_cube call) ≡ Some what)
-      (reply : OfHeldCube (after m.history) grant.user (λ cube. IsHeardIn (items_for (after m.history) cube (node_of grant.sub r)) what heard)) where
+      (reply : OfHeldCube (after m.history) grant.user (λ cube. IsHeardIn (actor_items (after m.history) cube (node_of grant.sub r)) what heard)) where
     abbrev pub made : Entry
     made = record { user = grant.user; actor = node_of grant.sub r; what = what }
 
@@ -218,7 +218,7 @@ module _ (m : MachineFacts) (grant : Grant) (r : ℕ) (node : HasNode m grant r)
     }
 
     -- what the exchange came to
-    pub exchanged : (m' : MachineFacts) (box'' : Box) → m'.parts ≡ m.parts → m'.history ≡ m.history ++ made ∷ [] → box''.node ≡ hears m.parts.images box'.node (heard_as heard)
+    pub exchanged : (m' : MachineFacts) (box'' : Box) → m'.parts ≡ m.parts → m'.history ≡ m.history ++ made ∷ [] → box''.node ≡ node_after_hearing m.parts.images box'.node (heard_as heard)
         → box''.room ≡ box'.room → box''.out ≡ Nothing → length m'.history < 2 ^ 63 → HasExchanged m m' grant r box box'' call (is_work_heard heard)
     exchanged m' box'' same_parts grown heard_node room out few =
         let one = calls-add m.parts m.history grant.number cg node.sound.within node.sound.lawful node.held (node_of grant.sub r) (says box.node).call made said.fits is-made in
@@ -242,48 +242,48 @@ module _ (m : MachineFacts) (grant : Grant) (r : ℕ) (node : HasNode m grant r)
           left = count.left;
           stands = record {
             ready = record { idle = out; room = omega (arith, room, called.room, called.before.ready.room) };
-            stands = inl (heard_node ∙ ap (λ (node : Node). hears m.parts.images node (heard_as heard)) called.node ∙ hear);
+            stands = inl (heard_node ∙ ap (λ (node : Node). node_after_hearing m.parts.images node (heard_as heard)) called.node ∙ hear);
           };
           calls = λ no_work.
-              subst (λ (node : Node). calls_left node < calls_left box.node) (sym (heard_node ∙ ap (λ (node : Node). hears m.parts.images node (heard_as heard)) called.node))
+              subst (λ (node : Node). calls_left node < calls_left box.node) (sym (heard_node ∙ ap (λ (node : Node). node_after_hearing m.parts.images node (heard_as heard)) called.node))
               (turns-end m.parts m.history grant.number cg node.sound.within node.sound.lawful node.held r box.node made heard node.within called.before.stands is-made reply
               (subst (λ call. IsFalse (asks_for_work call)) called.call_is no_work));
         })
       where
         answer-is : (what : What) → what_of_request m.parts (after m.history) grant.user (node_of grant.sub r) (in_cube call) ≡ Some what
-            → answer (nodes_of node.held.cube.grant) (standing_of (after m.history) node.held.cube) (node_of grant.sub r) (with_places_outward node.held.cube.grant call) ≡ what
-        answer-is what is = some-is (sym (ap (option_map (λ (cube : HeldCube). answer (nodes_of cube.grant) (standing_of (after m.history) cube) (node_of grant.sub r) (with_places_outward cube.grant call))) node.held.held) ∙ is)
+            → answer (nodes_of node.held.cube.grant) (cube_standing (after m.history) node.held.cube) (node_of grant.sub r) (with_places_outward node.held.cube.grant call) ≡ what
+        answer-is what is = some-is (sym (ap (option_map (λ (cube : HeldCube). answer (nodes_of cube.grant) (cube_standing (after m.history) cube) (node_of grant.sub r) (with_places_outward cube.grant call))) node.held.held) ∙ is)
 
-        is-call : IsTrue (is_some (call_of what))
+        is-call : IsTrue (is_some (recorded_call what))
         is-call =
             subst (λ found. IsTrue (is_some found))
-            (sym (call_of-answer (nodes_of node.held.cube.grant) (standing_of (after m.history) node.held.cube) (node_of grant.sub r) (with_places_outward node.held.cube.grant call))
-            ∙ ap call_of (answer-is what answered_so)) refl
+            (sym (call_of-answer (nodes_of node.held.cube.grant) (cube_standing (after m.history) node.held.cube) (node_of grant.sub r) (with_places_outward node.held.cube.grant call))
+            ∙ ap recorded_call (answer-is what answered_so)) refl
 
         turned : (other : ℕ) → (other == r) ≡ false → (r == other) ≡ false
         turned other differs = ne_eqb r other (λ same. both_ways (other == r) differs (eq-eqb other r (sym same)))
 
   -- the machine lets hear in reply to what was said
   pub stands-heard : {N : Type 0} (home : N → ℕ) (clean : N → Type 0) (said : Say) → call ≡ call_said said → (entry : Entry) (actor : ℕ) (reply : Reply N)
-      → IsAnsweredBy home clean m.parts m.history entry (record { family = grant.user; actor = actor }) (SaySaid said) reply → (heard : Hearing) × (reply ≡ ReplyHeard heard)
+      → IsAnsweredBy home clean m.parts m.history entry (record { family = grant.user; actor = actor }) (calls.Say said) reply → (heard : Hearing) × (reply ≡ replies.Heard heard)
   stands-heard home clean said is_said entry actor reply stands =
       let cube = node.held.cube in
-      said-heard home clean m.parts (after m.history) grant.user actor (nodes_of cube.grant) (standing_of (after m.history) cube) cube.grant said reply
+      said-heard home clean m.parts (after m.history) grant.user actor (nodes_of cube.grant) (cube_standing (after m.history) cube) cube.grant said reply
       (subst (λ what. IsReplyTo home clean m.parts (after m.history) grant.user actor what reply)
-      (sym (some-is (sym (ap (option_map (λ (cube : HeldCube). answer (nodes_of cube.grant) (standing_of (after m.history) cube) actor
+      (sym (some-is (sym (ap (option_map (λ (cube : HeldCube). answer (nodes_of cube.grant) (cube_standing (after m.history) cube) actor
       (with_places_outward cube.grant (call_said said)))) node.held.held) ∙ stands.answer))) stands.reply_is)
 
   -- the same, of the entry that stands for the call
   module _ {N : Type 0} (home : N → ℕ) (clean : N → Type 0) (said : Say) (is_said : call ≡ call_said said) (heard : Hearing) (entry : Entry) (actor : ℕ) (at : actor ≡ node_of grant.sub r)
-      (stands : IsAnsweredBy {N = N} home clean m.parts m.history entry (record { family = grant.user; actor = actor }) (SaySaid said) (ReplyHeard heard)) where
+      (stands : IsAnsweredBy {N = N} home clean m.parts m.history entry (record { family = grant.user; actor = actor }) (calls.Say said) (replies.Heard heard)) where
     answers : what_of_request m.parts (after m.history) grant.user (node_of grant.sub r) (in_cube call) ≡ Some entry.what
     answers =
         subst (λ actor. what_of_request m.parts (after m.history) grant.user actor (in_cube call) ≡ Some entry.what) at
         (subst (λ call. what_of_request m.parts (after m.history) grant.user actor (in_cube call) ≡ Some entry.what) (sym is_said) stands.answer)
 
-    reply : OfHeldCube (after m.history) grant.user (λ cube. IsHeardIn (items_for (after m.history) cube (node_of grant.sub r)) entry.what heard)
+    reply : OfHeldCube (after m.history) grant.user (λ cube. IsHeardIn (actor_items (after m.history) cube (node_of grant.sub r)) entry.what heard)
     reply =
-        subst (λ actor. OfHeldCube (after m.history) grant.user (λ cube. IsHeardIn (items_for (after m.history) cube actor) entry.what heard)) at
+        subst (λ actor. OfHeldCube (after m.history) grant.user (λ cube. IsHeardIn (actor_items (after m.history) cube actor) entry.what heard)) at
         (heard-reply {N = N} home clean m.parts (after m.history) grant.user actor entry.what heard stands.reply_is)
 
     pub stands-hear : IsAbleToHear m.parts.images box' heard
@@ -292,6 +292,6 @@ module _ (m : MachineFacts) (grant : Grant) (r : ℕ) (node : HasNode m grant r)
     entry-is : entry ≡ made entry.what heard answers reply
     entry-is = λ i. record { user = (stands.whose_is i).family; actor = ((ap (λ (who : Who). who.actor) stands.whose_is ∙ at) i); what = entry.what }
 
-    pub stands-exchanged : (m' : MachineFacts) (box'' : Box) → m'.parts ≡ m.parts → m'.history ≡ m.history ++ entry ∷ [] → box''.node ≡ hears m.parts.images box'.node (heard_as heard)
+    pub stands-exchanged : (m' : MachineFacts) (box'' : Box) → m'.parts ≡ m.parts → m'.history ≡ m.history ++ entry ∷ [] → box''.node ≡ node_after_hearing m.parts.images box'.node (heard_as heard)
         → box''.room ≡ box'.room → box''.out ≡ Nothing → length m'.history < 2 ^ 63 → HasExchanged m m' grant r box box'' call (is_work_heard heard)
     stands-exchanged m' box'' same_parts grown = exchanged entry.what heard answers reply m' box'' same_parts (grown ∙ ap (λ e. m.history ++ e ∷ []) entry-is)

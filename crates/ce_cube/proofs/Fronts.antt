@@ -8,8 +8,8 @@ use Rattle.std.proofs.lemmas.List.Elements.{filter-append}
 use Rattle.ce_model.specs.declared.topology.TheConstants.{HOST}
 use Rattle.ce_model.specs.declared.entry.Entry.{Entry}
 use Rattle.ce_model.specs.Lists.{EachAfter, IsFront}
-use Rattle.ce_model.specs.Answers.{call_of}
-use Rattle.ce_model.specs.Subcubes.{relative, node_of}
+use Rattle.ce_model.specs.Answers.{recorded_call}
+use Rattle.ce_model.specs.Subcubes.{relative_number, node_of}
 use Rattle.ce_model.specs.Renaming.{CubeGrant, number_outward, entry_inward}
 use Rattle.ce_model.specs.Machine.{MachineParts, IsLawfulEntry, IsFitting, Request, getcube, drain, freecube, after, what_of_request}
 use Rattle.ce_lock.specs.declared.who.Who.{Who}
@@ -104,7 +104,7 @@ actor-filtered user actor entries = as_filter entries ∙ filter-both (λ entry.
 pub calls-made : (grant : CubeGrant) (more made : List Entry) → own_entries grant.user more ≡ made → AreCallsOf grant.user made
     → cube_entries grant more ≡ map (entry_inward grant.sub) made
 calls-made grant more made own calls =
-    let is_call = λ (entry : Entry). is_some (call_of entry.what) in
+    let is_call = λ (entry : Entry). is_some (recorded_call entry.what) in
     ap (map (entry_inward grant.sub))
     (filter-both (λ (entry : Entry). entry.user == grant.user) is_call more ∙ ap (filter is_call) own
     ∙ filter-kept is_call made (all-weaker (λ (entry : Entry). (entry.user ≡ grant.user) × IsTrue (is_call entry)) (λ entry. is_call entry ≡ true) made (λ entry is. is.1) calls))
@@ -183,16 +183,16 @@ module _ (parts : MachineParts) (user : ℕ) where
 module _ (dim : ℕ) (grant : CubeGrant) (placed : IsPlaced dim grant) where
   -- an entry of the cube is a node's by the machine's numbers where it is by the cube's
   pub same-actor : (entry : Entry) (r : ℕ) → IsByHostOrNode grant entry → r < 2 ^ grant.dim
-      → (relative grant.sub entry.actor == r) ≡ (entry.actor == node_of grant.sub r)
+      → (relative_number grant.sub entry.actor == r) ≡ (entry.actor == node_of grant.sub r)
   same-actor entry r of below = by_actor of
     where
       by_number : (n : ℕ) → IsNumber grant.dim n → entry.actor ≡ number_outward grant.sub n
-          → (relative grant.sub entry.actor == r) ≡ (entry.actor == node_of grant.sub r)
+          → (relative_number grant.sub entry.actor == r) ≡ (entry.actor == node_of grant.sub r)
       by_number n is at =
-          ap (λ m. m == r) (ap (relative grant.sub) at ∙ in_out dim grant placed n is) ∙ sym (out_test dim grant placed n r is (inl below))
+          ap (λ m. m == r) (ap (relative_number grant.sub) at ∙ in_out dim grant placed n is) ∙ sym (out_test dim grant placed n r is (inl below))
           ∙ ap (λ m. number_outward grant.sub n == m) (out_node dim grant placed r below) ∙ ap (λ m. m == node_of grant.sub r) (sym at)
 
-      by_actor : IsByHostOrNode grant entry → (relative grant.sub entry.actor == r) ≡ (entry.actor == node_of grant.sub r)
+      by_actor : IsByHostOrNode grant entry → (relative_number grant.sub entry.actor == r) ≡ (entry.actor == node_of grant.sub r)
       by_actor (inl host) = by_number HOST (inr refl) host
       by_actor (inr node) = by_number node.0 (inl node.1) (node.2 ∙ sym (out_node dim grant placed node.0 node.1))
 

@@ -8,7 +8,7 @@ use Rattle.std.proofs.lemmas.List.Sums.{fold-append}
 use Rattle.std.proofs.lemmas.List.FromFn.{get_or-map-range_with_len, length-map-range_with_len, map-range_with_len_more}
 use Rattle.ce_model.specs.declared.topology.BlockId.{BlockId}
 use Rattle.ce_model.specs.Limits.{home_blocks}
-use Rattle.ce_model.specs.Blocks.{Block, precedes, put, put_all, blocks_of_home}
+use Rattle.ce_model.specs.Blocks.{Block, is_lower, put, put_all, blocks_of_home}
 use Rattle.ce_solo.proofs.Counting.{hit, hit-self, count, count-cons, count-append, count-put_all}
 use Rattle.xm_block.specs.Stores.{KeptBlock, ids_of}
 use Rattle.rk_node.specs.Hearings.{AreApartFrom}
@@ -156,7 +156,7 @@ all-names home = refl
 pub length-names : (home n : ℕ) → length (first_names home n) ≡ n
 length-names home n = length-map-range_with_len (name_at home) 0 n
 
-later : (home i j : ℕ) → i < j → precedes (name_at home j) (name_at home i) ≡ false
+later : (home i j : ℕ) → i < j → is_lower (name_at home j) (name_at home i) ≡ false
 unfolding name_at
 later home i j h = grind (arith, nat_tests)
 

@@ -6,11 +6,11 @@ use Rattle.ce_model.specs.Limits.{greatest_dim, home_blocks_lem, process_count, 
 use Rattle.ce_model.specs.Blocks.{is_same_id}
 use Rattle.ce_model.specs.Parcels.{Parcel, Item, start, mail, kill, is_member, is_eligible, given_as}
 use Rattle.ce_model.specs.Process.{is_receiving, is_stopped}
-use Rattle.ce_model.specs.Node.{Node, takes, blocks_of, ids_of}
+use Rattle.ce_model.specs.Node.{Node, take_call, blocks_of, ids_of}
 use Rattle.ce_model.specs.Saying.{says}
 use Rattle.ce_model.specs.Trace.{NodeRecord}
 use Rattle.ce_model.specs.Answers.{offer_of}
-use Rattle.ce_model.specs.Cube.{Cube, CubeState, IsCube, heard_parcel, heard_given}
+use Rattle.ce_model.specs.Cube.{Cube, CubeState, IsCube, hearing_of_parcel, hearing_of_result}
 use Rattle.ce_model.specs.Sound.{IsSound}
 use Rattle.ce_solo.proofs.Counting.{hit-self, count, count-nil, count-cons, count-is, sum_run-part}
 use Rattle.ce_solo.proofs.Records.{kept_with, among-all, HasTakenItem, without_named, takes-item, start-taken, kill-taken}
@@ -22,7 +22,7 @@ use Rattle.ce_solo.proofs.NodeTakes.{poller-polls, poller-within, now_well, birt
 use Rattle.ce_cube.specs.Hearable.{IsStartable, IsDeliverable, IsEndable, IsPoller, IsHearable}
 
 module _ (cube : Cube) (s : CubeState) (r : ℕ) (of : IsCube cube) (below : r < 2 ^ cube.dim) (sound : IsSound cube s) (asking dead : ℕ) (poller : Option ℕ)
-    (said : HasMadeCall (s.node r) (says (s.node r)).node (takes asking dead poller)) where
+    (said : HasMadeCall (s.node r) (says (s.node r)).node (take_call asking dead poller)) where
   abbrev now : Node
   now = (says (s.node r)).node
 
@@ -30,11 +30,11 @@ module _ (cube : Cube) (s : CubeState) (r : ℕ) (of : IsCube cube) (below : r <
   kept = s.standing.node_record r
 
   abbrev left_behind : Item → NodeRecord
-  left_behind item = kept_with (without_named item kept.waiting) kept.spawned kept.killed kept.mark
+  left_behind item = kept_with (without_named item kept.waiting_items) kept.spawned_ids kept.killed_ids kept.mark
 
   -- what a node is given is the first that it can be given
   abbrev IsFirst : Item → Type 0
-  IsFirst item = find (is_eligible asking dead) kept.waiting ≡ Some item
+  IsFirst item = find (is_eligible asking dead) kept.waiting_items ≡ Some item
 
   taken_is : (item : Item) → IsFirst item → HasTakenItem cube s.standing.parcel_count r asking dead kept (left_behind item) item
   taken_is item found = takes-item cube s.standing.parcel_count r asking dead kept kept.mark item (sound.records r below) found
@@ -43,7 +43,7 @@ module _ (cube : Cube) (s : CubeState) (r : ℕ) (of : IsCube cube) (below : r <
   startable pid image found =
       let taken = taken_is (start pid image) found in
       let is = start-taken cube s.standing.parcel_count r asking dead pid image kept (left_behind (start pid image)) (sound.records r below) refl refl taken in
-      let within = among-all (λ q. q < process_count) pid kept.spawned (sound.records r below).ids taken.of_node.0 in
+      let within = among-all (λ q. q < process_count) pid kept.spawned_ids (sound.records r below).ids taken.of_node.0 in
       record {
         pid_within = within;
         image_within = taken.of_node.1;
@@ -85,17 +85,17 @@ module _ (cube : Cube) (s : CubeState) (r : ℕ) (of : IsCube cube) (below : r <
       omega (arith, few, more, ap (λ n. (2 ^ cube.dim + 1) * n) home_blocks_lem, greatest_nodes_lem, greatest_blocks_lem)
 
   asking_is : asking ≡ ids_of is_receiving now.processes
-  asking_is = ap (λ call. elim call [ takes a d p ↦ a | other ↦ 0 ]) said.of_node.0
+  asking_is = ap (λ call. elim call [ take_call a d p ↦ a | other ↦ 0 ]) said.of_node.0
 
   dead_is : dead ≡ ids_of is_stopped now.processes
-  dead_is = ap (λ call. elim call [ takes a d p ↦ d | other ↦ 0 ]) said.of_node.0
+  dead_is = ap (λ call. elim call [ take_call a d p ↦ d | other ↦ 0 ]) said.of_node.0
 
   can_be_given : (parcel : Parcel) → IsFirst (mail parcel)
       → (is_member parcel.to.pid (ids_of is_receiving now.processes) || is_member parcel.to.pid (ids_of is_stopped now.processes)) ≡ true
   can_be_given parcel found =
       ap (λ ids. is_member parcel.to.pid ids || is_member parcel.to.pid (ids_of is_stopped now.processes)) (sym asking_is)
       ∙ ap (λ ids. is_member parcel.to.pid asking || is_member parcel.to.pid ids) (sym dead_is)
-      ∙ find-passes (is_eligible asking dead) kept.waiting (mail parcel) found
+      ∙ find-passes (is_eligible asking dead) kept.waiting_items (mail parcel) found
 
   deliverable : (parcel : Parcel) → IsFirst (mail parcel) → IsDeliverable now parcel
   deliverable parcel found = record {
@@ -112,25 +112,25 @@ module _ (cube : Cube) (s : CubeState) (r : ℕ) (of : IsCube cube) (below : r <
 
   first_poller : (pid : ℕ) → poller ≡ Some pid → IsPoller now pid
   first_poller pid e =
-      let first : slice_get now.polling 0 ≡ Some pid = sym (ap (λ call. elim call [ takes a d p ↦ p | other ↦ None ]) said.of_node.0) ∙ e in
+      let first : slice_get now.polling_ids 0 ≡ Some pid = sym (ap (λ call. elim call [ take_call a d p ↦ p | other ↦ None ]) said.of_node.0) ∙ e in
       let well = now_well cube s r of below sound asking dead poller said in
       let polls = poller-polls now pid well first in
       record { pid_within = poller-within now pid well polls; polls = polls; first = first; between_turns = said.of_node.1 }
 
-  item-hearable : (item : Item) → IsFirst item → IsHearable cube.images now (heard_given kept.waiting (given_as item))
+  item-hearable : (item : Item) → IsFirst item → IsHearable cube.images now (hearing_of_result kept.waiting_items (given_as item))
   item-hearable (start pid image) found = startable pid image found
   item-hearable (mail parcel) found =
-      subst (λ found. IsHearable cube.images now (heard_parcel found))
+      subst (λ found. IsHearable cube.images now (hearing_of_parcel found))
       (sym (numbered_parcel cube s r of below sound asking dead poller said parcel (taken_is (mail parcel) found).out.found)) (deliverable parcel found)
   item-hearable (kill pid) found = endable pid found
 
-  offered-hearable : (found : Option Item) (polls : Option ℕ) (used : Bool) → find (is_eligible asking dead) kept.waiting ≡ found → poller ≡ polls
-      → IsHearable cube.images now (heard_given kept.waiting (offer_of found polls used))
+  offered-hearable : (found : Option Item) (polls : Option ℕ) (used : Bool) → find (is_eligible asking dead) kept.waiting_items ≡ found → poller ≡ polls
+      → IsHearable cube.images now (hearing_of_result kept.waiting_items (offer_of found polls used))
   offered-hearable (Some item) polls true f p = tt
   offered-hearable (Some item) polls false f p = item-hearable item f
   offered-hearable None (Some pid) true f p = tt
   offered-hearable None (Some pid) false f p = first_poller pid p
   offered-hearable None None used f p = tt
 
-  pub take-hearable : (used : Bool) → IsHearable cube.images now (heard_given kept.waiting (offer_of (find (is_eligible asking dead) kept.waiting) poller used))
-  take-hearable used = offered-hearable (find (is_eligible asking dead) kept.waiting) poller used refl refl
+  pub take-hearable : (used : Bool) → IsHearable cube.images now (hearing_of_result kept.waiting_items (offer_of (find (is_eligible asking dead) kept.waiting_items) poller used))
+  take-hearable used = offered-hearable (find (is_eligible asking dead) kept.waiting_items) poller used refl refl

@@ -2,7 +2,7 @@
 use Rattle.std.proofs.Common.{◌≡◌, ℕ, ◌^◌, ◌<◌, false, List, [], ◌++◌, length, refl, ap, ap₂, sym, ◌∙◌, subst, append-nil, append_assoc}
 use Rattle.std.specs.Prelude.{IsTrue, is_some}
 use Rattle.ce_model.specs.declared.entry.Entry.{Entry}
-use Rattle.ce_model.specs.Answers.{call_of}
+use Rattle.ce_model.specs.Answers.{recorded_call}
 use Rattle.ce_model.specs.Subcubes.{node_of}
 use Rattle.ce_model.specs.Machine.{IsLawful}
 use Rattle.ce_daemon.specs.declared.grant.Grant.{Grant}
@@ -13,7 +13,7 @@ use Rattle.ce_solo.proofs.Lists.{all-append}
 use Rattle.ce_cube.specs.Boxes.{IsStandIn}
 use Rattle.ce_cube.specs.Beside.{AreNotMadeAlone, IsHeldBeside}
 use Rattle.ce_cube.specs.Crews.{cube_grant}
-use Rattle.ce_cube.specs.Exchanges.{HasNode, IsBoxOfNode, node_in}
+use Rattle.ce_cube.specs.Exchanges.{HasNode, IsBoxOfNode, machine_node}
 use Rattle.ce_cube.specs.Dispatches.{node_entries, HasGoneOnAmid}
 use Rattle.ce_cube.proofs.Beside.{beside-keeps}
 
@@ -49,7 +49,7 @@ module _ (before : MachineFacts) (grant : Grant) (r : ℕ) (was : HasNode before
       few = few;
     }
 
-    pub node-waits : node_in waited grant r ≡ node_in before grant r
+    pub node-waits : machine_node waited grant r ≡ machine_node before grant r
     node-waits = held.nodes r was.within none
 
     pub box-waits : (box : Box) → IsBoxOfNode before grant r box → IsBoxOfNode waited grant r box
@@ -62,7 +62,7 @@ grown-on before now after grant r more more' made made' first next = record {
   history = next.history ∙ ap (λ h. h ++ more') first.history ∙ append_assoc before.history more more';
   own = own_append whose (record { family = grant.user; actor = node_of grant.sub r }) more more' ∙ ap₂ (λ xs ys. xs ++ ys) first.own next.own;
   beside = all-append (λ (entry : Entry). entry.user ≡ grant.user → is_alone_entry entry ≡ false) more more' first.beside next.beside;
-  calls = all-append (λ (entry : Entry). (entry.user ≡ grant.user) × IsTrue (is_some (call_of entry.what))) made made' first.calls next.calls;
+  calls = all-append (λ (entry : Entry). (entry.user ≡ grant.user) × IsTrue (is_some (recorded_call entry.what))) made made' first.calls next.calls;
   node = next.node;
   few = next.few;
 }

@@ -2,10 +2,10 @@
 use Rattle.std.proofs.Common.{◌≡◌, ℕ, ◌≤◌, false, List, Some, ap, sym, ◌∙◌, subst}
 use Rattle.ce_model.specs.declared.entry.Entry.{Entry}
 use Rattle.ce_model.specs.Trace.{allowed_dispatches, made_dispatches}
-use Rattle.ce_model.specs.Cube.{IsCube, opening, left_by}
+use Rattle.ce_model.specs.Cube.{IsCube, opening, state_after_trace}
 use Rattle.ce_model.specs.Views.{trace_behind, view}
 use Rattle.ce_model.specs.Renaming.{CubeGrant}
-use Rattle.ce_model.specs.Machine.{MachineParts, IsMachine, HeldCube, IsLawful, after, held_by, standing_of, cube_of}
+use Rattle.ce_model.specs.Machine.{MachineParts, IsMachine, HeldCube, IsLawful, after, cube_held_by, cube_standing, cube_of}
 use Rattle.ce_solo.specs.Laws.{IsGrant}
 use Rattle.ce_solo.proofs.Stands.{IsSoundTrace}
 use Rattle.ce_solo.proofs.Projection.Numbers.{IsPlaced}
@@ -21,16 +21,16 @@ use Rattle.ce_cube.proofs.Subcubes.{subcube-listed}
 pub record IsSeen (parts : MachineParts) (history : List Entry) (cube : HeldCube) : Type 0 where
   pub machine : IsMachine parts
   pub lawful : IsLawful parts history
-  pub holds : held_by (after history) cube.grant.user ≡ Some cube
-  pub goes : cube.drained ≡ false
+  pub holds : cube_held_by (after history) cube.grant.user ≡ Some cube
+  pub goes : cube.is_drained ≡ false
   pub placed : IsPlaced parts.dim cube.grant
   pub of : IsCube (cube_of parts.images cube.grant)
   pub stands : IsSoundTrace (cube_of parts.images cube.grant) (opening (cube_of parts.images cube.grant)) (view history cube.number)
-  pub standing : IsStandingOf cube.grant (standing_of (after history) cube)
-      (left_by (cube_of parts.images cube.grant) (opening (cube_of parts.images cube.grant)) (view history cube.number)).standing
+  pub standing : IsStandingOf cube.grant (cube_standing (after history) cube)
+      (state_after_trace (cube_of parts.images cube.grant) (opening (cube_of parts.images cube.grant)) (view history cube.number)).standing
 
 pub seen : (parts : MachineParts) (history : List Entry) (cube : HeldCube) → IsMachine parts → IsLawful parts history
-    → held_by (after history) cube.grant.user ≡ Some cube → cube.drained ≡ false → IsSeen parts history cube
+    → cube_held_by (after history) cube.grant.user ≡ Some cube → cube.is_drained ≡ false → IsSeen parts history cube
 seen parts history cube machine lawful holds goes =
     let before = projected parts history machine lawful in
     let was = before.held cube.grant.user cube holds in
@@ -45,8 +45,8 @@ seen parts history cube machine lawful holds goes =
       of = own_cube parts cube.grant machine was.placed;
       stands = subst (IsSoundTrace own (opening own)) same
           (stands parts machine (after history) history cube was goes (before.views cube.number cube.grant was.behind was.found).alone);
-      standing = subst (λ t. IsStandingOf cube.grant (standing_of (after history) cube) (left_by own (opening own) t).standing) same
-          (standing-kept parts.dim (after history) cube (left_by own (opening own) (trace_behind cube.grant was.behind)).standing was.placed (was.kept goes));
+      standing = subst (λ t. IsStandingOf cube.grant (cube_standing (after history) cube) (state_after_trace own (opening own) t).standing) same
+          (standing-kept parts.dim (after history) cube (state_after_trace own (opening own) (trace_behind cube.grant was.behind)).standing was.placed (was.kept goes));
     }
 
 -- a grant that is placed is one of the machine's
@@ -55,10 +55,10 @@ placed-grant dim grant placed = record { within = placed.within; user = placed.u
 
 -- what holds of each held cube by its own number and grant holds of a cube that is held as these
 pub by_cube : (P : ℕ → CubeGrant → Type 0) (history : List Entry) (number : ℕ) (grant : CubeGrant)
-    → ((cube : HeldCube) → held_by (after history) cube.grant.user ≡ Some cube → cube.drained ≡ false → P cube.number cube.grant)
+    → ((cube : HeldCube) → cube_held_by (after history) cube.grant.user ≡ Some cube → cube.is_drained ≡ false → P cube.number cube.grant)
     → IsHeldAs history number grant → P number grant
 by_cube P history number grant each is =
-    let holds = ap (λ (g : CubeGrant). held_by (after history) g.user) is.grant_is ∙ is.held in
+    let holds = ap (λ (g : CubeGrant). cube_held_by (after history) g.user) is.grant_is ∙ is.held in
     subst (P number) is.grant_is (subst (λ n. P n is.cube.grant) is.number_is (each is.cube holds is.goes_on))
 
 pub by_seen : (P : ℕ → CubeGrant → Type 0) (parts : MachineParts) (history : List Entry) (number : ℕ) (grant : CubeGrant) → IsMachine parts → IsLawful parts history

@@ -6,7 +6,7 @@ use Rattle.std.proofs.lemmas.List.{length-append}
 use Rattle.std.proofs.lemmas.List.FromFn.{length-map-range_with_len}
 use Rattle.ce_model.specs.declared.topology.BlockId.{BlockId}
 use Rattle.ce_model.specs.Limits.{greatest_dim, greatest_nodes_lem, home_blocks, host_home, host_home_lem}
-use Rattle.ce_model.specs.Blocks.{precedes, put, put_all, blocks_of_home}
+use Rattle.ce_model.specs.Blocks.{is_lower, put, put_all, blocks_of_home}
 use Rattle.ce_model.specs.Sound.{IsRising}
 use Rattle.ce_model.specs.Cube.{node_numbers}
 use Rattle.ce_model.specs.Subcubes.{IsSubcube, ones_of, extract, node_of, is_inside}
@@ -41,16 +41,16 @@ all-blocks P home from (suc n) each =
     (all-home P (home from) (each from (omega arith) (omega arith)))
     (all-blocks P home (from + 1) n (λ r low high. each r (omega (arith, low)) (omega (arith, high))))
 
-by_home : (a b : BlockId) → a.home < b.home → precedes a b ≡ true
+by_home : (a b : BlockId) → a.home < b.home → is_lower a b ≡ true
 by_home a b less = or_left _ _ (lt-ltb a.home b.home less)
 
 -- names of lower homes go in front
 rising-both : (bound : ℕ) (xs ys : List BlockId) → IsRising xs → IsRising ys → AllByRecursion (λ id. id.home < bound) xs
     → AllByRecursion (λ id. bound ≤ id.home) ys → IsRising (xs ++ ys)
 rising-both bound xs ys rising rising' below above =
-    pairwise-append (λ a b. precedes a b ≡ true) xs ys rising rising'
-    (all-weaker (λ a. a.home < bound) (λ a. AllByRecursion (λ b. precedes a b ≡ true) ys) xs
-    (λ a less. all-weaker (λ b. bound ≤ b.home) (λ b. precedes a b ≡ true) ys (λ b more. by_home a b (omega (arith, less, more))) above) below)
+    pairwise-append (λ a b. is_lower a b ≡ true) xs ys rising rising'
+    (all-weaker (λ a. a.home < bound) (λ a. AllByRecursion (λ b. is_lower a b ≡ true) ys) xs
+    (λ a less. all-weaker (λ b. bound ≤ b.home) (λ b. is_lower a b ≡ true) ys (λ b more. by_home a b (omega (arith, less, more))) above) below)
 
 rising-blocks : (home : ℕ → ℕ) (from n : ℕ) → ((r s : ℕ) → s < from + n → r < s → home r < home s) → IsRising (blocks_at home from n)
 rising-blocks home from zero rises = tt
@@ -176,7 +176,7 @@ module _ (grant : CubeGrant) (sub : IsSubcube greatest_dim grant.dim grant.sub) 
 
   length-put : (id : BlockId) (ids : List BlockId) → length (put id ids) ≡ suc (length ids)
   length-put id [] = refl
-  length-put id (x ∷ xs) = elim (cases_Bool (precedes id x)) [ inl t ↦ rw t refl | inr f ↦ rw f (ap suc (length-put id xs)) ]
+  length-put id (x ∷ xs) = elim (cases_Bool (is_lower id x)) [ inl t ↦ rw t refl | inr f ↦ rw f (ap suc (length-put id xs)) ]
 
   length-put_all : (ids store : List BlockId) → length (put_all ids store) ≡ length ids + length store
   length-put_all [] store = omega arith

@@ -11,18 +11,18 @@ use Rattle.ce_model.specs.declared.entry.What.TheVariants.{HostTake, Send, Arm}
 use Rattle.ce_model.specs.Limits.{greatest_dim, home_blocks, home_blocks_lem, block_room, greatest_count, greatest_blocks_lem, greatest_nodes_lem}
 use Rattle.ce_model.specs.Blocks.{put, is_same_id, without_id}
 use Rattle.ce_model.specs.Parcels.{Parcel, Item, start, mail, kill}
-use Rattle.ce_model.specs.Node.{Node, Call, takes, sends, spawns, kills, notes, arms, looks, takes_mail, is_place}
-use Rattle.ce_model.specs.Hearing.{mail_of, hears}
+use Rattle.ce_model.specs.Node.{Node, Call, take_call, send_call, spawn_call, kill_call, note_call, arm_call, look_call, mail_call, is_place}
+use Rattle.ce_model.specs.Hearing.{mail_of, node_after_hearing}
 use Rattle.ce_model.specs.Answers.{answer}
-use Rattle.ce_model.specs.Trace.{allowed_dispatches, made_dispatches, armed_by, dispatched_by}
-use Rattle.ce_model.specs.Cube.{Cube, CubeState, HostCall, send_bytes, opening, left_by, hoststore, stored_by, with_parcel, parcel_numbered, host_call, asked_by, call_by, take_message, allow}
+use Rattle.ce_model.specs.Trace.{allowed_dispatches, made_dispatches, allowed_dispatches_after, made_dispatches_after}
+use Rattle.ce_model.specs.Cube.{Cube, CubeState, HostCall, send_bytes, opening, state_after_trace, hoststore, store_after, with_parcel, parcel_numbered, host_call, asked_host_call, actor_call, take_message, allow}
 use Rattle.ce_model.specs.Owners.{IsBlockOf}
-use Rattle.ce_model.specs.Subcubes.{relative}
-use Rattle.ce_model.specs.Renaming.{CubeGrant, place_inward, block_inward, place_outward, block_outward, what_renamed, call_with, parcel_with, entry_inward, node_outward}
+use Rattle.ce_model.specs.Subcubes.{relative_number}
+use Rattle.ce_model.specs.Renaming.{CubeGrant, place_inward, block_inward, place_outward, block_outward, renamed_what, renamed_call_blocks, renamed_parcel, entry_inward, node_outward}
 use Rattle.ce_model.specs.Views.{view}
-use Rattle.ce_model.specs.Machine.{MachineParts, HeldCube, IsLawful, IsWithinLimits, IsFitting, IsCallOf, HasHeldCube, in_cube, after, held_by, cube_of, MachineState, IsLawfulEntry, drain, freecube}
+use Rattle.ce_model.specs.Machine.{MachineParts, HeldCube, IsLawful, IsCallWithinLimits, IsFitting, IsCallOf, HasHeldCube, in_cube, after, cube_held_by, cube_of, MachineState, IsLawfulEntry, drain, freecube}
 use Rattle.ce_model.proofs.OneMore.{hoststore-more, armed-more, dispatched-more}
-use Rattle.ce_model.proofs.AloneByEntries.{asked_by-host_call}
+use Rattle.ce_model.proofs.AloneByEntries.{asked_host_call-host_call}
 use Rattle.ce_solo.proofs.Counting.{same_id-self, hit, hit-self, hit-le, same_from_hit, count, count-cons, count-is}
 use Rattle.ce_solo.proofs.Items.{parcel_ids}
 use Rattle.ce_solo.proofs.Totals.{total, total-is, total-le}
@@ -30,7 +30,7 @@ use Rattle.ce_solo.proofs.Room.{held_blocks, few-blocks}
 use Rattle.ce_solo.proofs.Renaming.Grants.{renaming}
 use Rattle.ce_solo.proofs.Projection.Numbers.{IsPlaced, relative_host, block_in_out}
 use Rattle.ce_solo.proofs.Projection.Law.{projected, after-more}
-use Rattle.ce_cube.specs.Boxes.{drain_entry, store_now, IsMadeBy, IsAccepted}
+use Rattle.ce_cube.specs.Boxes.{drain_entry, trace_store, IsMadeBy, IsAccepted}
 use Rattle.ce_cube.specs.Laws.{ArmsAllow, DrainsFit, HostsFit, HostsSend, HostsTake}
 use Rattle.ce_cube.specs.Rounds.{dispatches_left}
 use Rattle.ce_model.proofs.Walked.{each-more}
@@ -42,15 +42,15 @@ use Rattle.ce_cube.proofs.Names.{count-outward}
 use Rattle.ce_cube.proofs.Replies.{numbered-renamed}
 
 -- names don't matter for a machine's limits
-limits-renamed : (rename : BlockId → BlockId) (call : Call) → IsWithinLimits call → IsWithinLimits (call_with rename call)
-limits-renamed rename (sends pid to bytes) is = is
-limits-renamed rename (spawns pid image to) is = tt
-limits-renamed rename (kills pid to) is = tt
-limits-renamed rename (arms count) is = is
-limits-renamed rename (takes asking dead poller) is = tt
-limits-renamed rename (notes pid word) is = tt
-limits-renamed rename looks is = tt
-limits-renamed rename takes_mail is = tt
+limits-renamed : (rename : BlockId → BlockId) (call : Call) → IsCallWithinLimits call → IsCallWithinLimits (renamed_call_blocks rename call)
+limits-renamed rename (send_call pid to bytes) is = is
+limits-renamed rename (spawn_call pid image to) is = tt
+limits-renamed rename (kill_call pid to) is = tt
+limits-renamed rename (arm_call count) is = is
+limits-renamed rename (take_call asking dead poller) is = tt
+limits-renamed rename (note_call pid word) is = tt
+limits-renamed rename look_call is = tt
+limits-renamed rename mail_call is = tt
 
 -- the first of a store is out of it
 first_out : (id : BlockId) (store : List BlockId) → slice_get store 0 ≡ Some id → without_id id store ≡ drop 1 store
@@ -82,16 +82,16 @@ found-waits number (mail other ∷ items) parcel e =
 
 -- a node without processes, which stores what it hears of
 keeper : List BlockId → Node
-keeper store = record { number = 0; dim = 0; home = 0; images = 0; processes = []; store = store; polling = []; turn = None }
+keeper store = record { number = 0; dim = 0; home = 0; images = 0; processes = []; store = store; polling_ids = []; turn = None }
 
 keeper-stores : (images : List ImageParts) (grant : CubeGrant) (store : List BlockId) (parcel : Parcel)
-    → hears images (node_outward grant (keeper store)) (mail_of parcel) ≡ record (node_outward grant (keeper store)) { store = put parcel.block.id (map (block_outward grant) store) }
-unfolding hears keeper
+    → node_after_hearing images (node_outward grant (keeper store)) (mail_of parcel) ≡ record (node_outward grant (keeper store)) { store = put parcel.block.id (map (block_outward grant) store) }
+unfolding node_after_hearing keeper
 keeper-stores images grant store parcel = refl
 
 put-outward : (dim : ℕ) (grant : CubeGrant) (placed : IsPlaced dim grant) (store : List BlockId) (parcel : Parcel) → AllByRecursion (IsBlockOf grant.dim) store
     → IsBlockOf grant.dim parcel.block.id → map (block_outward grant) (put parcel.block.id store) ≡ put (block_outward grant parcel.block.id) (map (block_outward grant) store)
-unfolding hears keeper
+unfolding node_after_hearing keeper
 put-outward dim grant placed store parcel all of =
     ap (λ (node : Node). node.store) (sym ((renaming dim grant (keeper store) (placed-grant dim grant placed) (subst (AllByRecursion (IsBlockOf grant.dim)) (sym (append-nil store)) all)).1 [] (mail_of parcel) of))
 
@@ -100,7 +100,7 @@ module _ (parts : MachineParts) (history : List Entry) (cube : HeldCube) (now : 
   own = cube_of parts.images cube.grant
 
   abbrev s : CubeState
-  s = left_by own (opening own) (view history cube.number)
+  s = state_after_trace own (opening own) (view history cube.number)
 
   abbrev out : BlockId → BlockId
   out = block_outward cube.grant
@@ -108,54 +108,54 @@ module _ (parts : MachineParts) (history : List Entry) (cube : HeldCube) (now : 
   store-blocks : AllByRecursion (IsBlockOf cube.grant.dim) s.hoststore
   store-blocks = held_blocks own s s.hoststore now.stands.sound (λ id. omega (arith, total-is id cube.grant.dim s))
 
-  fits-by : (asked : HostCall) (call : Call) → host_call own s.hoststore asked ≡ Some call → IsWithinLimits call
-      → IsFitting parts history cube.grant.user HOST (in_cube (call_with out call))
+  fits-by : (asked : HostCall) (call : Call) → host_call own s.hoststore asked ≡ Some call → IsCallWithinLimits call
+      → IsFitting parts history cube.grant.user HOST (in_cube (renamed_call_blocks out call))
   fits-by asked call e within =
       let was = (projected parts history now.machine now.lawful).held cube.grant.user cube now.holds in
       let host = relative_host parts.dim cube.grant now.placed in
-      let of : IsCallOf parts history HOST (call_with out call) cube = record {
+      let of : IsCallOf parts history HOST (renamed_call_blocks out call) cube = record {
         made = call;
         inside = inl refl;
-        next = ap (λ actor. call_by own (opening own) (view history cube.number) actor (asked_by call)) host
-            ∙ ap (option_and_then (host_call own s.hoststore)) (asked_by-host_call own s.hoststore asked call e) ∙ e;
+        next = ap (λ actor. actor_call own (opening own) (view history cube.number) actor (asked_host_call call)) host
+            ∙ ap (option_and_then (host_call own s.hoststore)) (asked_host_call-host_call own s.hoststore asked call e) ∙ e;
         renamed = refl;
         within = λ host. limits-renamed out call within;
         not_drained = now.goes;
       } in (
         user-within parts history cube.number cube.grant was.behind now.lawful was.found,
-        subst (λ held. IsSomeAnd held (IsCallOf parts history HOST (call_with out call))) (sym now.holds) of,
+        subst (λ held. IsSomeAnd held (IsCallOf parts history HOST (renamed_call_blocks out call))) (sym now.holds) of,
       )
 
   -- the host's store behind an entry of its own
-  module _ (asked : HostCall) (call : Call) (is : host_call own s.hoststore asked ≡ Some call) (within : IsWithinLimits call) (entry : Entry)
-      (made : IsMadeBy parts history cube.grant HOST (call_with out call) entry) where
+  module _ (asked : HostCall) (call : Call) (is : host_call own s.hoststore asked ≡ Some call) (within : IsCallWithinLimits call) (entry : Entry)
+      (made : IsMadeBy parts history cube.grant HOST (renamed_call_blocks out call) entry) where
     abbrev inner : Entry
     inner = entry_inward cube.grant.sub entry
 
-    store-next : store_now parts (history ++ entry ∷ []) cube.number cube.grant ≡ stored_by (s.standing.node_record HOST).waiting s.hoststore inner.what
+    store-next : trace_store parts (history ++ entry ∷ []) cube.number cube.grant ≡ store_after (s.standing.node_record HOST).waiting_items s.hoststore inner.what
     store-next =
-        let more = one-more parts history cube now HOST (call_with out call) entry (fits-by asked call is within) made in
-        let actor : inner.actor ≡ HOST = ap (relative cube.grant.sub) made.actor_is ∙ relative_host parts.dim cube.grant now.placed in
+        let more = one-more parts history cube now HOST (renamed_call_blocks out call) entry (fits-by asked call is within) made in
+        let actor : inner.actor ≡ HOST = ap (relative_number cube.grant.sub) made.actor_is ∙ relative_host parts.dim cube.grant now.placed in
         ap (hoststore (opening own)) more.trace
         ∙ hoststore-more (opening own) (view history cube.number) inner
-        ∙ ap (λ n. if n == HOST then stored_by (s.standing.node_record HOST).waiting s.hoststore inner.what else s.hoststore) actor
+        ∙ ap (λ n. if n == HOST then store_after (s.standing.node_record HOST).waiting_items s.hoststore inner.what else s.hoststore) actor
 
   -- ---- it allows dispatches
 
-  arm-allows : (count : ℕ) (entry : Entry) → count ≤ greatest_count → IsMadeBy parts history cube.grant HOST (arms count) entry
+  arm-allows : (count : ℕ) (entry : Entry) → count ≤ greatest_count → IsMadeBy parts history cube.grant HOST (arm_call count) entry
       → dispatches_left parts (history ++ entry ∷ []) cube.number cube.grant ≡ count
   unfolding answer
   arm-allows count entry within made =
       let o = (opening own).standing in
       let t = view history cube.number in
       let inner = entry_inward cube.grant.sub entry in
-      let more = one-more parts history cube now HOST (arms count) entry (fits-by (allow count) (arms count) refl within) made in
+      let more = one-more parts history cube now HOST (arm_call count) entry (fits-by (allow count) (arm_call count) refl within) made in
       let what : inner.what ≡ Arm count =
-      ap (what_renamed (place_inward cube.grant.sub) (block_inward cube.grant.sub)) (sym (answer-made parts history cube HOST (arms count) entry now.holds made)) in
+      ap (renamed_what (place_inward cube.grant.sub) (block_inward cube.grant.sub)) (sym (answer-made parts history cube HOST (arm_call count) entry now.holds made)) in
       omega (
         arith,
-        ap (allowed_dispatches o) more.trace ∙ armed-more o t inner ∙ ap (armed_by (allowed_dispatches o t)) what,
-        ap (made_dispatches o) more.trace ∙ dispatched-more o t inner ∙ ap (dispatched_by (made_dispatches o t)) what,
+        ap (allowed_dispatches o) more.trace ∙ armed-more o t inner ∙ ap (allowed_dispatches_after (allowed_dispatches o t)) what,
+        ap (made_dispatches o) more.trace ∙ dispatched-more o t inner ∙ ap (made_dispatches_after (made_dispatches o t)) what,
       )
 
   -- ---- it gives its cube back
@@ -164,46 +164,46 @@ module _ (parts : MachineParts) (history : List Entry) (cube : HeldCube) (now : 
   drain-fits =
       let was = (projected parts history now.machine now.lawful).held cube.grant.user cube now.holds in (
         user-within parts history cube.number cube.grant was.behind now.lawful was.found,
-        (refl, subst (λ held. IsSomeAnd held (λ one. one.drained ≡ false)) (sym now.holds) now.goes),
+        (refl, subst (λ held. IsSomeAnd held (λ one. one.is_drained ≡ false)) (sym now.holds) now.goes),
       )
 
-  drained_held : held_by (after (history ++ drain_entry cube.grant ∷ [])) cube.grant.user ≡ Some (record cube { drained = true; mail = [] })
+  drained_held : cube_held_by (after (history ++ drain_entry cube.grant ∷ [])) cube.grant.user ≡ Some (record cube { is_drained = true; mail = [] })
   drained_held =
-      ap (λ (state : MachineState). held_by state cube.grant.user) (after-more history (drain_entry cube.grant))
-      ∙ held-own cube.grant.user (λ one. record one { drained = true; mail = [] }) (λ one. refl) (λ one node kept. record kept { waiting = [] }) (after history) cube now.holds
+      ap (λ (state : MachineState). cube_held_by state cube.grant.user) (after-more history (drain_entry cube.grant))
+      ∙ held-own cube.grant.user (λ one. record one { is_drained = true; mail = [] }) (λ one. refl) (λ one node kept. record kept { waiting_items = [] }) (after history) cube now.holds
 
   drains-fit : IsFitting parts history cube.grant.user HOST drain × IsLawful parts (history ++ drain_entry cube.grant ∷ [])
       × IsFitting parts (history ++ drain_entry cube.grant ∷ []) cube.grant.user HOST freecube
   drains-fit = (
     drain-fits,
     each-more (IsLawfulEntry parts) history (drain_entry cube.grant) now.lawful (record { request = drain; fits = drain-fits; answer = refl }),
-    (drain-fits.0, (refl, subst (λ held. IsSomeAnd held (λ one. one.drained ≡ true)) (sym drained_held) refl)),
+    (drain-fits.0, (refl, subst (λ held. IsSomeAnd held (λ one. one.is_drained ≡ true)) (sym drained_held) refl)),
   )
 
   -- ---- it sends
 
   module _ (to : Place) (id : BlockId) (bytes : List ℕ) (least : slice_get s.hoststore 0 ≡ Some id) (place : is_place cube.grant.dim to ≡ true)
-      (short : length bytes ≤ block_room) (entry : Entry) (made : IsMadeBy parts history cube.grant HOST (sends 0 ((to, out id) ∷ []) bytes) entry) where
+      (short : length bytes ≤ block_room) (entry : Entry) (made : IsMadeBy parts history cube.grant HOST (send_call 0 ((to, out id) ∷ []) bytes) entry) where
     sent-is : entry.what ≡ Send 0 cube.parcel_count ((place_outward cube.grant.sub to, out id) ∷ []) bytes
     unfolding answer
-    sent-is = sym (answer-made parts history cube HOST (sends 0 ((to, out id) ∷ []) bytes) entry now.holds made)
+    sent-is = sym (answer-made parts history cube HOST (send_call 0 ((to, out id) ∷ []) bytes) entry now.holds made)
 
-    asked-is : host_call own s.hoststore (send_bytes to bytes) ≡ Some (sends 0 ((to, id) ∷ []) bytes)
+    asked-is : host_call own s.hoststore (send_bytes to bytes) ≡ Some (send_call 0 ((to, id) ∷ []) bytes)
     asked-is = rw (place, least) refl
 
-    send-next : store_now parts (history ++ entry ∷ []) cube.number cube.grant ≡ drop 1 s.hoststore
+    send-next : trace_store parts (history ++ entry ∷ []) cube.number cube.grant ≡ drop 1 s.hoststore
     send-next =
-        store-next (send_bytes to bytes) (sends 0 ((to, id) ∷ []) bytes) asked-is short entry made
-        ∙ ap (λ what. stored_by (s.standing.node_record HOST).waiting s.hoststore (what_renamed (place_inward cube.grant.sub) (block_inward cube.grant.sub) what)) sent-is
+        store-next (send_bytes to bytes) (send_call 0 ((to, id) ∷ []) bytes) asked-is short entry made
+        ∙ ap (λ what. store_after (s.standing.node_record HOST).waiting_items s.hoststore (renamed_what (place_inward cube.grant.sub) (block_inward cube.grant.sub) what)) sent-is
         ∙ ap (λ id. without_id id s.hoststore)
         (block_in_out parts.dim cube.grant now.placed id (first_in (IsBlockOf cube.grant.dim) id s.hoststore store-blocks least))
         ∙ first_out id s.hoststore least
 
   -- ---- it takes
 
-  module _ (number : ℕ) (entry : Entry) (made : IsMadeBy parts history cube.grant HOST takes_mail entry) (what : entry.what ≡ HostTake (Some number)) where
+  module _ (number : ℕ) (entry : Entry) (made : IsMadeBy parts history cube.grant HOST mail_call entry) (what : entry.what ≡ HostTake (Some number)) where
     abbrev items : List Item
-    items = (s.standing.node_record HOST).waiting
+    items = (s.standing.node_record HOST).waiting_items
 
     module _ (parcel : Parcel) (found : parcel_numbered number items ≡ Some parcel) where
       once_with : (id : BlockId) → count id (parcel.block.id ∷ s.hoststore) ≤ total id cube.grant.dim s
@@ -227,7 +227,7 @@ module _ (parts : MachineParts) (history : List Entry) (cube : HeldCube) (now : 
       few : length (parcel.block.id ∷ s.hoststore) ≤ (2 ^ cube.grant.dim + 1) * home_blocks
       few = few-blocks own (parcel.block.id ∷ s.hoststore) now.of own-blocks (λ id. omega (arith, once_with id, total-le own s id now.stands.sound))
 
-      accepted : IsAccepted parts history cube.number cube.grant entry (parcel_with out parcel)
+      accepted : IsAccepted parts history cube.number cube.grant entry (renamed_parcel out parcel)
       accepted = record {
         new =
             let id = parcel.block.id in
@@ -236,13 +236,13 @@ module _ (parts : MachineParts) (history : List Entry) (cube : HeldCube) (now : 
             let more : 2 ^ cube.grant.dim ≤ 2 ^ greatest_dim = pow_mono now.of.dim in
             omega (arith, few, more, ap (λ n. (2 ^ cube.grant.dim + 1) * n) home_blocks_lem, greatest_nodes_lem, greatest_blocks_lem);
         stored =
-            ap (map out) (store-next take_message takes_mail refl tt entry made
-            ∙ ap (λ what. stored_by items s.hoststore (what_renamed (place_inward cube.grant.sub) (block_inward cube.grant.sub) what)) what
+            ap (map out) (store-next take_message mail_call refl tt entry made
+            ∙ ap (λ what. store_after items s.hoststore (renamed_what (place_inward cube.grant.sub) (block_inward cube.grant.sub) what)) what
             ∙ ap (with_parcel s.hoststore) found)
             ∙ put-outward parts.dim cube.grant now.placed s.hoststore parcel own-blocks.1 own-blocks.0;
       }
 
-    take-next : (parcel : Parcel) (found : Option Parcel) → parcel_numbered number items ≡ found → option_map (parcel_with out) found ≡ Some parcel
+    take-next : (parcel : Parcel) (found : Option Parcel) → parcel_numbered number items ≡ found → option_map (renamed_parcel out) found ≡ Some parcel
         → IsAccepted parts history cube.number cube.grant entry parcel
     take-next parcel None is e = absurd (cc)
     take-next parcel (Some own) is e =
@@ -257,29 +257,29 @@ module _ (parts : MachineParts) (history : List Entry) (cube : HeldCube) (now : 
 pub hosts-fit : HostsFit
 hosts-fit parts history number grant machine lawful held asked call is within =
     by_seen
-    (λ number grant. host_call (cube_of parts.images grant) (store_now parts history number grant) asked ≡ Some call
-    → IsFitting parts history grant.user HOST (in_cube (call_with (block_outward grant) call))) parts history number grant machine lawful
+    (λ number grant. host_call (cube_of parts.images grant) (trace_store parts history number grant) asked ≡ Some call
+    → IsFitting parts history grant.user HOST (in_cube (renamed_call_blocks (block_outward grant) call))) parts history number grant machine lawful
     (λ cube now is. fits-by parts history cube now asked call is within) held is
 
 pub hosts-send : HostsSend
 hosts-send parts history number grant machine lawful held to id bytes entry least place short made =
     by_seen
-    (λ number grant. slice_get (store_now parts history number grant) 0 ≡ Some id → is_place grant.dim to ≡ true
-    → IsMadeBy parts history grant HOST (sends 0 ((to, block_outward grant id) ∷ []) bytes) entry
-    → store_now parts (history ++ entry ∷ []) number grant ≡ drop 1 (store_now parts history number grant)) parts history number grant machine lawful
+    (λ number grant. slice_get (trace_store parts history number grant) 0 ≡ Some id → is_place grant.dim to ≡ true
+    → IsMadeBy parts history grant HOST (send_call 0 ((to, block_outward grant id) ∷ []) bytes) entry
+    → trace_store parts (history ++ entry ∷ []) number grant ≡ drop 1 (trace_store parts history number grant)) parts history number grant machine lawful
     (λ cube now least place made. send-next parts history cube now to id bytes least place short entry made) held least place made
 
 pub hosts-take : HostsTake
 hosts-take parts history number grant machine lawful held number' parcel entry made what is =
     by_seen
-    (λ number grant. IsMadeBy parts history grant HOST takes_mail entry → HasHeldCube history grant.user (λ cube. parcel_numbered number' cube.mail ≡ Some parcel)
+    (λ number grant. IsMadeBy parts history grant HOST mail_call entry → HasHeldCube history grant.user (λ cube. parcel_numbered number' cube.mail ≡ Some parcel)
     → IsAccepted parts history number grant entry parcel) parts history number grant machine lawful
     (λ cube now made is. taken-next parts history cube now number' entry made what parcel is) held made is
 
 pub arms-allow : ArmsAllow
 arms-allow parts history number grant machine lawful held count entry within made =
     by_seen
-    (λ number grant. IsMadeBy parts history grant HOST (arms count) entry → dispatches_left parts (history ++ entry ∷ []) number grant ≡ count) parts history number grant machine lawful
+    (λ number grant. IsMadeBy parts history grant HOST (arm_call count) entry → dispatches_left parts (history ++ entry ∷ []) number grant ≡ count) parts history number grant machine lawful
     (λ cube now made. arm-allows parts history cube now count entry within made) held made
 
 pub drains-fit-held : DrainsFit

@@ -6,12 +6,12 @@ use Rattle.ce_model.specs.declared.entry.What.{What}
 use Rattle.ce_model.specs.declared.entry.What.TheVariants.{Look}
 use Rattle.ce_model.specs.declared.entry.LookResult.{LookResult}
 use Rattle.ce_model.specs.declared.entry.LookResult.TheVariants.{Quiet, Busy}
-use Rattle.ce_model.specs.Node.{looks}
+use Rattle.ce_model.specs.Node.{look_call}
 use Rattle.ce_model.specs.Trace.{Standing}
 use Rattle.ce_model.specs.Answers.{is_used_up, is_quiet, found_where, answer}
-use Rattle.ce_model.specs.Cube.{Cube, CubeState, opening, left_by, node_numbers, IsAlone}
+use Rattle.ce_model.specs.Cube.{Cube, CubeState, opening, state_after_trace, node_numbers, IsAlone}
 use Rattle.ce_model.specs.Views.{view}
-use Rattle.ce_model.specs.Machine.{MachineParts, HeldCube, after, standing_of, cube_of}
+use Rattle.ce_model.specs.Machine.{MachineParts, HeldCube, after, cube_standing, cube_of}
 use Rattle.ce_script.specs.Rounds.{RoundKind, IsRoundWithoutWork}
 use Rattle.ce_solo.proofs.Fresh.{fresh_sound}
 use Rattle.ce_solo.proofs.Projection.Numbers.{what_outward}
@@ -28,7 +28,7 @@ not_busy true used is e = cc
 not_busy false true is e = cc
 not_busy false false is e = cc
 
-look-is : (nodes : List ℕ) (standing : Standing) → answer nodes standing HOST looks ≡ Look (found_where (is_quiet nodes standing) (is_used_up standing))
+look-is : (nodes : List ℕ) (standing : Standing) → answer nodes standing HOST look_call ≡ Look (found_where (is_quiet nodes standing) (is_used_up standing))
 unfolding answer
 look-is nodes standing = refl
 
@@ -42,7 +42,7 @@ module _ (parts : MachineParts) (history : List Entry) (cube : HeldCube) (now : 
   own = cube_of parts.images cube.grant
 
   abbrev s : CubeState
-  s = left_by own (opening own) (view history cube.number)
+  s = state_after_trace own (opening own) (view history cube.number)
 
   -- the cube is quiet, or its dispatches are used up
   abbrev IsAtRest : Type 0
@@ -58,20 +58,20 @@ module _ (parts : MachineParts) (history : List Entry) (cube : HeldCube) (now : 
   pub at-rest : (kind : RoundKind) (before round : List Entry) → view history cube.number ≡ before ++ round → IsRoundWithoutWork kind cube.grant.dim round → IsAtRest
   at-rest kind before round same quiet = rounds-rest own (opening own) (view history cube.number) now.of (fresh_sound own now.of) alone kind before round same quiet
 
-  look_entry : (entry : Entry) → IsMadeBy parts history cube.grant HOST looks entry
+  look_entry : (entry : Entry) → IsMadeBy parts history cube.grant HOST look_call entry
       → entry.what ≡ Look (found_where (is_quiet (node_numbers cube.grant.dim) s.standing) (is_used_up s.standing))
   look_entry entry made =
-      sym (answer-made parts history cube HOST looks entry now.holds made)
-      ∙ answer-outward parts.dim cube.grant now.placed (standing_of (after history) cube) s.standing now.standing HOST looks (inr refl) tt
+      sym (answer-made parts history cube HOST look_call entry now.holds made)
+      ∙ answer-outward parts.dim cube.grant now.placed (cube_standing (after history) cube) s.standing now.standing HOST look_call (inr refl) tt
       ∙ ap (what_outward cube.grant) (look-is (node_numbers cube.grant.dim) s.standing)
 
   -- a look finds that it rests
-  pub found-at-rest : (entry : Entry) → IsMadeBy parts history cube.grant HOST looks entry → IsAtRest → entry.what ≡ Look Busy → ⊥
+  pub found-at-rest : (entry : Entry) → IsMadeBy parts history cube.grant HOST look_call entry → IsAtRest → entry.what ≡ Look Busy → ⊥
   found-at-rest entry made rests busy = not_busy _ _ rests (ap found_in (sym (look_entry entry made) ∙ busy))
 
 pub looks-end : LooksEnd
 looks-end parts history number grant machine lawful held kind before round entry same quiet made busy =
     by_seen
-    (λ number grant. view history number ≡ before ++ round → IsRoundWithoutWork kind grant.dim round → IsMadeBy parts history grant HOST looks entry
+    (λ number grant. view history number ≡ before ++ round → IsRoundWithoutWork kind grant.dim round → IsMadeBy parts history grant HOST look_call entry
     → entry.what ≡ Look Busy → ⊥) parts history number grant machine lawful
     (λ cube now same quiet made busy. found-at-rest parts history cube now entry made (at-rest parts history cube now kind before round same quiet) busy) held same quiet made busy

@@ -11,12 +11,12 @@ use Rattle.ce_model.specs.Blocks.{is_same_id}
 use Rattle.ce_model.specs.Parcels.{Parcel, mail, is_eligible}
 use Rattle.ce_model.specs.Process.{Process, is_receiving, is_stopped}
 use Rattle.ce_model.specs.Space.{mapped_ids}
-use Rattle.ce_model.specs.Node.{Node, takes, process_at, blocks_of, ids_of}
-use Rattle.ce_model.specs.Hearing.{Hearing, start_of, mail_of, kill_of, poll_of, told, nothing}
+use Rattle.ce_model.specs.Node.{Node, take_call, process_at, blocks_of, ids_of}
+use Rattle.ce_model.specs.Hearing.{Hearing, start_of, mail_of, kill_of, poll_of, answer_of, nothing}
 use Rattle.ce_model.specs.Owners.{IsBlockOf}
 use Rattle.ce_model.specs.Subcubes.{node_of}
 use Rattle.ce_model.specs.Sound.{is_unborn, is_polling}
-use Rattle.ce_model.specs.Renaming.{CubeGrant, block_inward, block_outward, process_with, heard_with, node_outward}
+use Rattle.ce_model.specs.Renaming.{CubeGrant, block_inward, block_outward, renamed_process, renamed_hearing, node_outward}
 use Rattle.ce_solo.specs.Laws.{IsNodeOf, IsHeardOf}
 use Rattle.ce_solo.proofs.Counting.{same_id, same_id-self}
 use Rattle.ce_solo.proofs.Lists.{count_by-cons}
@@ -28,7 +28,7 @@ use Rattle.ce_cube.specs.Hearable.{IsHearable}
 -- ---- blocks
 
 module _ (rename : BlockId → BlockId) where
-  windows_renamed : (ps : List Process) → flat_map (λ p. mapped_ids p.space) (map (process_with rename) ps) ≡ map rename (flat_map (λ p. mapped_ids p.space) ps)
+  windows_renamed : (ps : List Process) → flat_map (λ p. mapped_ids p.space) (map (renamed_process rename) ps) ≡ map rename (flat_map (λ p. mapped_ids p.space) ps)
   windows_renamed [] = refl
   windows_renamed (p ∷ ps) =
       ap₂ (λ xs ys. xs ++ ys) (ids-renamed rename p.space) (windows_renamed ps)
@@ -80,11 +80,11 @@ module _ (dim : ℕ) (grant : CubeGrant) (placed : IsPlaced dim grant) where
         → is_eligible (ids_of is_receiving (node_outward grant node).processes) (ids_of is_stopped (node_outward grant node).processes) (mail parcel)
         ≡ is_eligible (ids_of is_receiving node.processes) (ids_of is_stopped node.processes) (mail parcel)
     can_be_given parcel =
-        ap (λ call. elim call [ takes asking dead poller ↦ is_eligible asking dead (mail parcel) | other ↦ false ])
+        ap (λ call. elim call [ take_call asking dead poller ↦ is_eligible asking dead (mail parcel) | other ↦ false ])
         (take-renamed (block_outward grant) (node_of grant.sub) node)
 
     pub hearable-outward : (images : List ImageParts) (heard : Hearing) → IsHeardOf grant.dim heard → IsHearable images node heard
-        → IsHearable images (node_outward grant node) (heard_with (block_outward grant) heard)
+        → IsHearable images (node_outward grant node) (renamed_hearing (block_outward grant) heard)
     hearable-outward images (start_of pid image) of is = record {
       pid_within = is.pid_within;
       image_within = is.image_within;
@@ -114,5 +114,5 @@ module _ (dim : ℕ) (grant : CubeGrant) (placed : IsPlaced dim grant) where
       first = is.first;
       between_turns = is.between_turns;
     }
-    hearable-outward images (told value) of is = record { turn = is.turn; is = is.is }
+    hearable-outward images (answer_of value) of is = record { turn = is.turn; is = is.is }
     hearable-outward images nothing of is = tt

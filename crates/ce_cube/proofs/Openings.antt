@@ -7,17 +7,17 @@ use Rattle.ce_model.specs.declared.topology.BlockId.{BlockId}
 use Rattle.ce_model.specs.Limits.{greatest_dim, greatest_nodes_lem, host_home, host_home_lem, home_blocks, process_count}
 use Rattle.ce_model.specs.Blocks.{blocks_of_home}
 use Rattle.ce_model.specs.Process.{Process, unborn_process}
-use Rattle.ce_model.specs.Node.{fresh}
+use Rattle.ce_model.specs.Node.{opening_node}
 use Rattle.ce_model.specs.Saying.{says}
 use Rattle.ce_model.specs.Cube.{opening, state, hoststore}
 use Rattle.ce_model.specs.Subcubes.{node_of}
-use Rattle.ce_model.specs.Renaming.{CubeGrant, block_outward, process_with, node_outward}
+use Rattle.ce_model.specs.Renaming.{CubeGrant, block_outward, renamed_process, node_outward}
 use Rattle.ce_model.specs.Machine.{MachineParts, cube_of}
 use Rattle.ce_model.specs.Views.{view}
 use Rattle.ce_daemon.specs.Boxes.{AreBoxesOf}
 use Rattle.ce_daemon.specs.declared.grant.Grant.{Grant}
 use Rattle.rk_node.specs.Boxes.{Box, IsClean, fresh_at}
-use Rattle.ce_cube.specs.Boxes.{IsInStep, node_now}
+use Rattle.ce_cube.specs.Boxes.{IsInStep, trace_node}
 use Rattle.ce_cube.specs.Crews.{box_at, IsReady, AreBoxesInStep, cube_grant}
 use Rattle.ce_cube.specs.Homecoming.{entered_box}
 
@@ -25,7 +25,7 @@ module _ (grant : CubeGrant) where
   abbrev outward : BlockId → BlockId
   outward = block_outward grant
 
-  unborn-outward : (n : ℕ) → map (process_with outward) (replicate n unborn_process) ≡ replicate n unborn_process
+  unborn-outward : (n : ℕ) → map (renamed_process outward) (replicate n unborn_process) ≡ replicate n unborn_process
   unborn-outward zero = refl
   unborn-outward (suc n) = ap (λ ps. unborn_process ∷ ps) (unborn-outward n)
 
@@ -53,26 +53,26 @@ module _ (grant : CubeGrant) where
     unfolding name
     home-outward r below = names-outward r (node_of grant.sub r) 0 home_blocks (λ index. rw (no_host r below) refl)
 
-    fresh-outward : (r images : ℕ) → r < 2 ^ grant.dim → node_outward grant (fresh r grant.dim images) ≡ fresh_at (node_of grant.sub r) r grant.dim images
+    fresh-outward : (r images : ℕ) → r < 2 ^ grant.dim → node_outward grant (opening_node r grant.dim images) ≡ fresh_at (node_of grant.sub r) r grant.dim images
     fresh-outward r images below =
-        ap₂ (λ (processes : List Process) (store : List BlockId). record (fresh r grant.dim images) { home = node_of grant.sub r; processes = processes; store = store })
+        ap₂ (λ (processes : List Process) (store : List BlockId). record (opening_node r grant.dim images) { home = node_of grant.sub r; processes = processes; store = store })
         (unborn-outward process_count) (home-outward r below)
 
     module _ (parts : MachineParts) (history : List Entry) (number : ℕ) (begins : view history number ≡ []) where
-      node-fresh : (r : ℕ) → node_now parts history number grant r ≡ fresh r grant.dim (length parts.images)
+      node-fresh : (r : ℕ) → trace_node parts history number grant r ≡ opening_node r grant.dim (length parts.images)
       unfolding state
       node-fresh r = ap (λ t. state (cube_of parts.images grant) (opening (cube_of parts.images grant)) r t) begins
 
       fresh-in_step : (r : ℕ) → r < 2 ^ grant.dim
-          → IsInStep grant (fresh r grant.dim (length parts.images)) (fresh_at (node_of grant.sub r) r grant.dim (length parts.images))
+          → IsInStep grant (opening_node r grant.dim (length parts.images)) (fresh_at (node_of grant.sub r) r grant.dim (length parts.images))
       unfolding says
       fresh-in_step r below = record { at_rest = sym (fresh-outward r (length parts.images) below); asks = refl }
 
       pub entered-in_step : (r home images : ℕ) → r < 2 ^ grant.dim → home ≡ node_of grant.sub r → length parts.images ≡ images
-          → IsInStep grant (node_now parts history number grant r) (fresh_at home r grant.dim images)
+          → IsInStep grant (trace_node parts history number grant r) (fresh_at home r grant.dim images)
       entered-in_step r home images below at same =
           let there = subst (λ node. IsInStep grant node (fresh_at (node_of grant.sub r) r grant.dim (length parts.images))) (sym (node-fresh r)) (fresh-in_step r below) in
-          subst (λ box. IsInStep grant (node_now parts history number grant r) box)
+          subst (λ box. IsInStep grant (trace_node parts history number grant r) box)
           (ap₂ (λ (h n : ℕ). fresh_at h r grant.dim n) (sym at) same) there
 
       pub host-begins : map outward (hoststore (opening (cube_of parts.images grant)) (view history number)) ≡ blocks_of_home (host_home + grant.user)
@@ -98,6 +98,6 @@ module _ (grant : Grant) (parts : MachineParts) (history : List Entry) (images :
     all = long ∙ clean.all;
     ready = ready;
     in_step = λ r below.
-        subst (λ (box : Box). IsInStep (cube_grant grant) (node_now parts history grant.number (cube_grant grant) r) box.node) (sym (entered-at r below))
+        subst (λ (box : Box). IsInStep (cube_grant grant) (trace_node parts history grant.number (cube_grant grant) r) box.node) (sym (entered-at r below))
         (entered-in_step (cube_grant grant) dim parts history grant.number begins r (box_at boxes r).node.home images below (clean.each r (box_at [] r) below).0 same);
   }

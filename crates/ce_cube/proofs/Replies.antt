@@ -4,16 +4,16 @@ use Rattle.std.specs.List.{AllByRecursion}
 use Rattle.ce_model.specs.declared.topology.Place.{Place}
 use Rattle.ce_model.specs.declared.topology.BlockId.{BlockId}
 use Rattle.ce_model.specs.declared.entry.What.{What}
-use Rattle.ce_model.specs.declared.entry.What.TheVariants as entry
+use Rattle.ce_model.specs.declared.entry.What.TheVariants as whats
 use Rattle.ce_model.specs.declared.entry.KillFound.{KillFound}
-use Rattle.ce_model.specs.declared.entry.KillFound.TheVariants as found
+use Rattle.ce_model.specs.declared.entry.KillFound.TheVariants as kill_found
 use Rattle.ce_model.specs.declared.entry.TakeResult.{TakeResult}
-use Rattle.ce_model.specs.declared.entry.TakeResult.TheVariants as given
+use Rattle.ce_model.specs.declared.entry.TakeResult.TheVariants as take_result
 use Rattle.ce_model.specs.Parcels as model
 use Rattle.ce_model.specs.Parcels.{Item, start, mail, kill, is_named_by, parcel_in}
-use Rattle.ce_model.specs.Hearing.{mail_of, nothing, told}
-use Rattle.ce_model.specs.Cube.{parcel_numbered, heard_parcel, heard_given, heard_in, kill_answer}
-use Rattle.ce_model.specs.Renaming.{parcel_with, item_with, heard_with, what_renamed}
+use Rattle.ce_model.specs.Hearing.{mail_of, nothing, answer_of}
+use Rattle.ce_model.specs.Cube.{parcel_numbered, hearing_of_parcel, hearing_of_result, hearing_of_entry, kill_answer}
+use Rattle.ce_model.specs.Renaming.{renamed_parcel, renamed_item, renamed_hearing, renamed_what}
 use Rattle.rk_mail.specs.declared.talk.Hearing.{Hearing}
 use Rattle.rk_mail.specs.Talk.{heard_as, heard_of_kill, IsGiven, IsHeardIn}
 use Rattle.ce_solo.specs.Laws.{IsHeardOf}
@@ -22,72 +22,72 @@ use Rattle.ce_solo.proofs.Made.{find-all}
 use Rattle.ce_model.specs.Owners.{IsBlockOf}
 
 module _ (rename : BlockId → BlockId) where
-  named-renamed : (given : TakeResult) (item : Item) → is_named_by given (item_with rename item) ≡ is_named_by given item
-  named-renamed (given.Start pid image) (start other number) = refl
-  named-renamed (given.Start pid image) (mail parcel) = refl
-  named-renamed (given.Start pid image) (kill other) = refl
-  named-renamed (given.Mail pid number) (start other image) = refl
-  named-renamed (given.Mail pid number) (mail parcel) = refl
-  named-renamed (given.Mail pid number) (kill other) = refl
-  named-renamed (given.Kill pid) (start other image) = refl
-  named-renamed (given.Kill pid) (mail parcel) = refl
-  named-renamed (given.Kill pid) (kill other) = refl
-  named-renamed (given.Poll pid) item = refl
-  named-renamed given.Idle item = refl
-  named-renamed given.Spent item = refl
+  named-renamed : (given : TakeResult) (item : Item) → is_named_by given (renamed_item rename item) ≡ is_named_by given item
+  named-renamed (take_result.Start pid image) (start other number) = refl
+  named-renamed (take_result.Start pid image) (mail parcel) = refl
+  named-renamed (take_result.Start pid image) (kill other) = refl
+  named-renamed (take_result.Mail pid number) (start other image) = refl
+  named-renamed (take_result.Mail pid number) (mail parcel) = refl
+  named-renamed (take_result.Mail pid number) (kill other) = refl
+  named-renamed (take_result.Kill pid) (start other image) = refl
+  named-renamed (take_result.Kill pid) (mail parcel) = refl
+  named-renamed (take_result.Kill pid) (kill other) = refl
+  named-renamed (take_result.Poll pid) item = refl
+  named-renamed take_result.Idle item = refl
+  named-renamed take_result.Spent item = refl
 
-  found_of : (b : Bool) (item : Item) (rest rest' : Option Item) → rest' ≡ option_map (item_with rename) rest
-      → (if b then Some (item_with rename item) else rest') ≡ option_map (item_with rename) (if b then Some item else rest)
+  found_of : (b : Bool) (item : Item) (rest rest' : Option Item) → rest' ≡ option_map (renamed_item rename) rest
+      → (if b then Some (renamed_item rename item) else rest') ≡ option_map (renamed_item rename) (if b then Some item else rest)
   found_of true item rest rest' same = refl
   found_of false item rest rest' same = same
 
-  find-named : (given : TakeResult) (items : List Item) → find (is_named_by given) (map (item_with rename) items) ≡ option_map (item_with rename) (find (is_named_by given) items)
+  find-named : (given : TakeResult) (items : List Item) → find (is_named_by given) (map (renamed_item rename) items) ≡ option_map (renamed_item rename) (find (is_named_by given) items)
   find-named given [] = refl
   find-named given (item ∷ items) =
       rw (named-renamed given item)
-      (found_of (is_named_by given item) item (find (is_named_by given) items) (find (is_named_by given) (map (item_with rename) items)) (find-named given items))
+      (found_of (is_named_by given item) item (find (is_named_by given) items) (find (is_named_by given) (map (renamed_item rename) items)) (find-named given items))
 
-  parcel_in-renamed : (found : Option Item) → option_and_then parcel_in (option_map (item_with rename) found) ≡ option_map (parcel_with rename) (option_and_then parcel_in found)
+  parcel_in-renamed : (found : Option Item) → option_and_then parcel_in (option_map (renamed_item rename) found) ≡ option_map (renamed_parcel rename) (option_and_then parcel_in found)
   parcel_in-renamed None = refl
   parcel_in-renamed (Some (start pid image)) = refl
   parcel_in-renamed (Some (mail parcel)) = refl
   parcel_in-renamed (Some (kill pid)) = refl
 
-  pub numbered-renamed : (number : ℕ) (items : List Item) → parcel_numbered number (map (item_with rename) items) ≡ option_map (parcel_with rename) (parcel_numbered number items)
+  pub numbered-renamed : (number : ℕ) (items : List Item) → parcel_numbered number (map (renamed_item rename) items) ≡ option_map (renamed_parcel rename) (parcel_numbered number items)
   numbered-renamed number items =
-      ap (option_and_then parcel_in) (find-named (given.Mail 0 number) items) ∙ parcel_in-renamed (find (is_named_by (given.Mail 0 number)) items)
+      ap (option_and_then parcel_in) (find-named (take_result.Mail 0 number) items) ∙ parcel_in-renamed (find (is_named_by (take_result.Mail 0 number)) items)
 
-  mail-heard : (found : Option model.Parcel) (parcel : model.Parcel) → option_map (parcel_with rename) found ≡ Some parcel → mail_of parcel ≡ heard_with rename (heard_parcel found)
+  mail-heard : (found : Option model.Parcel) (parcel : model.Parcel) → option_map (renamed_parcel rename) found ≡ Some parcel → mail_of parcel ≡ renamed_hearing rename (hearing_of_parcel found)
   mail-heard None parcel e = absurd (cc)
   mail-heard (Some own) parcel e = ap (λ found. elim found [ None ↦ nothing | Some p ↦ mail_of p ]) (sym e)
 
-  given-heard : (items : List Item) (given : TakeResult) (heard : Hearing) → IsGiven (map (item_with rename) items) given heard
-      → heard_as heard ≡ heard_with rename (heard_given items given)
-  given-heard items (given.Start pid image) heard is = ap heard_as is
-  given-heard items (given.Mail pid number) heard is =
+  given-heard : (items : List Item) (given : TakeResult) (heard : Hearing) → IsGiven (map (renamed_item rename) items) given heard
+      → heard_as heard ≡ renamed_hearing rename (hearing_of_result items given)
+  given-heard items (take_result.Start pid image) heard is = ap heard_as is
+  given-heard items (take_result.Mail pid number) heard is =
       ap heard_as is.1 ∙ mail-heard (parcel_numbered number items) _ (sym (numbered-renamed number items) ∙ is.2)
-  given-heard items (given.Kill pid) heard is = ap heard_as is
-  given-heard items (given.Poll pid) heard is = ap heard_as is
-  given-heard items given.Idle heard is = ap heard_as is
-  given-heard items given.Spent heard is = ap heard_as is
+  given-heard items (take_result.Kill pid) heard is = ap heard_as is
+  given-heard items (take_result.Poll pid) heard is = ap heard_as is
+  given-heard items take_result.Idle heard is = ap heard_as is
+  given-heard items take_result.Spent heard is = ap heard_as is
 
-  fresh-heard : (fresh : Bool) (heard : Hearing) → IsHeardIn [] (entry.Spawn 0 0 (record { node = 0; pid = 0 }) fresh) heard → heard_as heard ≡ told (if fresh then 0 else 2)
+  fresh-heard : (fresh : Bool) (heard : Hearing) → IsHeardIn [] (whats.Spawn 0 0 (record { node = 0; pid = 0 }) fresh) heard → heard_as heard ≡ answer_of (if fresh then 0 else 2)
   fresh-heard true heard is = ap heard_as is
   fresh-heard false heard is = ap heard_as is
 
-  kill-heard : (found : KillFound) (heard : Hearing) → heard ≡ heard_of_kill found → heard_as heard ≡ told (kill_answer found)
-  kill-heard found.Killed heard is = ap heard_as is
-  kill-heard found.Unused heard is = ap heard_as is
-  kill-heard found.Already heard is = ap heard_as is
+  kill-heard : (found : KillFound) (heard : Hearing) → heard ≡ heard_of_kill found → heard_as heard ≡ answer_of (kill_answer found)
+  kill-heard kill_found.Killed heard is = ap heard_as is
+  kill-heard kill_found.Unused heard is = ap heard_as is
+  kill-heard kill_found.Already heard is = ap heard_as is
 
   -- an entry's places and blocks may have any names
-  pub reply-heard : (place : Place → Place) (block : BlockId → BlockId) (items : List Item) (what : What) (heard : Hearing) → IsHeardIn (map (item_with rename) items) what heard
-      → heard_as heard ≡ heard_with rename (heard_in items (what_renamed place block what))
-  reply-heard place block items (entry.Take asking dead poller given) heard is = given-heard items given heard is
-  reply-heard place block items (entry.Send pid first to bytes) heard is = ap heard_as is
-  reply-heard place block items (entry.Spawn pid image to fresh) heard is = fresh-heard fresh heard is
-  reply-heard place block items (entry.Kill pid to found) heard is = kill-heard found heard is
-  reply-heard place block items (entry.Note pid word) heard is = ap heard_as is
+  pub reply-heard : (place : Place → Place) (block : BlockId → BlockId) (items : List Item) (what : What) (heard : Hearing) → IsHeardIn (map (renamed_item rename) items) what heard
+      → heard_as heard ≡ renamed_hearing rename (hearing_of_entry items (renamed_what place block what))
+  reply-heard place block items (whats.Take asking dead poller given) heard is = given-heard items given heard is
+  reply-heard place block items (whats.Send pid first to bytes) heard is = ap heard_as is
+  reply-heard place block items (whats.Spawn pid image to fresh) heard is = fresh-heard fresh heard is
+  reply-heard place block items (whats.Kill pid to found) heard is = kill-heard found heard is
+  reply-heard place block items (whats.Note pid word) heard is = ap heard_as is
   reply-heard place block items other heard is = absurd is
 
 -- ---- whose block comes with a parcel
@@ -102,27 +102,27 @@ items_in dim (start pid image ∷ items) all = (tt, items_in dim items all)
 items_in dim (mail parcel ∷ items) all = (all.0, items_in dim items all.1)
 items_in dim (kill pid ∷ items) all = (tt, items_in dim items all)
 
-found_in : (dim : ℕ) (found : Option Item) → ((item : Item) → found ≡ Some item → IsItemIn dim item) → IsHeardOf dim (heard_parcel (option_and_then parcel_in found))
+found_in : (dim : ℕ) (found : Option Item) → ((item : Item) → found ≡ Some item → IsItemIn dim item) → IsHeardOf dim (hearing_of_parcel (option_and_then parcel_in found))
 found_in dim None is = tt
 found_in dim (Some (start pid image)) is = tt
 found_in dim (Some (mail parcel)) is = is (mail parcel) refl
 found_in dim (Some (kill pid)) is = tt
 
-given_in : (dim : ℕ) (items : List Item) (given : TakeResult) → AllByRecursion (IsItemIn dim) items → IsHeardOf dim (heard_given items given)
-given_in dim items (given.Start pid image) all = tt
-given_in dim items (given.Mail pid number) all =
-    found_in dim (find (is_named_by (given.Mail 0 number)) items) (λ item e. find-all (IsItemIn dim) (is_named_by (given.Mail 0 number)) items item all e)
-given_in dim items (given.Kill pid) all = tt
-given_in dim items (given.Poll pid) all = tt
-given_in dim items given.Idle all = tt
-given_in dim items given.Spent all = tt
+given_in : (dim : ℕ) (items : List Item) (given : TakeResult) → AllByRecursion (IsItemIn dim) items → IsHeardOf dim (hearing_of_result items given)
+given_in dim items (take_result.Start pid image) all = tt
+given_in dim items (take_result.Mail pid number) all =
+    found_in dim (find (is_named_by (take_result.Mail 0 number)) items) (λ item e. find-all (IsItemIn dim) (is_named_by (take_result.Mail 0 number)) items item all e)
+given_in dim items (take_result.Kill pid) all = tt
+given_in dim items (take_result.Poll pid) all = tt
+given_in dim items take_result.Idle all = tt
+given_in dim items take_result.Spent all = tt
 
-heard_in-in : (dim : ℕ) (items : List Item) (what : What) → AllByRecursion (IsItemIn dim) items → IsHeardOf dim (heard_in items what)
-heard_in-in dim items (entry.Take asking dead poller given) all = given_in dim items given all
-heard_in-in dim items (entry.Send pid first to bytes) all = tt
-heard_in-in dim items (entry.Spawn pid image to fresh) all = tt
-heard_in-in dim items (entry.Kill pid to found) all = tt
-heard_in-in dim items other all = tt
+hearing_of_entry-in : (dim : ℕ) (items : List Item) (what : What) → AllByRecursion (IsItemIn dim) items → IsHeardOf dim (hearing_of_entry items what)
+hearing_of_entry-in dim items (whats.Take asking dead poller given) all = given_in dim items given all
+hearing_of_entry-in dim items (whats.Send pid first to bytes) all = tt
+hearing_of_entry-in dim items (whats.Spawn pid image to fresh) all = tt
+hearing_of_entry-in dim items (whats.Kill pid to found) all = tt
+hearing_of_entry-in dim items other all = tt
 
-pub heard-of : (dim : ℕ) (items : List Item) (what : What) → AllByRecursion (IsBlockOf dim) (parcel_ids items) → IsHeardOf dim (heard_in items what)
-heard-of dim items what all = heard_in-in dim items what (items_in dim items all)
+pub heard-of : (dim : ℕ) (items : List Item) (what : What) → AllByRecursion (IsBlockOf dim) (parcel_ids items) → IsHeardOf dim (hearing_of_entry items what)
+heard-of dim items what all = hearing_of_entry-in dim items what (items_in dim items all)

@@ -9,14 +9,14 @@ use Rattle.ce_model.specs.declared.entry.What.TheVariants.{Take}
 use Rattle.ce_model.specs.declared.entry.TakeResult.{TakeResult}
 use Rattle.ce_model.specs.declared.entry.TakeResult.TheVariants.{Idle, Spent}
 use Rattle.ce_model.specs.Lists.{EachAfter}
-use Rattle.ce_model.specs.Literals.{of_actor as entry_of}
+use Rattle.ce_model.specs.Literals.{entry_of}
 use Rattle.ce_model.specs.Parcels.{Item, start, mail, kill, is_eligible, given_as}
-use Rattle.ce_model.specs.Node.{Call, takes, sends, spawns, kills, notes, arms, looks, takes_mail}
+use Rattle.ce_model.specs.Node.{Call, take_call, send_call, spawn_call, kill_call, note_call, arm_call, look_call, mail_call}
 use Rattle.ce_model.specs.Saying.{Saying, says}
-use Rattle.ce_model.specs.Hearing.{hears}
+use Rattle.ce_model.specs.Hearing.{node_after_hearing}
 use Rattle.ce_model.specs.Trace.{NodeRecord, standing}
 use Rattle.ce_model.specs.Answers.{offer_of, is_used_up, is_quiet_node, is_quiet, answer}
-use Rattle.ce_model.specs.Cube.{Cube, CubeState, IsCube, HostCall, left_by, node_numbers, IsNext}
+use Rattle.ce_model.specs.Cube.{Cube, CubeState, IsCube, HostCall, state_after_trace, node_numbers, IsNext}
 use Rattle.ce_model.specs.Sound.{IsSound}
 use Rattle.ce_model.proofs.Walked.{each_of_front, each_behind}
 use Rattle.ce_model.proofs.Subcubes.{list_all-each}
@@ -72,9 +72,9 @@ none_found test (x ∷ xs) e =
 
 -- what its node has said, and what it is given
 record IsTaken (cube : Cube) (s : CubeState) (r asking dead : ℕ) (poller : Option ℕ) (given : TakeResult) : Type 0 where
-  said : HasMadeCall (s.node r) (says (s.node r)).node (takes asking dead poller)
-  is : offer_of (find (is_eligible asking dead) (s.standing.node_record r).waiting) poller (is_used_up s.standing) ≡ given
-  call : (says (s.node r)).call ≡ takes asking dead poller
+  said : HasMadeCall (s.node r) (says (s.node r)).node (take_call asking dead poller)
+  is : offer_of (find (is_eligible asking dead) (s.standing.node_record r).waiting_items) poller (is_used_up s.standing) ≡ given
+  call : (says (s.node r)).call ≡ take_call asking dead poller
 
 abbrev IsTakenIn : Cube → CubeState → ℕ → What → Type 0
 IsTakenIn cube s r (Take asking dead poller given) = IsTaken cube s r asking dead poller given
@@ -83,20 +83,20 @@ IsTakenIn cube s r other = Unit {0}
 call-taken : (cube : Cube) (s : CubeState) → IsCube cube → IsSound cube s → (actor : ℕ) (asked : Option HostCall) (call : Call) → IsMadeCall cube s actor asked call
     → IsTakenIn cube s actor (answer (node_numbers cube.dim) s.standing actor call)
 unfolding answer
-call-taken cube s of sound actor asked (takes asking dead poller) (by_host is e) = absurd (no_take cube s asked (takes asking dead poller) refl e)
-call-taken cube s of sound actor asked (takes asking dead poller) (by_node below e) =
-    record { said = made-leaves cube s actor (takes asking dead poller) of below sound e; is = refl; call = e }
-call-taken cube s of sound actor asked (sends pid to bytes) made = tt
-call-taken cube s of sound actor asked (spawns pid image to) made = tt
-call-taken cube s of sound actor asked (kills pid to) made = tt
-call-taken cube s of sound actor asked (notes pid word) made = tt
-call-taken cube s of sound actor asked (arms count) made = tt
-call-taken cube s of sound actor asked looks made = tt
-call-taken cube s of sound actor asked takes_mail made = tt
+call-taken cube s of sound actor asked (take_call asking dead poller) (by_host is e) = absurd (no_take cube s asked (take_call asking dead poller) refl e)
+call-taken cube s of sound actor asked (take_call asking dead poller) (by_node below e) =
+    record { said = made-leaves cube s actor (take_call asking dead poller) of below sound e; is = refl; call = e }
+call-taken cube s of sound actor asked (send_call pid to bytes) made = tt
+call-taken cube s of sound actor asked (spawn_call pid image to) made = tt
+call-taken cube s of sound actor asked (kill_call pid to) made = tt
+call-taken cube s of sound actor asked (note_call pid word) made = tt
+call-taken cube s of sound actor asked (arm_call count) made = tt
+call-taken cube s of sound actor asked look_call made = tt
+call-taken cube s of sound actor asked mail_call made = tt
 
 module _ (cube : Cube) (of : IsCube cube) (o : CubeState) where
   abbrev pub at : List Entry → CubeState
-  at t = left_by cube o t
+  at t = state_after_trace cube o t
 
   -- node r is quiet after a trace
   abbrev pub is_quiet_at : ℕ → CubeState → Bool
@@ -112,37 +112,37 @@ module _ (cube : Cube) (of : IsCube cube) (o : CubeState) where
   nothing_more : (items : List Item) (asking dead : ℕ) → list_any (is_eligible asking dead) (appended items []) ≡ list_any (is_eligible asking dead) items
   nothing_more items asking dead = ap (list_any (is_eligible asking dead)) (sym (joined-is items []) ∙ append-nil items)
 
-  quiet_same : (kept : NodeRecord) → is_quiet_node (record kept { waiting = appended kept.waiting [] }) ≡ is_quiet_node kept
-  quiet_same kept = ap (λ b. kept.mark.idle && not b) (nothing_more kept.waiting kept.mark.asking kept.mark.dead)
+  quiet_same : (kept : NodeRecord) → is_quiet_node (record kept { waiting_items = appended kept.waiting_items [] }) ≡ is_quiet_node kept
+  quiet_same kept = ap (λ b. kept.mark.is_idle && not b) (nothing_more kept.waiting_items kept.mark.asking_ids kept.mark.dead_ids)
 
   asks_still : (s : CubeState) (r asking dead : ℕ) (poller : Option ℕ) (given : TakeResult) → IsTaken cube s r asking dead poller given
       → asks_for_work (says (says (s.node r)).node).call ≡ true
   asks_still s r asking dead poller given taken =
-      ap (λ (saying : Saying). asks_for_work saying.call) (asks_again (says (s.node r)).node (takes asking dead poller) taken.said.of_node refl)
+      ap (λ (saying : Saying). asks_for_work saying.call) (asks_again (says (s.node r)).node (take_call asking dead poller) taken.said.of_node refl)
 
   idle_leaves : (s : CubeState) (user r asking dead : ℕ) (poller : Option ℕ) → IsTaken cube s r asking dead poller Idle
       → IsLeftQuiet r s (state_after cube s (entry_of user r (Take asking dead poller Idle)))
-  unfolding hears
+  unfolding node_after_hearing
   idle_leaves s user r asking dead poller taken =
       let here = eq-eqb r r refl in
       record {
         again = rw here (asks_still s r asking dead poller Idle taken);
         used = refl;
         others = λ q other. rw other (quiet_same (s.standing.node_record q));
-        own = inr (rw here (ap not (nothing_more (s.standing.node_record r).waiting asking dead
-            ∙ none_found (is_eligible asking dead) (s.standing.node_record r).waiting (offered_idle _ poller (is_used_up s.standing) taken.is))));
+        own = inr (rw here (ap not (nothing_more (s.standing.node_record r).waiting_items asking dead
+            ∙ none_found (is_eligible asking dead) (s.standing.node_record r).waiting_items (offered_idle _ poller (is_used_up s.standing) taken.is))));
       }
 
   spent_leaves : (s : CubeState) (user r asking dead : ℕ) (poller : Option ℕ) → IsTaken cube s r asking dead poller Spent
       → IsLeftQuiet r s (state_after cube s (entry_of user r (Take asking dead poller Spent)))
-  unfolding hears
+  unfolding node_after_hearing
   spent_leaves s user r asking dead poller taken =
       let here = eq-eqb r r refl in
       record {
         again = rw here (asks_still s r asking dead poller Spent taken);
         used = refl;
         others = λ q other. rw other (quiet_same (s.standing.node_record q));
-        own = inl (offered_spent (find (is_eligible asking dead) (s.standing.node_record r).waiting) poller (is_used_up s.standing) taken.is);
+        own = inl (offered_spent (find (is_eligible asking dead) (s.standing.node_record r).waiting_items) poller (is_used_up s.standing) taken.is);
       }
 
   take_leaves : (s : CubeState) (user r : ℕ) (what : What) → is_take (entry_of user r what) ≡ true → is_dispatch (entry_of user r what) ≡ false → IsTakenIn cube s r what
@@ -207,8 +207,8 @@ module _ (cube : Cube) (of : IsCube cube) (o : CubeState) where
   rested_turn t first (second ∷ others) r stands each turn none below =
       let next = stands-made cube o t first of stands (entry_of-next cube o t first each.0) in
       let leaves = first_leaves t first stands each.0 turn.0 none in
-      let takes = no_second (t ++ first ∷ []) second r next each.1.0 turn.2.1.0 below (subst (λ r. asks_for_work (says ((at (t ++ first ∷ [])).node r)).call ≡ true) turn.2.0 leaves.again) in
-      absurd (both_ways _ turn.1.0 takes)
+      let take_call = no_second (t ++ first ∷ []) second r next each.1.0 turn.2.1.0 below (subst (λ r. asks_for_work (says ((at (t ++ first ∷ [])).node r)).call ≡ true) turn.2.0 leaves.again) in
+      absurd (both_ways _ turn.1.0 take_call)
 
   turn-rested : (t turn : List Entry) (r : ℕ) → IsSoundTrace cube o t → EachAfter (IsNext cube o) t turn → IsTurn r turn → has_work turn ≡ false → r < 2 ^ cube.dim → IsRested r t turn
   turn-rested t [] r stands each turn none below = absurd turn

@@ -6,7 +6,7 @@ use Rattle.std.proofs.lemmas.List.Folds.{flat_map-map}
 use Rattle.std.proofs.lemmas.List.FromFn.{fill_by_all}
 use Rattle.ce_model.specs.declared.topology.BlockId.{BlockId}
 use Rattle.ce_model.specs.Limits.{greatest_dim, home_blocks, home_blocks_lem, host_home, process_count, greatest_blocks, greatest_blocks_lem}
-use Rattle.ce_model.specs.Blocks.{Block, precedes, put_all, blocks_of_home}
+use Rattle.ce_model.specs.Blocks.{Block, is_lower, put_all, blocks_of_home}
 use Rattle.ce_model.specs.Process.{unborn_process}
 use Rattle.ce_model.specs.Space.{mapped_ids}
 use Rattle.ce_model.specs.Node.{blocks_of}
@@ -45,7 +45,7 @@ flat-same f g from (suc n) each =
 
 -- ---- stores and boxes
 
-rising-head : (block : Block) (blocks : List Block) → rising.IsRising is_before (block ∷ blocks) → AllByRecursion (λ id. precedes block.id id ≡ true) (ids_of blocks)
+rising-head : (block : Block) (blocks : List Block) → rising.IsRising is_before (block ∷ blocks) → AllByRecursion (λ id. is_lower block.id id ≡ true) (ids_of blocks)
 rising-head block [] pairs = tt
 rising-head block (other ∷ blocks) pairs =
     (pairs 0 1 block (omega arith) (omega arith), rising-head block blocks (λ i j d low high. skip i j d low high))

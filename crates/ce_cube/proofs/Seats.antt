@@ -3,11 +3,11 @@ use Rattle.std.proofs.Common.{◌≡◌, ℕ, ◌^◌, ◌<◌, ◌≤◌, IsTru
 use Rattle.std.specs.List.{AllByRecursion}
 use Rattle.ce_model.specs.declared.topology.BlockId.{BlockId}
 use Rattle.ce_model.specs.declared.entry.Entry.{Entry}
-use Rattle.ce_model.specs.Node.{Node, Call, takes, sends, spawns, kills, notes, arms, looks, takes_mail, blocks_of}
-use Rattle.ce_model.specs.Saying.{Saying, says, says_in}
-use Rattle.ce_model.specs.Hearing.{Hearing, hears}
-use Rattle.ce_model.specs.Cube.{Cube, CubeState, opening, left_by}
-use Rattle.ce_model.specs.Renaming.{block_outward, heard_with, node_outward, saying_outward}
+use Rattle.ce_model.specs.Node.{Node, Call, take_call, send_call, spawn_call, kill_call, note_call, arm_call, look_call, mail_call, blocks_of}
+use Rattle.ce_model.specs.Saying.{Saying, says, saying_in}
+use Rattle.ce_model.specs.Hearing.{Hearing, node_after_hearing}
+use Rattle.ce_model.specs.Cube.{Cube, CubeState, opening, state_after_trace}
+use Rattle.ce_model.specs.Renaming.{block_outward, renamed_hearing, node_outward, saying_outward}
 use Rattle.ce_model.specs.Owners.{IsBlockOf}
 use Rattle.ce_model.specs.Views.{view}
 use Rattle.ce_model.specs.Machine.{MachineParts, HeldCube, cube_of}
@@ -26,21 +26,21 @@ use Rattle.ce_cube.proofs.Held.{IsSeen, placed-grant}
 -- a node that asked for work asks so again
 pub asks_again : (node : Node) (call : Call) → IsCallOf node call → IsTrue (asks_for_work call) → says node ≡ record { node = node; call = call }
 unfolding says
-asks_again node (takes asking dead poller) of asks = ap (says_in node) of.1 ∙ ap (λ (call : Call). record { node = node; call = call }) (sym of.0)
-asks_again node (sends pid to bytes) of asks = absurd (cc)
-asks_again node (spawns pid image to) of asks = absurd (cc)
-asks_again node (kills pid to) of asks = absurd (cc)
-asks_again node (notes pid word) of asks = absurd (cc)
-asks_again node (arms count) of asks = absurd of
-asks_again node looks of asks = absurd of
-asks_again node takes_mail of asks = absurd of
+asks_again node (take_call asking dead poller) of asks = ap (saying_in node) of.1 ∙ ap (λ (call : Call). record { node = node; call = call }) (sym of.0)
+asks_again node (send_call pid to bytes) of asks = absurd (cc)
+asks_again node (spawn_call pid image to) of asks = absurd (cc)
+asks_again node (kill_call pid to) of asks = absurd (cc)
+asks_again node (note_call pid word) of asks = absurd (cc)
+asks_again node (arm_call count) of asks = absurd of
+asks_again node look_call of asks = absurd of
+asks_again node mail_call of asks = absurd of
 
 module _ (parts : MachineParts) (history : List Entry) (cube : HeldCube) (now : IsSeen parts history cube) (r : ℕ) (below : r < 2 ^ cube.grant.dim) where
   abbrev pub own : Cube
   own = cube_of parts.images cube.grant
 
   abbrev pub s : CubeState
-  s = left_by own (opening own) (view history cube.number)
+  s = state_after_trace own (opening own) (view history cube.number)
 
   at_most : (id : BlockId) → at_node id s r ≤ total id cube.grant.dim s
   at_most id = omega (arith, total-is id cube.grant.dim s, sum_run-part (at_node id s) r 0 (2 ^ cube.grant.dim) (omega arith) (omega (arith, below)))
@@ -56,8 +56,8 @@ module _ (parts : MachineParts) (history : List Entry) (cube : HeldCube) (now : 
       held_blocks own s (blocks_of (says (s.node r)).node) now.stands.sound
       (λ id. omega (arith, at_node-is id s r, at_most id, node-said.became.blocks id, count-nil id))
 
-  pub parcel-blocks : AllByRecursion (IsBlockOf cube.grant.dim) (parcel_ids (s.standing.node_record r).waiting)
-  parcel-blocks = held_blocks own s (parcel_ids (s.standing.node_record r).waiting) now.stands.sound (λ id. omega (arith, at_node-is id s r, at_most id))
+  pub parcel-blocks : AllByRecursion (IsBlockOf cube.grant.dim) (parcel_ids (s.standing.node_record r).waiting_items)
+  parcel-blocks = held_blocks own s (parcel_ids (s.standing.node_record r).waiting_items) now.stands.sound (λ id. omega (arith, at_node-is id s r, at_most id))
 
   pub rest-again : IsTrue (asks_for_work (says (s.node r)).call) → says (says (s.node r)).node ≡ says (s.node r)
   rest-again asks = asks_again (says (s.node r)).node (says (s.node r)).call node-said.of_node asks
@@ -73,8 +73,8 @@ module _ (parts : MachineParts) (history : List Entry) (cube : HeldCube) (now : 
 
   -- and hears what it hears
   pub rest-hears : (heard : Hearing) → IsHeardOf cube.grant.dim heard
-      → hears parts.images (node_outward cube.grant (says (s.node r)).node) (heard_with (block_outward cube.grant) heard)
-      ≡ node_outward cube.grant (hears parts.images (says (s.node r)).node heard)
+      → node_after_hearing parts.images (node_outward cube.grant (says (s.node r)).node) (renamed_hearing (block_outward cube.grant) heard)
+      ≡ node_outward cube.grant (node_after_hearing parts.images (says (s.node r)).node heard)
   rest-hears heard is = (renaming parts.dim cube.grant (says (s.node r)).node (placed-grant parts.dim cube.grant now.placed) rest-blocks).1 parts.images heard is
 
   -- a box at rest says again what it says where that asks for work

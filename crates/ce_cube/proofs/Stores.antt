@@ -5,7 +5,7 @@ use Rattle.std.proofs.lemmas.Bool.{cases_Bool, cases_lt, both_ways, eq-eqb, eqb-
 use Rattle.std.proofs.lemmas.List.Concat.{flat_map_single}
 use Rattle.ce_model.specs.declared.topology.BlockId.{BlockId}
 use Rattle.ce_model.specs.Limits.{home_blocks}
-use Rattle.ce_model.specs.Blocks.{precedes, put_all, blocks_of_home}
+use Rattle.ce_model.specs.Blocks.{is_lower, put_all, blocks_of_home}
 use Rattle.ce_model.specs.Sound.{IsRising}
 use Rattle.ce_model.specs.Renaming.{CubeGrant}
 use Rattle.ce_solo.proofs.Counting.{hit, hit-self, same_from_hit, count, count-nil, count-cons, count-one, count-is, count-run, count-put_all, rising-put_all, all-from_names, precedes-trans, precedes-other, sum_run, sum_run-zero, sum_run-at}
@@ -14,26 +14,26 @@ use Rattle.ce_cube.specs.Rehoming.{is_home, is_block_of, AreAllBlocks, AreSorted
 
 -- ---- two stores
 
-precedes-self : (id : BlockId) → precedes id id ≡ false
+precedes-self : (id : BlockId) → is_lower id id ≡ false
 precedes-self id =
     let home : nat_lt id.home id.home ≡ false = le-ltb _ _ (omega arith) in
     let index : nat_lt id.index id.index ≡ false = le-ltb _ _ (omega arith) in
     let same : (id.home == id.home) ≡ true = eq-eqb id.home id.home refl in
     rw (home, same, index) refl
 
-none_later : (id : BlockId) (ids : List BlockId) → AllByRecursion (λ other. precedes id other ≡ true) ids → count id ids ≡ 0
+none_later : (id : BlockId) (ids : List BlockId) → AllByRecursion (λ other. is_lower id other ≡ true) ids → count id ids ≡ 0
 none_later id [] all = count-nil id
 none_later id (other ∷ ids) all =
     elim (cases_lt (hit id other) 1) [
       | inl none ↦ omega (arith, count-cons id other ids, none, none_later id ids all.1)
-      | inr same ↦ absurd (both_ways _ (precedes-self id) (ap (precedes id) (same_from_hit id other same) ∙ all.0))
+      | inr same ↦ absurd (both_ways _ (precedes-self id) (ap (is_lower id) (same_from_hit id other same) ∙ all.0))
     ]
 
-all_later : (a b : BlockId) (ids : List BlockId) → precedes a b ≡ true → AllByRecursion (λ id. precedes b id ≡ true) ids → AllByRecursion (λ id. precedes a id ≡ true) ids
+all_later : (a b : BlockId) (ids : List BlockId) → is_lower a b ≡ true → AllByRecursion (λ id. is_lower b id ≡ true) ids → AllByRecursion (λ id. is_lower a id ≡ true) ids
 all_later a b [] before all = tt
 all_later a b (id ∷ ids) before all = (precedes-trans a b id before all.0, all_later a b ids before all.1)
 
-none_before : (a b : BlockId) (ids : List BlockId) → precedes a b ≡ true → IsRising (b ∷ ids) → count a (b ∷ ids) ≡ 0
+none_before : (a b : BlockId) (ids : List BlockId) → is_lower a b ≡ true → IsRising (b ∷ ids) → count a (b ∷ ids) ≡ 0
 none_before a b ids before rising = none_later a (b ∷ ids) (before, all_later a b ids before rising.0)
 
 -- two stores with each name as often are the same
@@ -44,7 +44,7 @@ same-store (x ∷ xs) [] rising rising' same = absurd (omega (arith, same x, cou
 same-store (x ∷ xs) (y ∷ ys) rising rising' same =
     elim (cases_lt (hit x y) 1) [
       | inl differ ↦
-          elim (cases_Bool (precedes x y)) [
+          elim (cases_Bool (is_lower x y)) [
             | inl before ↦ absurd (omega (arith, same x, count-cons x x xs, hit-self x, none_before x y ys before rising'))
             | inr behind ↦
                 absurd (omega (arith, same y, count-cons y y ys, hit-self y, none_before y x xs (precedes-other x y behind (omega (arith, differ))) rising))
@@ -61,7 +61,7 @@ same-store (x ∷ xs) (y ∷ ys) rising rising' same =
 name_at : ℕ → ℕ → BlockId
 name_at home index = record { home = home; index = index }
 
-from_index : (home index from n : ℕ) → index < from → AllByRecursion (λ other. precedes (name_at home index) other ≡ true) (map (name_at home) (range_with_len from n))
+from_index : (home index from n : ℕ) → index < from → AllByRecursion (λ other. is_lower (name_at home index) other ≡ true) (map (name_at home) (range_with_len from n))
 unfolding name_at
 from_index home index from zero less = tt
 from_index home index from (suc n) less =

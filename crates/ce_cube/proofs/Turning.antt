@@ -5,7 +5,7 @@ use Rattle.std.specs.Option.{option_map_or}
 use Rattle.std.proofs.lemmas.List.{map-append}
 use Rattle.ce_model.specs.declared.entry.Entry.{Entry}
 use Rattle.ce_model.specs.declared.entry.TakeResult.{TakeResult}
-use Rattle.ce_model.specs.Answers.{call_of}
+use Rattle.ce_model.specs.Answers.{recorded_call}
 use Rattle.ce_model.specs.Node.{Call}
 use Rattle.ce_model.specs.Saying.{says}
 use Rattle.ce_model.specs.Renaming.{block_outward, entry_inward}
@@ -20,7 +20,7 @@ use Rattle.ce_machine.specs.Meanings.{MachineFacts}
 use Rattle.ce_script.specs.Rounds.{given_in, asks_for_work, is_take, is_dispatch, has_work, IsTurn}
 use Rattle.ce_cube.specs.Boxes.{IsSaidBy, IsInStep}
 use Rattle.ce_cube.specs.Crews.{IsReady, cube_grant}
-use Rattle.ce_cube.specs.Exchanges.{HasNode, IsBoxOfNode, HasSaidCall, HasGoneOnAt, HasExchanged, IsTurning, node_in}
+use Rattle.ce_cube.specs.Exchanges.{HasNode, IsBoxOfNode, HasSaidCall, HasGoneOnAt, HasExchanged, IsTurning, machine_node}
 use Rattle.ce_cube.proofs.Says.{boxes-say, asks-renamed}
 use Rattle.ce_cube.proofs.Rounds.{are-made}
 
@@ -44,10 +44,10 @@ said-in m grant r box node is =
 
 -- a box that is in step asks for work
 pub asks-first : (m : MachineFacts) (grant : Grant) (r : ℕ) (box : Box) → HasNode m grant r → IsReady box
-    → IsInStep (cube_grant grant) (node_in m grant r) box.node → asks_for_work (says box.node).call ≡ true
+    → IsInStep (cube_grant grant) (machine_node m grant r) box.node → asks_for_work (says box.node).call ≡ true
 asks-first m grant r box node ready step =
     ap asks_for_work (said-in m grant r box node (record { ready = ready; stands = inr step })).call
-    ∙ asks-renamed (block_outward (cube_grant grant)) (says (node_in m grant r)).call
+    ∙ asks-renamed (block_outward (cube_grant grant)) (says (machine_node m grant r)).call
     ∙ step.asks
 
 -- calls of a node, and then others
@@ -56,7 +56,7 @@ joined-at : (m now now' : MachineFacts) (grant : Grant) (r : ℕ) (made others :
 joined-at m now now' grant r made others first next = record {
   parts = next.parts ∙ first.parts;
   history = next.history ∙ ap (λ h. h ++ others) first.history ∙ append_assoc m.history made others;
-  calls = all-append (λ (entry : Entry). (entry.user ≡ grant.user) × IsTrue (is_some (call_of entry.what))) made others first.calls next.calls;
+  calls = all-append (λ (entry : Entry). (entry.user ≡ grant.user) × IsTrue (is_some (recorded_call entry.what))) made others first.calls next.calls;
   trace = next.trace ∙ ap (λ t. t ++ map (entry_inward grant.sub) others) first.trace
       ∙ append_assoc (view m.history grant.number) (map (entry_inward grant.sub) made) (map (entry_inward grant.sub) others)
       ∙ ap (λ t. view m.history grant.number ++ t) (sym (map-append (entry_inward grant.sub) made others));
@@ -106,9 +106,9 @@ next-called m grant r box box' call is node room call_is said = record { before 
 module _ (m now : MachineFacts) (grant : Grant) (r : ℕ) (box box' : Box) (work : Bool) (count : ℕ) (turn : IsTurning m now grant r box work count)
     (node : box'.node ≡ (says box.node).node) (room : box'.room ≡ box.room) (idle : box'.out ≡ Nothing) (asks : asks_for_work (says box.node).call ≡ true) where
   -- a turn stops where the box asks for work again: it is in step then
-  pub turn-steps : IsInStep (cube_grant grant) (node_in now grant r) box'.node
+  pub turn-steps : IsInStep (cube_grant grant) (machine_node now grant r) box'.node
   turn-steps =
-      subst (IsInStep (cube_grant grant) (node_in now grant r)) (sym node)
+      subst (IsInStep (cube_grant grant) (machine_node now grant r)) (sym node)
       ((said-in now grant r box turn.goes_on.node turn.stands).in_step asks)
 
   -- and stands for its node still

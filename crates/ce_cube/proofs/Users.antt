@@ -7,7 +7,7 @@ use Rattle.ce_model.specs.declared.entry.What.{What}
 use Rattle.ce_model.specs.declared.entry.What.TheVariants.{Getcube}
 use Rattle.ce_model.specs.Lists.{EachAfter}
 use Rattle.ce_model.specs.Renaming.{CubeGrant}
-use Rattle.ce_model.specs.Views.{grant_in, grant_by, grant_or_later, from_grant}
+use Rattle.ce_model.specs.Views.{request_grant, entry_grant, grant_or_later, history_behind_grant}
 use Rattle.ce_model.specs.Machine.{MachineParts, IsLawfulEntry, IsLawful}
 
 users-within : (parts : MachineParts) (before history : List Entry) → EachAfter (IsLawfulEntry parts) before history
@@ -15,7 +15,7 @@ users-within : (parts : MachineParts) (before history : List Entry) → EachAfte
 users-within parts before [] each = tt
 users-within parts before (entry ∷ history) each = (each.0.fits.0, users-within parts (before ++ entry ∷ []) history each.1)
 
-granted_to : (user : ℕ) (what : What) (grant : CubeGrant) → grant_in user what ≡ Some grant → grant.user ≡ user
+granted_to : (user : ℕ) (what : What) (grant : CubeGrant) → request_grant user what ≡ Some grant → grant.user ≡ user
 granted_to user (Getcube dim None) grant e = absurd (cc)
 granted_to user (Getcube dim (Some sub)) grant e = ap (λ found. elim found [ None ↦ user | Some g ↦ g.user ]) (sym e)
 granted_to user other grant e = absurd (cc)
@@ -40,13 +40,13 @@ module _ (users : ℕ) where
       ]
 
   pub found-within : (h : List Entry) (number : ℕ) (found : Found) → AllByRecursion (λ (entry : Entry). entry.user < users) h
-      → from_grant h number ≡ Some found → found.0.user < users
+      → history_behind_grant h number ≡ Some found → found.0.user < users
   found-within [] number found all e = absurd (cc)
   found-within (entry ∷ h) number found all e =
-      within_by (grant_by entry) h number found (from_grant h)
+      within_by (entry_grant entry) h number found (history_behind_grant h)
       (λ grant is. subst (λ u. u < users) (sym (granted_to entry.user entry.what grant is)) all.0) (λ n is. found-within h n found all.1 is) e
 
 pub user-within : (parts : MachineParts) (history : List Entry) (number : ℕ) (grant : CubeGrant) (behind : List Entry) → IsLawful parts history
-    → from_grant history number ≡ Some (grant, behind) → grant.user < parts.users
+    → history_behind_grant history number ≡ Some (grant, behind) → grant.user < parts.users
 user-within parts history number grant behind lawful found =
     found-within parts.users history number (grant, behind) (users-within parts [] history lawful) found

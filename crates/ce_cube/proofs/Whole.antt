@@ -10,13 +10,13 @@ use Rattle.ce_model.specs.declared.entry.Entry.{Entry}
 use Rattle.ce_model.specs.Limits.{home_blocks, host_home, host_home_lem}
 use Rattle.ce_model.specs.Blocks.{is_same_id}
 use Rattle.ce_model.specs.Parcels.{Item, start, mail, kill}
-use Rattle.ce_model.specs.Node.{Node, Call, takes, sends, spawns, kills, notes, arms, looks, takes_mail, blocks_of}
+use Rattle.ce_model.specs.Node.{Node, Call, take_call, send_call, spawn_call, kill_call, note_call, arm_call, look_call, mail_call, blocks_of}
 use Rattle.ce_model.specs.Saying.{says}
 use Rattle.ce_model.specs.Trace.{NodeRecord}
-use Rattle.ce_model.specs.Cube.{Cube, CubeState, opening, left_by, hoststore, node_numbers}
+use Rattle.ce_model.specs.Cube.{Cube, CubeState, opening, state_after_trace, hoststore, node_numbers}
 use Rattle.ce_model.specs.Owners.{IsBlockOf}
 use Rattle.ce_model.specs.Subcubes.{extract, node_of, is_inside}
-use Rattle.ce_model.specs.Renaming.{CubeGrant, block_outward, item_with}
+use Rattle.ce_model.specs.Renaming.{CubeGrant, block_outward, renamed_item}
 use Rattle.ce_model.specs.Views.{view}
 use Rattle.ce_model.specs.Machine.{MachineParts, HeldCube, after, nodes_of, host_record, all_parcels, HasHeldCube, cube_of}
 use Rattle.ce_model.proofs.Subcubes.{is_inside-node_of, node_of-extract}
@@ -48,7 +48,7 @@ ids-flat : (items : ℕ → List Item) (rs : List ℕ) → parcel_ids (flat_map 
 ids-flat items [] = refl
 ids-flat items (r ∷ rs) = ids-append (items r) (flat_map items rs) ∙ ap (λ ids. parcel_ids (items r) ++ ids) (ids-flat items rs)
 
-ids-outward : (rename : BlockId → BlockId) (items : List Item) → parcel_ids (map (item_with rename) items) ≡ map rename (parcel_ids items)
+ids-outward : (rename : BlockId → BlockId) (items : List Item) → parcel_ids (map (renamed_item rename) items) ≡ map rename (parcel_ids items)
 ids-outward rename [] = refl
 ids-outward rename (start pid image ∷ items) = ids-outward rename items
 ids-outward rename (mail parcel ∷ items) = ap (λ ids. rename parcel.block.id ∷ ids) (ids-outward rename items)
@@ -103,14 +103,14 @@ module _ (dim : ℕ) (grant : CubeGrant) (placed : IsPlaced dim grant) where
 
 -- a call that asks for work takes no block out
 asks-no_blocks : (call : Call) → asks_for_work call ≡ true → call_ids call ≡ []
-asks-no_blocks (takes asking dead poller) asks = refl
-asks-no_blocks (sends pid to bytes) asks = absurd (cc)
-asks-no_blocks (spawns pid image to) asks = refl
-asks-no_blocks (kills pid to) asks = refl
-asks-no_blocks (notes pid word) asks = refl
-asks-no_blocks (arms count) asks = refl
-asks-no_blocks looks asks = refl
-asks-no_blocks takes_mail asks = refl
+asks-no_blocks (take_call asking dead poller) asks = refl
+asks-no_blocks (send_call pid to bytes) asks = absurd (cc)
+asks-no_blocks (spawn_call pid image to) asks = refl
+asks-no_blocks (kill_call pid to) asks = refl
+asks-no_blocks (note_call pid word) asks = refl
+asks-no_blocks (arm_call count) asks = refl
+asks-no_blocks look_call asks = refl
+asks-no_blocks mail_call asks = refl
 
 -- ---- the cube that is held
 
@@ -120,7 +120,7 @@ module _ (parts : MachineParts) (history : List Entry) (cube : HeldCube) (now : 
   own = cube_of parts.images cube.grant
 
   abbrev s : CubeState
-  s = left_by own (opening own) (view history cube.number)
+  s = state_after_trace own (opening own) (view history cube.number)
 
   abbrev n : ℕ
   n = 2 ^ cube.grant.dim
@@ -129,7 +129,7 @@ module _ (parts : MachineParts) (history : List Entry) (cube : HeldCube) (now : 
   rest r = (says (s.node r)).node
 
   abbrev waiting : ℕ → List Item
-  waiting r = (s.standing.node_record r).waiting
+  waiting r = (s.standing.node_record r).waiting_items
 
   abbrev all_items : List Item
   all_items = flat_map waiting (node_numbers cube.grant.dim) ++ waiting HOST
@@ -189,20 +189,20 @@ module _ (parts : MachineParts) (history : List Entry) (cube : HeldCube) (now : 
 
   -- what the machine keeps for a number, by whether that is the host's
   abbrev kept_if : Bool → ℕ → List Item
-  kept_if b node = (if b then host_record cube else (after history).node_record node).waiting
+  kept_if b node = (if b then host_record cube else (after history).node_record node).waiting_items
 
-  items-outward : flat_map (λ node. ((after history).node_record node).waiting) (nodes_of cube.grant) ++ cube.mail ≡ map (item_with out) all_items
+  items-outward : flat_map (λ node. ((after history).node_record node).waiting_items) (nodes_of cube.grant) ++ cube.mail ≡ map (renamed_item out) all_items
   items-outward =
       ap₂ (λ xs ys. xs ++ ys)
-      (flat_map-map (λ node. ((after history).node_record node).waiting) (node_of cube.grant.sub) (node_numbers cube.grant.dim)
-      ∙ flat-outward (item_with out) waiting (λ r. ((after history).node_record (node_of cube.grant.sub r)).waiting) 0 n
+      (flat_map-map (λ node. ((after history).node_record node).waiting_items) (node_of cube.grant.sub) (node_numbers cube.grant.dim)
+      ∙ flat-outward (renamed_item out) waiting (λ r. ((after history).node_record (node_of cube.grant.sub r)).waiting_items) 0 n
       (λ r below. waits_outward r (omega (arith, below))))
       now.standing.host
-      ∙ sym (map-append (item_with out) (flat_map waiting (node_numbers cube.grant.dim)) (waiting HOST))
+      ∙ sym (map-append (renamed_item out) (flat_map waiting (node_numbers cube.grant.dim)) (waiting HOST))
     where
-      waits_outward : (r : ℕ) → r < n → ((after history).node_record (node_of cube.grant.sub r)).waiting ≡ map (item_with out) (waiting r)
+      waits_outward : (r : ℕ) → r < n → ((after history).node_record (node_of cube.grant.sub r)).waiting_items ≡ map (renamed_item out) (waiting r)
       waits_outward r below =
-          sym (ap (λ b. kept_if b (node_of cube.grant.sub r)) (out_no_host parts.dim cube.grant now.placed r)) ∙ ap (λ (kept : NodeRecord). kept.waiting) (now.standing.nodes r below)
+          sym (ap (λ b. kept_if b (node_of cube.grant.sub r)) (out_no_host parts.dim cube.grant now.placed r)) ∙ ap (λ (kept : NodeRecord). kept.waiting_items) (now.standing.nodes r below)
 
   outer-is : outer ≡ map out inner
   outer-is =

@@ -3,7 +3,7 @@ use Rattle.std.specs.Prelude.{◌≡◌, ◌≢◌, ℕ, ◌^◌, ◌<◌, false
 use Rattle.std.specs.List.{AllByRecursion}
 use Rattle.ce_model.specs.declared.topology.TheConstants.{HOST}
 use Rattle.ce_model.specs.declared.entry.Entry.{Entry}
-use Rattle.ce_model.specs.Answers.{call_of}
+use Rattle.ce_model.specs.Answers.{recorded_call}
 use Rattle.ce_model.specs.Subcubes.{node_of}
 use Rattle.ce_model.specs.Renaming.{CubeGrant, entry_inward}
 use Rattle.ce_model.specs.Views.{view}
@@ -12,7 +12,7 @@ use Rattle.ce_lock.specs.Entries.{entries_of}
 use Rattle.ce_machine.specs.Meanings.{MachineFacts, whose, is_alone_entry}
 use Rattle.ce_script.specs.Moments.{own_entries}
 use Rattle.ce_script.specs.Rounds.{RoundKind, serial, threaded}
-use Rattle.ce_cube.specs.Boxes.{IsHeldAs, node_now, store_now}
+use Rattle.ce_cube.specs.Boxes.{IsHeldAs, trace_node, trace_store}
 
 -- the entries of one actor of a user among these
 abbrev pub actor_entries : ℕ → ℕ → List Entry → List Entry
@@ -21,7 +21,7 @@ actor_entries user actor entries = entries_of whose (record { family = user; act
 -- the calls of a cube among these, as the cube knows them
 abbrev pub cube_entries : CubeGrant → List Entry → List Entry
 cube_entries grant entries =
-    map (entry_inward grant.sub) (filter (λ entry. entry.user == grant.user && is_some (call_of entry.what)) entries)
+    map (entry_inward grant.sub) (filter (λ entry. entry.user == grant.user && is_some (recorded_call entry.what)) entries)
 
 -- no entry of the user is one of a call that is made alone
 abbrev pub AreNotMadeAlone : ℕ → List Entry → Type 0
@@ -30,7 +30,7 @@ AreNotMadeAlone user more = AllByRecursion (λ entry. entry.user ≡ user → is
 -- the entry is made by a host, or is that of a call by one of the cube's nodes; whose user it is isn't said
 abbrev pub IsByHostOrNode : CubeGrant → Entry → Type 0
 IsByHostOrNode grant entry =
-    (entry.actor ≡ HOST) ⊎ ((r : ℕ) × (r < 2 ^ grant.dim) × (entry.actor ≡ node_of grant.sub r) × IsTrue (is_some (call_of entry.what)))
+    (entry.actor ≡ HOST) ⊎ ((r : ℕ) × (r < 2 ^ grant.dim) × (entry.actor ≡ node_of grant.sub r) × IsTrue (is_some (recorded_call entry.what)))
 
 -- The cube of this number and grant is held on behind these entries, and its trace is longer by its calls among them. A node
 -- that made none of them is what it was, and so is the host's store where the host made none. Each entry of its user among
@@ -39,8 +39,8 @@ pub record IsHeldBeside (parts : MachineParts) (history : List Entry) (number : 
   pub held : IsHeldAs (history ++ more) number grant
   pub trace : view (history ++ more) number ≡ view history number ++ cube_entries grant more
   pub nodes : (r : ℕ) → r < 2 ^ grant.dim → actor_entries grant.user (node_of grant.sub r) more ≡ []
-      → node_now parts (history ++ more) number grant r ≡ node_now parts history number grant r
-  pub store : actor_entries grant.user HOST more ≡ [] → store_now parts (history ++ more) number grant ≡ store_now parts history number grant
+      → trace_node parts (history ++ more) number grant r ≡ trace_node parts history number grant r
+  pub store : actor_entries grant.user HOST more ≡ [] → trace_store parts (history ++ more) number grant ≡ trace_store parts history number grant
   pub actors : AllByRecursion (λ entry. entry.user ≡ grant.user → IsByHostOrNode grant entry) more
 
 -- the machine went on by entries of other users alone, and its history is lawful

@@ -8,13 +8,13 @@ use Rattle.ce_model.specs.declared.topology.BlockId.{BlockId}
 use Rattle.ce_model.specs.Limits.{host_home, greatest_blocks}
 use Rattle.ce_model.specs.Blocks.{put, is_same_id, blocks_of_home}
 use Rattle.ce_model.specs.Parcels.{Parcel}
-use Rattle.ce_model.specs.Node.{Node, fresh, Call}
+use Rattle.ce_model.specs.Node.{Node, opening_node, Call}
 use Rattle.ce_model.specs.Saying.{says}
 use Rattle.ce_model.specs.Cube.{opening, state, hoststore}
 use Rattle.ce_model.specs.Subcubes.{node_of}
-use Rattle.ce_model.specs.Renaming.{CubeGrant, block_outward, call_with, entry_inward, node_outward}
+use Rattle.ce_model.specs.Renaming.{CubeGrant, block_outward, renamed_call_blocks, entry_inward, node_outward}
 use Rattle.ce_model.specs.Views.{view}
-use Rattle.ce_model.specs.Machine.{MachineParts, HeldCube, IsLawful, IsFitting, HasHeldCube, in_cube, what_of_request, after, held_by, standing_of, cube_of}
+use Rattle.ce_model.specs.Machine.{MachineParts, HeldCube, IsLawful, IsFitting, HasHeldCube, in_cube, what_of_request, after, cube_held_by, cube_standing, cube_of}
 use Rattle.rk_mail.specs.declared.talk.Hearing.{Hearing}
 use Rattle.rk_mail.specs.Talk.{IsHeardIn}
 use Rattle.ce_script.specs.Rounds.{asks_for_work}
@@ -22,18 +22,18 @@ use Rattle.ce_script.specs.Rounds.{asks_for_work}
 -- after this history the machine holds the cube of this number and this grant, and it wasn't drained
 pub record IsHeldAs (history : List Entry) (number : ℕ) (grant : CubeGrant) : Type 0 where
   pub cube : HeldCube
-  pub held : held_by (after history) grant.user ≡ Some cube
+  pub held : cube_held_by (after history) grant.user ≡ Some cube
   pub number_is : cube.number ≡ number
   pub grant_is : cube.grant ≡ grant
-  pub goes_on : cube.drained ≡ false
+  pub goes_on : cube.is_drained ≡ false
 
 -- node r of this cube after its trace in the history
-abbrev pub node_now : MachineParts → List Entry → ℕ → CubeGrant → ℕ → Node
-node_now parts history number grant r = state (cube_of parts.images grant) (opening (cube_of parts.images grant)) r (view history number)
+abbrev pub trace_node : MachineParts → List Entry → ℕ → CubeGrant → ℕ → Node
+trace_node parts history number grant r = state (cube_of parts.images grant) (opening (cube_of parts.images grant)) r (view history number)
 
 -- the blocks in its host's store, as the cube names them
-abbrev pub store_now : MachineParts → List Entry → ℕ → CubeGrant → List BlockId
-store_now parts history number grant = hoststore (opening (cube_of parts.images grant)) (view history number)
+abbrev pub trace_store : MachineParts → List Entry → ℕ → CubeGrant → List BlockId
+trace_store parts history number grant = hoststore (opening (cube_of parts.images grant)) (view history number)
 
 -- ---- boxes
 
@@ -52,18 +52,18 @@ IsStandIn grant node box = (box ≡ node_outward grant node) ⊎ IsInStep grant 
 
 -- all boxes of a cube, by relative number, are in step with its nodes
 abbrev pub AreInStep : MachineParts → List Entry → ℕ → CubeGrant → (ℕ → Node) → Type 0
-AreInStep parts history number grant box = (r : ℕ) → r < 2 ^ grant.dim → IsInStep grant (node_now parts history number grant r) (box r)
+AreInStep parts history number grant box = (r : ℕ) → r < 2 ^ grant.dim → IsInStep grant (trace_node parts history number grant r) (box r)
 
 -- ---- what a box says
 
 -- what a box says that stands for node r is what the node says, with the machine's names; the call fits, and a call that asks for work is
 -- said again
 pub record IsSaidBy (parts : MachineParts) (history : List Entry) (number : ℕ) (grant : CubeGrant) (r : ℕ) (box : Node) : Type 0 where
-  pub at_rest : IsAtRest grant (node_now parts history number grant r) (says box).node
-  pub call : (says box).call ≡ call_with (block_outward grant) (says (node_now parts history number grant r)).call
+  pub at_rest : IsAtRest grant (trace_node parts history number grant r) (says box).node
+  pub call : (says box).call ≡ renamed_call_blocks (block_outward grant) (says (trace_node parts history number grant r)).call
   pub fits : IsFitting parts history grant.user (node_of grant.sub r) (in_cube (says box).call)
   pub again : IsTrue (asks_for_work (says box).call) → says (says box).node ≡ says box
-  pub in_step : IsTrue (asks_for_work (says box).call) → IsInStep grant (node_now parts history number grant r) (says box).node
+  pub in_step : IsTrue (asks_for_work (says box).call) → IsInStep grant (trace_node parts history number grant r) (says box).node
 
 -- ---- one entry more
 
@@ -79,23 +79,23 @@ pub record IsOneMore (parts : MachineParts) (history : List Entry) (number : ℕ
   pub held : IsHeldAs (history ++ entry ∷ []) number grant
   pub trace : view (history ++ entry ∷ []) number ≡ view history number ++ entry_inward grant.sub entry ∷ []
   pub others : (q r : ℕ) → q < 2 ^ grant.dim → entry.actor ≡ node_of grant.sub q → (q == r) ≡ false
-      → node_now parts (history ++ entry ∷ []) number grant r ≡ node_now parts history number grant r
+      → trace_node parts (history ++ entry ∷ []) number grant r ≡ trace_node parts history number grant r
   pub all : entry.actor ≡ HOST → (r : ℕ) → r < 2 ^ grant.dim
-      → node_now parts (history ++ entry ∷ []) number grant r ≡ node_now parts history number grant r
-  pub store : (entry.actor == HOST) ≡ false → store_now parts (history ++ entry ∷ []) number grant ≡ store_now parts history number grant
+      → trace_node parts (history ++ entry ∷ []) number grant r ≡ trace_node parts history number grant r
+  pub store : (entry.actor == HOST) ≡ false → trace_store parts (history ++ entry ∷ []) number grant ≡ trace_store parts history number grant
 
 -- node r hears so in answer to a call that made an entry of this
-abbrev pub IsAnswered : List Entry → CubeGrant → ℕ → What → Hearing → Type 0
-IsAnswered history grant r what heard =
-    HasHeldCube history grant.user (λ cube. IsHeardIn ((standing_of (after history) cube).node_record (node_of grant.sub r)).waiting what heard)
+abbrev pub IsHeardByNode : List Entry → CubeGrant → ℕ → What → Hearing → Type 0
+IsHeardByNode history grant r what heard =
+    HasHeldCube history grant.user (λ cube. IsHeardIn ((cube_standing (after history) cube).node_record (node_of grant.sub r)).waiting_items what heard)
 
 -- the cube of this number and this grant is held on behind an entry that is none of its calls, with the same trace
 pub record IsAside (parts : MachineParts) (history : List Entry) (number : ℕ) (grant : CubeGrant) (entry : Entry) : Type 0 where
   pub lawful : IsLawful parts (history ++ entry ∷ [])
   pub held : IsHeldAs (history ++ entry ∷ []) number grant
   pub trace : view (history ++ entry ∷ []) number ≡ view history number
-  pub nodes : (r : ℕ) → node_now parts (history ++ entry ∷ []) number grant r ≡ node_now parts history number grant r
-  pub store : store_now parts (history ++ entry ∷ []) number grant ≡ store_now parts history number grant
+  pub nodes : (r : ℕ) → trace_node parts (history ++ entry ∷ []) number grant r ≡ trace_node parts history number grant r
+  pub store : trace_store parts (history ++ entry ∷ []) number grant ≡ trace_store parts history number grant
 
 -- ---- a cube that was just granted
 
@@ -108,10 +108,10 @@ pub record IsBegun (parts : MachineParts) (history : List Entry) (grant : CubeGr
   pub lawful : IsLawful parts (history ++ grant_entry grant ∷ [])
   pub held : IsHeldAs (history ++ grant_entry grant ∷ []) (after history).grant_count grant
   pub trace : view (history ++ grant_entry grant ∷ []) (after history).grant_count ≡ []
-  pub nodes : (r : ℕ) → node_now parts (history ++ grant_entry grant ∷ []) (after history).grant_count grant r ≡ fresh r grant.dim (length parts.images)
-  pub store : store_now parts (history ++ grant_entry grant ∷ []) (after history).grant_count grant ≡ blocks_of_home host_home
-  pub in_step : (r : ℕ) → IsInStep grant (node_now parts (history ++ grant_entry grant ∷ []) (after history).grant_count grant r)
-      (node_outward grant (fresh r grant.dim (length parts.images)))
+  pub nodes : (r : ℕ) → trace_node parts (history ++ grant_entry grant ∷ []) (after history).grant_count grant r ≡ opening_node r grant.dim (length parts.images)
+  pub store : trace_store parts (history ++ grant_entry grant ∷ []) (after history).grant_count grant ≡ blocks_of_home host_home
+  pub in_step : (r : ℕ) → IsInStep grant (trace_node parts (history ++ grant_entry grant ∷ []) (after history).grant_count grant r)
+      (node_outward grant (opening_node r grant.dim (length parts.images)))
 
 -- the entry that drains a cube
 abbrev pub drain_entry : CubeGrant → Entry
@@ -122,7 +122,7 @@ drain_entry grant = record { user = grant.user; actor = HOST; what = Drain }
 -- a parcel that the host has taken is new to its store, which has room for it, and its block is in the store behind the entry; with the
 -- machine's names
 pub record IsAccepted (parts : MachineParts) (history : List Entry) (number : ℕ) (grant : CubeGrant) (entry : Entry) (parcel : Parcel) : Type 0 where
-  pub new : count_by (is_same_id parcel.block.id) (map (block_outward grant) (store_now parts history number grant)) ≡ 0
-  pub room : length (store_now parts history number grant) < greatest_blocks
-  pub stored : map (block_outward grant) (store_now parts (history ++ entry ∷ []) number grant)
-      ≡ put parcel.block.id (map (block_outward grant) (store_now parts history number grant))
+  pub new : count_by (is_same_id parcel.block.id) (map (block_outward grant) (trace_store parts history number grant)) ≡ 0
+  pub room : length (trace_store parts history number grant) < greatest_blocks
+  pub stored : map (block_outward grant) (trace_store parts (history ++ entry ∷ []) number grant)
+      ≡ put parcel.block.id (map (block_outward grant) (trace_store parts history number grant))

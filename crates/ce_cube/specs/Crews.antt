@@ -6,7 +6,7 @@ use Rattle.ce_model.specs.Limits.{greatest_dim, host_home, greatest_blocks}
 use Rattle.ce_model.specs.Blocks.{Block, blocks_of_home}
 use Rattle.ce_model.specs.Node.{blocks_of}
 use Rattle.ce_model.specs.Subcubes.{IsSubcube, node_of}
-use Rattle.ce_model.specs.Answers.{call_of}
+use Rattle.ce_model.specs.Answers.{recorded_call}
 use Rattle.ce_model.specs.Cube.{Cube, node_numbers, opening, hoststore}
 use Rattle.ce_model.specs.Renaming.{CubeGrant, block_outward, entry_inward}
 use Rattle.ce_model.specs.Views.{view}
@@ -73,7 +73,7 @@ pub record IsCrewInStep (parts : MachineParts) (history : List Entry) (crew : Se
 
 -- these entries are calls of this user's cube
 abbrev pub AreCallsOf : ℕ → List Entry → Type 0
-AreCallsOf user made = AllByRecursion (λ entry. (entry.user ≡ user) × IsTrue (is_some (call_of entry.what))) made
+AreCallsOf user made = AllByRecursion (λ entry. (entry.user ≡ user) × IsTrue (is_some (recorded_call entry.what))) made
 
 -- Calls of a crew's cube went on with the machine's history: these entries, which make the cube's trace longer. The crew is in step again.
 pub record HasGoneOn (before after : MachineFacts) (crew crew' : SerialCrew) (made : List Entry) : Type 0 where

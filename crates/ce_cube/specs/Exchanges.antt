@@ -11,19 +11,19 @@ use Rattle.rk_node.specs.Boxes.{Box}
 use Rattle.rk_node.specs.Answering.{HasSaid}
 use Rattle.ce_machine.specs.Meanings.{MachineFacts}
 use Rattle.ce_script.specs.Rounds.{asks_for_work, is_take, is_dispatch, IsTurn, has_work}
-use Rattle.ce_cube.specs.Boxes.{IsHeldAs, IsStandIn, node_now, store_now}
+use Rattle.ce_cube.specs.Boxes.{IsHeldAs, IsStandIn, trace_node, trace_store}
 use Rattle.ce_cube.specs.Hearable.{calls_left}
 use Rattle.ce_cube.specs.Rounds.{dispatches_left, IsPartOfRound}
 use Rattle.ce_cube.specs.declared.crew.SerialCrew.{SerialCrew}
 use Rattle.ce_cube.specs.Crews.{IsLawfulMachine, IsReady, AreCallsOf, HasGoneOn, cube_grant}
 
 -- node r of this cube after the machine's history
-abbrev pub node_in : MachineFacts → Grant → ℕ → Node
-node_in machine grant r = node_now machine.parts machine.history grant.number (cube_grant grant) r
+abbrev pub machine_node : MachineFacts → Grant → ℕ → Node
+machine_node machine grant r = trace_node machine.parts machine.history grant.number (cube_grant grant) r
 
 -- the blocks in its host's store
-abbrev pub store_in : MachineFacts → Grant → List BlockId
-store_in machine grant = store_now machine.parts machine.history grant.number (cube_grant grant)
+abbrev pub machine_store : MachineFacts → Grant → List BlockId
+machine_store machine grant = trace_store machine.parts machine.history grant.number (cube_grant grant)
 
 -- how many dispatches are still allowed in the cube
 abbrev pub left_in : MachineFacts → Grant → ℕ
@@ -38,7 +38,7 @@ pub record HasNode (machine : MachineFacts) (grant : Grant) (r : ℕ) : Type 0 w
 -- the box stands for node r, and no call of it but a Take is out
 pub record IsBoxOfNode (machine : MachineFacts) (grant : Grant) (r : ℕ) (box : Box) : Type 0 where
   pub ready : IsReady box
-  pub stands : IsStandIn (cube_grant grant) (node_in machine grant r) box.node
+  pub stands : IsStandIn (cube_grant grant) (machine_node machine grant r) box.node
 
 -- the box, which was this one and stood for node r, has said this call
 pub record HasSaidCall (machine : MachineFacts) (grant : Grant) (r : ℕ) (box box' : Box) (call : Call) : Type 0 where
@@ -55,8 +55,8 @@ pub record HasGoneOnAt (before after : MachineFacts) (grant : Grant) (r : ℕ) (
   pub calls : AreCallsOf grant.user made
   pub trace : view after.history grant.number ≡ view before.history grant.number ++ map (entry_inward grant.sub) made
   pub node : HasNode after grant r
-  pub others : (other : ℕ) → other < 2 ^ grant.dim → (other == r) ≡ false → node_in after grant other ≡ node_in before grant other
-  pub store : store_in after grant ≡ store_in before grant
+  pub others : (other : ℕ) → other < 2 ^ grant.dim → (other == r) ≡ false → machine_node after grant other ≡ machine_node before grant other
+  pub store : machine_store after grant ≡ machine_store before grant
   pub few : length after.history < 2 ^ 63
 
 -- The call of a box that stood for node r was answered: the machine has one entry more, a Take where the call asked for work, and a dispatch where

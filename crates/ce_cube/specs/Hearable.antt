@@ -6,7 +6,7 @@ use Rattle.ce_model.specs.Blocks.{is_same_id}
 use Rattle.ce_model.specs.Parcels.{Parcel, mail, is_eligible}
 use Rattle.ce_model.specs.Process.{is_receiving, is_stopped}
 use Rattle.ce_model.specs.Node.{Turn, Node, process_at, blocks_of, ids_of}
-use Rattle.ce_model.specs.Hearing.{Hearing, start_of, mail_of, kill_of, poll_of, told, nothing}
+use Rattle.ce_model.specs.Hearing.{Hearing, start_of, mail_of, kill_of, poll_of, answer_of, nothing}
 use Rattle.ce_model.specs.Sound.{is_unborn, is_polling}
 use Rattle.rk_mail.specs.declared.talk.Hearing as program
 use Rattle.rk_mail.specs.Talk.{heard_as, IsAnswerTo}
@@ -40,11 +40,11 @@ pub record IsEndable (node : Node) (pid : ℕ) : Type 0 where
 pub record IsPoller (node : Node) (pid : ℕ) : Type 0 where
   pub pid_within : pid < process_count
   pub polls : IsTrue (is_polling (process_at node pid).status)
-  pub first : slice_get node.polling 0 ≡ Some pid
+  pub first : slice_get node.polling_ids 0 ≡ Some pid
   pub between_turns : node.turn ≡ None
 
 -- there is a turn, of a process whose call can be answered
-pub record IsInTurn (node : Node) : Type 0 where
+pub record HasAnswerableTurn (node : Node) : Type 0 where
   pub turn : Turn
   pub is : node.turn ≡ Some turn
 
@@ -54,7 +54,7 @@ IsHearable images node (start_of pid image) = IsStartable images node pid image
 IsHearable images node (mail_of parcel) = IsDeliverable node parcel
 IsHearable images node (kill_of pid) = IsEndable node pid
 IsHearable images node (poll_of pid) = IsPoller node pid
-IsHearable images node (told value) = IsInTurn node
+IsHearable images node (answer_of value) = HasAnswerableTurn node
 IsHearable images node nothing = Unit {0}
 
 -- what is heard is an answer to what was said, and the node can hear it
@@ -65,9 +65,9 @@ pub record IsRightAnswer (images : List ImageParts) (said : Saying) (heard : pro
 -- ---- how long a turn can be
 
 -- how many counted calls a turn may still make; none where there is no turn
-abbrev pub calls_left_in : Option Turn → ℕ
-calls_left_in None = 0
-calls_left_in (Some turn) = turn_calls - turn.calls
+abbrev pub turn_calls_left : Option Turn → ℕ
+turn_calls_left None = 0
+turn_calls_left (Some turn) = turn_calls - turn.calls
 
 abbrev pub calls_left : Node → ℕ
-calls_left node = calls_left_in node.turn
+calls_left node = turn_calls_left node.turn

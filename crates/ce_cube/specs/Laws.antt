@@ -8,22 +8,22 @@ use Rattle.ce_model.specs.Parcels.{Parcel}
 use Rattle.ce_model.specs.declared.entry.What.TheVariants.{Peek, Look, HostTake}
 use Rattle.ce_model.specs.declared.entry.LookResult.TheVariants.{Busy}
 use Rattle.ce_model.specs.declared.topology.TheConstants.{HOST}
-use Rattle.ce_model.specs.Node.{Node, Call, arms, sends, takes_mail, looks, is_place}
+use Rattle.ce_model.specs.Node.{Node, Call, arm_call, send_call, mail_call, look_call, is_place}
 use Rattle.ce_model.specs.Saying.{says}
-use Rattle.ce_model.specs.Hearing.{hears}
+use Rattle.ce_model.specs.Hearing.{node_after_hearing}
 use Rattle.ce_model.specs.Subcubes.{node_of}
-use Rattle.ce_model.specs.Renaming.{CubeGrant, block_outward, call_with, node_outward}
+use Rattle.ce_model.specs.Renaming.{CubeGrant, block_outward, renamed_call_blocks, node_outward}
 use Rattle.ce_model.specs.Trace.{standing}
 use Rattle.ce_model.specs.Answers.{is_quiet, is_used_up}
 use Rattle.ce_model.specs.Cube.{opening, node_numbers, HostCall, host_call, parcel_numbered}
 use Rattle.ce_model.specs.Views.{view}
-use Rattle.ce_model.specs.Machine.{MachineParts, IsMachine, IsLawful, IsLawfulEntry, IsWithinLimits, IsFitting, HasHeldCube, getcube, drain, freecube, in_cube, what_of_request, after, all_parcels, cube_of}
+use Rattle.ce_model.specs.Machine.{MachineParts, IsMachine, IsLawful, IsLawfulEntry, IsCallWithinLimits, IsFitting, HasHeldCube, getcube, drain, freecube, in_cube, what_of_request, after, all_parcels, cube_of}
 use Rattle.rk_mail.specs.declared.talk.Hearing.{Hearing}
 use Rattle.ce_solo.specs.Laws.{OfEachTrace}
 use Rattle.rk_mail.specs.Talk.{heard_as}
 use Rattle.ce_script.specs.Rounds.{is_take, is_dispatch, asks_for_work, AreTurnsOver, RoundKind, IsRoundWithoutWork}
 use Rattle.ce_cube.specs.Hearable.{IsRightAnswer, calls_left}
-use Rattle.ce_cube.specs.Boxes.{IsHeldAs, node_now, IsStandIn, AreInStep, IsAccepted, IsSaidBy, IsMadeBy, IsOneMore, IsAnswered, IsAside, grant_entry, drain_entry, IsBegun, store_now}
+use Rattle.ce_cube.specs.Boxes.{IsHeldAs, trace_node, IsStandIn, AreInStep, IsAccepted, IsSaidBy, IsMadeBy, IsOneMore, IsHeardByNode, IsAside, grant_entry, drain_entry, IsBegun, trace_store}
 use Rattle.ce_cube.specs.Beside.{AreNotMadeAlone, IsHeldBeside}
 use Rattle.ce_cube.specs.Rounds.{dispatches_left, IsEntryOf}
 use Rattle.ce_cube.specs.Rehoming.{names_in, AreAllBlocks}
@@ -42,7 +42,7 @@ GrantsBegin = (parts : MachineParts) (history : List Entry) (grant : CubeGrant) 
 -- what a box says that stands for a node is the node's next call, which fits
 abbrev pub BoxesSay : Type 0
 BoxesSay = OfEachHeld (λ parts history number grant. (r : ℕ) (box : Node) → r < 2 ^ grant.dim
-    → IsStandIn grant (node_now parts history number grant r) box → IsSaidBy parts history number grant r box)
+    → IsStandIn grant (trace_node parts history number grant r) box → IsSaidBy parts history number grant r box)
 
 -- a call of the cube that fits makes an entry more of the cube's trace
 abbrev pub CallsAdd : Type 0
@@ -63,47 +63,47 @@ BesideKeeps = OfEachHeld (λ parts history number grant. (more : List Entry) →
 -- the box of the node that made an entry stands for the node behind it, once it has heard the answer
 abbrev pub BoxesHear : Type 0
 BoxesHear = OfEachHeld (λ parts history number grant. (r : ℕ) (box : Node) (entry : Entry) (heard : Hearing) → r < 2 ^ grant.dim
-    → IsStandIn grant (node_now parts history number grant r) box → IsMadeBy parts history grant (node_of grant.sub r) (says box).call entry
-    → IsAnswered history grant r entry.what heard
-    → hears parts.images (says box).node (heard_as heard) ≡ node_outward grant (node_now parts (history ++ entry ∷ []) number grant r))
+    → IsStandIn grant (trace_node parts history number grant r) box → IsMadeBy parts history grant (node_of grant.sub r) (says box).call entry
+    → IsHeardByNode history grant r entry.what heard
+    → node_after_hearing parts.images (says box).node (heard_as heard) ≡ node_outward grant (trace_node parts (history ++ entry ∷ []) number grant r))
 
 -- and it can hear that answer, which is one to its call
 abbrev pub BoxesCanHear : Type 0
 BoxesCanHear = OfEachHeld (λ parts history number grant. (r : ℕ) (box : Node) (entry : Entry) (heard : Hearing) → r < 2 ^ grant.dim
-    → IsStandIn grant (node_now parts history number grant r) box → IsMadeBy parts history grant (node_of grant.sub r) (says box).call entry
-    → IsAnswered history grant r entry.what heard → IsRightAnswer parts.images (says box) heard)
+    → IsStandIn grant (trace_node parts history number grant r) box → IsMadeBy parts history grant (node_of grant.sub r) (says box).call entry
+    → IsHeardByNode history grant r entry.what heard → IsRightAnswer parts.images (says box) heard)
 
 -- by each call that asks for no work a turn has fewer calls left
 abbrev pub TurnsEnd : Type 0
 TurnsEnd = OfEachHeld (λ parts history number grant. (r : ℕ) (box : Node) (entry : Entry) (heard : Hearing) → r < 2 ^ grant.dim
-    → IsStandIn grant (node_now parts history number grant r) box → IsMadeBy parts history grant (node_of grant.sub r) (says box).call entry
-    → IsAnswered history grant r entry.what heard → IsFalse (asks_for_work (says box).call)
-    → calls_left (hears parts.images (says box).node (heard_as heard)) < calls_left box)
+    → IsStandIn grant (trace_node parts history number grant r) box → IsMadeBy parts history grant (node_of grant.sub r) (says box).call entry
+    → IsHeardByNode history grant r entry.what heard → IsFalse (asks_for_work (says box).call)
+    → calls_left (node_after_hearing parts.images (says box).node (heard_as heard)) < calls_left box)
 
 -- ---- the host
 
 -- what a user has its host do fits
 abbrev pub HostsFit : Type 0
 HostsFit = OfEachHeld (λ parts history number grant. (asked : HostCall) (call : Call)
-    → host_call (cube_of parts.images grant) (store_now parts history number grant) asked ≡ Some call → IsWithinLimits call
-    → IsFitting parts history grant.user HOST (in_cube (call_with (block_outward grant) call)))
+    → host_call (cube_of parts.images grant) (trace_store parts history number grant) asked ≡ Some call → IsCallWithinLimits call
+    → IsFitting parts history grant.user HOST (in_cube (renamed_call_blocks (block_outward grant) call)))
 
 -- a message that the host sends takes the least block out of its store
 abbrev pub HostsSend : Type 0
 HostsSend = OfEachHeld (λ parts history number grant. (to : Place) (id : BlockId) (bytes : List ℕ) (entry : Entry)
-    → slice_get (store_now parts history number grant) 0 ≡ Some id → is_place grant.dim to ≡ true → length bytes ≤ block_room
-    → IsMadeBy parts history grant HOST (sends 0 ((to, block_outward grant id) ∷ []) bytes) entry
-    → store_now parts (history ++ entry ∷ []) number grant ≡ drop 1 (store_now parts history number grant))
+    → slice_get (trace_store parts history number grant) 0 ≡ Some id → is_place grant.dim to ≡ true → length bytes ≤ block_room
+    → IsMadeBy parts history grant HOST (send_call 0 ((to, block_outward grant id) ∷ []) bytes) entry
+    → trace_store parts (history ++ entry ∷ []) number grant ≡ drop 1 (trace_store parts history number grant))
 
 -- a message that it takes puts its block in
 abbrev pub HostsTake : Type 0
-HostsTake = OfEachHeld (λ parts history number grant. (number' : ℕ) (parcel : Parcel) (entry : Entry) → IsMadeBy parts history grant HOST takes_mail entry
+HostsTake = OfEachHeld (λ parts history number grant. (number' : ℕ) (parcel : Parcel) (entry : Entry) → IsMadeBy parts history grant HOST mail_call entry
     → entry.what ≡ HostTake (Some number') → HasHeldCube history grant.user (λ cube. parcel_numbered number' cube.mail ≡ Some parcel)
     → IsAccepted parts history number grant entry parcel)
 
 -- so many dispatches are left as the host has just allowed
 abbrev pub ArmsAllow : Type 0
-ArmsAllow = OfEachHeld (λ parts history number grant. (count : ℕ) (entry : Entry) → count ≤ greatest_count → IsMadeBy parts history grant HOST (arms count) entry
+ArmsAllow = OfEachHeld (λ parts history number grant. (count : ℕ) (entry : Entry) → count ≤ greatest_count → IsMadeBy parts history grant HOST (arm_call count) entry
     → dispatches_left parts (history ++ entry ∷ []) number grant ≡ count)
 
 -- a cube that is held can be drained, and is given back behind that
@@ -116,18 +116,18 @@ DrainsFit = OfEachHeld (λ parts history number grant. IsFitting parts history g
 -- an entry of a node is of its turn, and takes a dispatch exactly where it gives work
 abbrev pub EntriesCount : Type 0
 EntriesCount = OfEachHeld (λ parts history number grant. (r : ℕ) (box : Node) (entry : Entry) (heard : Hearing) → r < 2 ^ grant.dim
-    → IsStandIn grant (node_now parts history number grant r) box → IsMadeBy parts history grant (node_of grant.sub r) (says box).call entry
-    → IsAnswered history grant r entry.what heard → IsEntryOf parts history number grant r (says box).call entry heard)
+    → IsStandIn grant (trace_node parts history number grant r) box → IsMadeBy parts history grant (node_of grant.sub r) (says box).call entry
+    → IsHeardByNode history grant r entry.what heard → IsEntryOf parts history number grant r (says box).call entry heard)
 
 -- right behind a Take that gives it no work, the last entry of the trace, a node asks for work again
 abbrev pub IdleAsks : Type 0
 IdleAsks = OfEachHeld (λ parts history number grant. (r : ℕ) (before : List Entry) (entry : Entry) → view history number ≡ before ++ entry ∷ []
     → entry.actor ≡ r → IsTrue (is_take entry) → IsFalse (is_dispatch entry)
-    → IsTrue (asks_for_work (says (node_now parts history number grant r)).call))
+    → IsTrue (asks_for_work (says (trace_node parts history number grant r)).call))
 
 -- where all boxes are in step no turn is open
-abbrev pub StepsEndTurns : Type 0
-StepsEndTurns = (parts : MachineParts) (history : List Entry) (number : ℕ) (grant : CubeGrant) (box : ℕ → Node)
+abbrev pub BoxesInStepEndTurns : Type 0
+BoxesInStepEndTurns = (parts : MachineParts) (history : List Entry) (number : ℕ) (grant : CubeGrant) (box : ℕ → Node)
     → AreInStep parts history number grant box → AreTurnsOver (cube_of parts.images grant) (opening (cube_of parts.images grant)) (view history number)
 
 -- behind a round without work, of either kind, a cube is quiet, or its dispatches are used up
@@ -138,7 +138,7 @@ RoundsRest = OfEachTrace (λ cube o t. (kind : RoundKind) (before round : List E
 -- so a look right behind one never finds it busy
 abbrev pub LooksEnd : Type 0
 LooksEnd = OfEachHeld (λ parts history number grant. (kind : RoundKind) (before round : List Entry) (entry : Entry)
-    → view history number ≡ before ++ round → IsRoundWithoutWork kind grant.dim round → IsMadeBy parts history grant HOST looks entry → (entry.what ≡ Look Busy) → ⊥)
+    → view history number ≡ before ++ round → IsRoundWithoutWork kind grant.dim round → IsMadeBy parts history grant HOST look_call entry → (entry.what ≡ Look Busy) → ⊥)
 
 -- ---- a cube that is given back
 
@@ -146,4 +146,4 @@ LooksEnd = OfEachHeld (λ parts history number grant. (kind : RoundKind) (before
 abbrev pub BlocksAreWhole : Type 0
 BlocksAreWhole = OfEachHeld (λ parts history number grant. (box : ℕ → Node) → AreInStep parts history number grant box
     → HasHeldCube history grant.user (λ cube. AreAllBlocks grant (names_in grant box (all_parcels (after history) cube)
-    (map (block_outward grant) (store_now parts history number grant)))))
+    (map (block_outward grant) (trace_store parts history number grant)))))

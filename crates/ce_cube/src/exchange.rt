@@ -2,7 +2,7 @@
 ghost use Rattle.std.specs.Prelude.{◌≡◌, MatchResult};
 ghost use Rattle.rk_mail.specs.Talk.{call_said};
 ghost use Rattle.rk_node.specs.Boxes.{Box};
-ghost use Rattle.ce_machine.specs.declared.call.Reply.TheVariants.{Heard as ReplyHeard};
+ghost use Rattle.ce_machine.specs.declared.call.Reply.TheVariants as replies;
 ghost use Rattle.rk_mail.specs.declared.talk.Hearing.{Hearing};
 ghost use Rattle.ce_cube.specs.Exchanges.{HasSaidCall, HasExchanged, HasNode};
 ghost use Rattle.ce_cube.specs.Rounds.{is_work_heard};
@@ -53,8 +53,8 @@ pub(crate) fn exchange(
 
 /// What a machine's reply lets a node hear; it lets it hear something.
 fn heard_in(reply: Reply<NodeBox>) -> Hearing
-    requires { (heard : Hearing) × (reply ≡ ReplyHeard heard) }
-    ensures { reply ≡ ReplyHeard result }
+    requires { (heard : Hearing) × (reply ≡ replies.Heard heard) }
+    ensures { reply ≡ replies.Heard result }
 {
     match reply {
         Reply::Heard(heard) => heard,

@@ -1,6 +1,6 @@
 //! What is proved of the boxes of a cube that is held after a lawful history of a machine within its limits. The functions do
 //! nothing: a contract is the law. The proofs of the code cite the lemmas that prove it.
-ghost use Rattle.ce_cube.specs.Laws.{BoxesSay, CallsAdd, BoxesHear, BoxesCanHear, TurnsEnd, OthersKeep, BesideKeeps, EntriesCount, IdleAsks, StepsEndTurns, RoundsRest, LooksEnd, BlocksAreWhole, GrantsBegin, HostsFit, HostsSend, HostsTake, ArmsAllow, DrainsFit};
+ghost use Rattle.ce_cube.specs.Laws.{BoxesSay, CallsAdd, BoxesHear, BoxesCanHear, TurnsEnd, OthersKeep, BesideKeeps, EntriesCount, IdleAsks, BoxesInStepEndTurns, RoundsRest, LooksEnd, BlocksAreWhole, GrantsBegin, HostsFit, HostsSend, HostsTake, ArmsAllow, DrainsFit};
 ghost use Rattle.ce_cube.specs.Rehoming.{BlocksSort, StoresAreHome};
 ghost use Rattle.ce_cube.specs.Rounds.{AreMade};
 
@@ -51,8 +51,8 @@ pub fn idle_asks_law()
 {}
 
 /// Where all boxes of a cube are in step with its nodes, no turn is open.
-pub fn steps_end_turns_law()
-    ensures law { StepsEndTurns }
+pub fn boxes_in_step_end_turns_law()
+    ensures law { BoxesInStepEndTurns }
 {}
 
 /// Turns, rounds and shares of rounds are made entry by entry.

@@ -52,5 +52,5 @@ fn turn_of(
     let node = &mut crew.nodes[r as usize];
     let turn = take_turn(alloc, machine, &crew.grant, r, node, images)?;
     crew.entries += turn.entries;
-    Ok(turn.work)
+    Ok(turn.has_work)
 }

@@ -7,7 +7,7 @@ ghost use Rattle.rk_node.specs.declared.out.Out.TheVariants.{Nothing};
 ghost use Rattle.ce_script.specs.Rounds.{asks_for_work};
 ghost use Rattle.ce_cube.specs.Boxes.{IsInStep};
 ghost use Rattle.ce_cube.specs.Crews.{HasStopped, IsReady, cube_grant};
-ghost use Rattle.ce_cube.specs.Exchanges.{HasNode, IsTurning, node_in};
+ghost use Rattle.ce_cube.specs.Exchanges.{HasNode, IsTurning, machine_node};
 
 use crate::exchange::exchange;
 use ce_daemon::Grant;
@@ -20,9 +20,9 @@ use std::alloc::Global;
 
 /// What a turn came to.
 #[derive(Clone, Copy, Debug, PartialEq, Eq)]
-pub(crate) struct Turn {
+pub(crate) struct TurnResult {
     /// The node was given work.
-    pub work: bool,
+    pub has_work: bool,
     /// How many entries it made.
     pub entries: u64,
 }
@@ -35,16 +35,16 @@ pub(crate) fn take_turn(
     r: u32,
     node: &mut NodeBox,
     images: &[Image],
-) -> Result<Turn, NoMemory>
+) -> Result<TurnResult, NoMemory>
     requires node { HasNode machine.old grant.now r }
     requires ready { IsReady node.old }
     requires in_step { IsInStep (cube_grant grant.now)
-        (node_in machine.old grant.now r) node.old.node }
+        (machine_node machine.old grant.now r) node.old.node }
     requires images { images.now ≡ machine.old.parts.images }
     ensures turn { IfOk result (λ turn. IsTurning machine.old machine.new grant.now r node.new
-        turn.work turn.entries) }
+        turn.has_work turn.entries) }
     ensures in_step { IfOk result (λ _. IsInStep (cube_grant grant.now)
-        (node_in machine.new grant.now r) node.new.node) }
+        (machine_node machine.new grant.now r) node.new.node) }
     ensures stopped { IfErr result (λ _. HasStopped machine.old machine.new grant.now.user) }
 {
     let take = node.says();
@@ -54,7 +54,10 @@ pub(crate) fn take_turn(
         exchange(alloc, machine, grant, r, node, images, said)?;
         entries += 1;
     }
-    Ok(Turn { work, entries })
+    Ok(TurnResult {
+        has_work: work,
+        entries,
+    })
 }
 
 /// What the box says next, unless it asks for work: its turn is over then.

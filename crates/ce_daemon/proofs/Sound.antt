@@ -16,7 +16,7 @@ use Rattle.ce_set.proofs.WordBits.{below-has_bit}
 use Rattle.ce_daemon.specs.declared.grant.Grant.{Grant}
 use Rattle.ce_daemon.specs.Boxes.{AreBoxes, AreBoxesOf, HasBox, IsBoxOf}
 use Rattle.ce_daemon.specs.Holding.{is_user, is_granted, IsPartition}
-use Rattle.ce_daemon.specs.Sound.{IsSound}
+use Rattle.ce_daemon.specs.Sound.{IsSoundDaemon}
 use Rattle.ce_daemon.proofs.Counting.{one_if}
 use Rattle.ce_daemon.proofs.Partition.{IsPartition-granted, IsPartition-freed, single-granted, single-freed}
 
@@ -38,7 +38,7 @@ boxes-placed P (first ∷ boxes) (suc node) below each =
     boxes-placed (λ r. P (suc r)) boxes node (omega arith) (λ r other h. each (suc r) other (omega arith))
 
 pub IsSound-new : {N : Type 0} (home : N → ℕ) (clean : N → Type 0) (dim : ℕ) (free : NodeSet) (boxes : List N) → dim ≤ greatest_dim
-    → AreBoxes home clean (2 ^ dim) (λ node. node) boxes → free.0 ≡ 2 ^ 2 ^ dim - 1 → IsSound home clean dim free [] (map Some boxes)
+    → AreBoxes home clean (2 ^ dim) (λ node. node) boxes → free.0 ≡ 2 ^ 2 ^ dim - 1 → IsSoundDaemon home clean dim free [] (map Some boxes)
 IsSound-new {N} home clean dim free boxes small are all =
     let within : free.0 < 2 ^ 2 ^ dim = omega (arith, all, pow_pos (2 ^ dim)) in
     record {
@@ -57,10 +57,10 @@ IsSound-new {N} home clean dim free boxes small are all =
 
 -- a grant of the first free subcube
 pub IsSound-granted : {N : Type 0} (home : N → ℕ) (clean : N → Type 0) (dim : ℕ) (free after : NodeSet) (held : List Grant) (places left : List (Option N)) (grant : Grant)
-    → IsSound home clean dim free held places → first_free (has_node free) dim grant.dim ≡ Some grant.sub → find (is_user grant.user) held ≡ None
+    → IsSoundDaemon home clean dim free held places → first_free (has_node free) dim grant.dim ≡ Some grant.sub → find (is_user grant.user) held ≡ None
     → after.0 ≤ free.0 → ((node : ℕ) → has_node after node ≡ (has_node free node && not (is_inside grant.sub node)))
     → ((node : ℕ) → is_inside grant.sub node ≡ false → HasBox home clean places node → HasBox home clean left node) → length left ≡ length places
-    → IsSound home clean dim after (held ++ grant ∷ []) left
+    → IsSoundDaemon home clean dim after (held ++ grant ∷ []) left
 IsSound-granted home clean dim free after held places left grant sound found none fewer is others all =
     let known = first_free-subcube (has_node free) dim grant.dim grant.sub found in
     let all_free = first_free-all_free (has_node free) dim grant.dim grant.sub found in
@@ -91,12 +91,12 @@ back_home {N} home clean filled (first ∷ boxes) grant node are put ones inside
 
 -- a user's grant comes back
 pub IsSound-freed : {N : Type 0} (home : N → ℕ) (clean : N → Type 0) (dim user : ℕ) (free after : NodeSet) (held : List Grant) (places filled : List (Option N)) (boxes : List N) (grant : Grant)
-    → IsSound home clean dim free held places → find (is_user user) held ≡ Some grant
+    → IsSoundDaemon home clean dim free held places → find (is_user user) held ≡ Some grant
     → ((count : ℕ) → free.0 < 2 ^ count → ((node : ℕ) → is_inside grant.sub node ≡ true → node < count) → after.0 < 2 ^ count)
     → ((node : ℕ) → has_node after node ≡ (has_node free node || is_inside grant.sub node))
     → AreBoxesOf home clean grant boxes → All (λ next. HasBox home clean filled (home next)) boxes
     → ((node : ℕ) → HasBox home clean places node → HasBox home clean filled node) → length filled ≡ length places
-    → IsSound home clean dim after (filter (λ other. not (is_user user other)) held) filled
+    → IsSoundDaemon home clean dim after (filter (λ other. not (is_user user other)) held) filled
 IsSound-freed {N} home clean dim user free after held places filled boxes grant sound found within is are put others all =
     let known = find-among (λ (g : Grant). IsSubcube dim g.dim g.sub) (is_user user) held grant sound.subcubes found in
     record {

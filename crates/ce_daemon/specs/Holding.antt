@@ -7,38 +7,38 @@ use Rattle.ce_model.specs.Subcubes.{is_inside, has_node}
 use Rattle.ce_daemon.specs.declared.grant.Grant.{Grant}
 
 -- a machine of this dimension, of which so many subcubes were granted so far, and these are held
-pub record Holding : Type 0 where
+pub record GrantTable : Type 0 where
   pub dim : ℕ
   pub count : ℕ
-  pub held : List Grant
+  pub grants : List Grant
 
 -- the user holds this grant
 abbrev pub is_user : ℕ → Grant → Bool
 is_user user grant = grant.user == user
 
 -- the grant that a user holds
-abbrev pub held_by : Holding → ℕ → Option Grant
-held_by holding user = find (is_user user) holding.held
+abbrev pub grant_held_by : GrantTable → ℕ → Option Grant
+grant_held_by holding user = find (is_user user) holding.grants
 
 -- the node is one of the grant's
 abbrev pub is_granted : ℕ → Grant → Bool
 is_granted node grant = is_inside grant.sub node
 
 -- a node is free where it is in no grant that is held
-abbrev pub is_free : Holding → ℕ → Bool
-is_free holding node = not (list_any (is_granted node) holding.held)
+abbrev pub is_free : GrantTable → ℕ → Bool
+is_free holding node = not (list_any (is_granted node) holding.grants)
 
 -- the grant of this subcube that a user gets next
-abbrev pub next_grant : Holding → (user dim : ℕ) → Subcube → Grant
+abbrev pub next_grant : GrantTable → (user dim : ℕ) → Subcube → Grant
 next_grant holding user dim sub = record { number = holding.count; user = user; dim = dim; sub = sub }
 
 -- one grant more
-abbrev pub with_grant : Grant → Holding → Holding
-with_grant grant holding = record holding { count = holding.count + 1; held = holding.held ++ grant ∷ [] }
+abbrev pub with_grant : Grant → GrantTable → GrantTable
+with_grant grant holding = record holding { count = holding.count + 1; grants = holding.grants ++ grant ∷ [] }
 
 -- without the grant of a user
-abbrev pub without_user : ℕ → Holding → Holding
-without_user user holding = record holding { held = filter (λ grant. not (is_user user grant)) holding.held }
+abbrev pub without_user : ℕ → GrantTable → GrantTable
+without_user user holding = record holding { grants = filter (λ grant. not (is_user user grant)) holding.grants }
 
 -- each node of the machine is in the free set or in one of the grants, and in one of them alone
 abbrev pub IsPartition : ℕ → List Grant → NodeSet → Type 0

@@ -8,7 +8,7 @@ use Rattle.ce_daemon.specs.Boxes.{HasBox}
 use Rattle.ce_daemon.specs.Holding.{IsPartition, is_user}
 
 -- the free set and the grants part the nodes, a user holds one grant at most, and each free node has its clean box
-pub record IsSound {N : Type 0} (home : N → ℕ) (clean : N → Type 0) (dim : ℕ) (free : NodeSet) (held : List Grant) (places : List (Option N)) : Type 0 where
+pub record IsSoundDaemon {N : Type 0} (home : N → ℕ) (clean : N → Type 0) (dim : ℕ) (free : NodeSet) (held : List Grant) (places : List (Option N)) : Type 0 where
   pub small : dim ≤ greatest_dim
   pub within : free.0 < 2 ^ 2 ^ dim
   pub partition : IsPartition dim held free

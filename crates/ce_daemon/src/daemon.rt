@@ -3,11 +3,11 @@ ghost use Rattle.std.specs.List.{range_with_len};
 ghost use Rattle.ce_model.specs.Limits.{greatest_dim};
 ghost use Rattle.ce_model.specs.Subcubes.{first_free, has_node};
 ghost use Rattle.ce_daemon.specs.Boxes.{AreBoxes, AreBoxesOf};
-ghost use Rattle.ce_daemon.specs.Holding.{held_by, is_free, next_grant, with_grant, without_user, IsPartition, IfGranted};
+ghost use Rattle.ce_daemon.specs.Holding.{grant_held_by, is_free, next_grant, with_grant, without_user, IsPartition, IfGranted};
 
 use crate::boxes::{places_of, put_home, take_out};
 use crate::grant::grant_in;
-use crate::nodes::{union, without};
+use crate::nodes::{difference, union};
 use crate::{Grant, Grants, Homed, PeekResult};
 use ce_model::{NoMemory, NodeSet};
 use ce_set::{first_free, nodes_of};
@@ -20,26 +20,26 @@ use std::marker::Model;
 #[derive(Drop)]
 pub struct Daemon<N: Homed> {
     dim: u32,
-    free: NodeSet,
+    free_nodes: NodeSet,
     count: u64,
     grants: Vec<Grant>,
     places: Vec<Option<N>>,
 }
 
 impl<N: Homed> Model for Daemon<N> {
-    ghost use Rattle.ce_daemon.specs.Holding.{Holding};
-    ghost use Rattle.ce_daemon.specs.Sound.{IsSound};
+    ghost use Rattle.ce_daemon.specs.Holding.{GrantTable};
+    ghost use Rattle.ce_daemon.specs.Sound.{IsSoundDaemon};
 
-    ghost Value = { Holding };
+    ghost Value = { GrantTable };
 
     ghost view = { λ daemon. record {
       dim = daemon.dim;
       count = daemon.count;
-      held = daemon.grants.items;
+      grants = daemon.grants.items;
     } };
 
-    ghost invariant = { λ daemon. IsSound N.home N.clean daemon.dim daemon.free daemon.grants.items
-        daemon.places.items };
+    ghost invariant = { λ daemon. IsSoundDaemon N.home N.clean daemon.dim daemon.free_nodes
+        daemon.grants.items daemon.places.items };
 }
 
 impl<N: Homed> Daemon<N> {
@@ -48,7 +48,7 @@ impl<N: Homed> Daemon<N> {
     pub fn new(alloc: Global, dim: u32, boxes: Vec<N>) -> Result<Daemon<N>, NoMemory>
         requires small { dim ≤ greatest_dim }
         requires boxes { AreBoxes N.home N.clean (2 ^ dim) (λ node. node) boxes.items }
-        ensures { IfOk result (λ daemon. daemon ≡ record { dim = dim; count = 0; held = [] }) }
+        ensures { IfOk result (λ daemon. daemon ≡ record { dim = dim; count = 0; grants = [] }) }
     {
         let nodes = 1u32 << dim;
         let free = NodeSet(u64::MAX >> (64 - nodes));
@@ -56,7 +56,7 @@ impl<N: Homed> Daemon<N> {
         let places = places_of(alloc, boxes)?;
         Ok(Daemon {
             dim,
-            free,
+            free_nodes: free,
             count: 0,
             grants,
             places,
@@ -64,18 +64,18 @@ impl<N: Homed> Daemon<N> {
     }
 
     /// The nodes that are in no grant.
-    pub fn free(&self) -> NodeSet
+    pub fn free_nodes(&self) -> NodeSet
         ensures within { result.0 < 2 ^ 2 ^ self.now.dim }
         ensures free { (node : ℕ) → node < 2 ^ self.now.dim
             → has_node result node ≡ is_free self.now node }
-        ensures partition { IsPartition self.now.dim self.now.held result }
+        ensures partition { IsPartition self.now.dim self.now.grants result }
     {
-        self.free
+        self.free_nodes
     }
 
     /// The grant that the user holds; None exactly where none is held.
     pub fn grant_of(&self, user: u32) -> Option<Grant>
-        ensures { result ≡ held_by self.now user }
+        ensures { result ≡ grant_held_by self.now user }
     {
         grant_in(&self.grants, user)
     }
@@ -89,7 +89,7 @@ impl<N: Homed> Daemon<N> {
         user: u32,
         d: u32,
     ) -> Result<Option<(Grant, Vec<N>)>, NoMemory>
-        requires none_held { held_by self.old user ≡ None }
+        requires none_held { grant_held_by self.old user ≡ None }
         ensures first { IfOk result (λ given. option_map (λ pair. pair.0.sub) given
             ≡ first_free (is_free self.old) self.old.dim d) }
         ensures grant { IfGranted result (λ pair. pair.0
@@ -99,7 +99,7 @@ impl<N: Homed> Daemon<N> {
         ensures refused { IfOk result (λ given. IfNone given (self.new ≡ self.old)) }
         ensures unchanged { OnErr result (self.new ≡ self.old) }
     {
-        let Some(sub) = first_free(self.free, self.dim, d) else {
+        let Some(sub) = first_free(self.free_nodes, self.dim, d) else {
             return Ok(None);
         };
         let count = self.count.checked_add(1).ok_or(NoMemory)?;
@@ -112,14 +112,14 @@ impl<N: Homed> Daemon<N> {
         };
         self.grants.push(grant)?;
         self.count = count;
-        self.free = without(self.free, nodes_of(&sub));
+        self.free_nodes = difference(self.free_nodes, nodes_of(&sub));
         take_out(&mut self.places, &sub, d, &mut boxes);
         Ok(Some((grant, boxes)))
     }
 
     /// Takes the user's grant back, with the clean boxes of its nodes in relative order. Its nodes are free again.
     pub fn freecube(&mut self, user: u32, boxes: Vec<N>)
-        requires { IsSomeAnd (held_by self.old user)
+        requires { IsSomeAnd (grant_held_by self.old user)
             (λ grant. AreBoxesOf N.home N.clean grant boxes.items) }
         ensures { self.new ≡ without_user user self.old }
     {
@@ -127,7 +127,7 @@ impl<N: Homed> Daemon<N> {
             unreachable!()
         };
         self.grants.retain(|held| held.user != user);
-        self.free = union(self.free, nodes_of(&grant.sub));
+        self.free_nodes = union(self.free_nodes, nodes_of(&grant.sub));
         put_home(&mut self.places, boxes);
     }
 
@@ -135,11 +135,11 @@ impl<N: Homed> Daemon<N> {
     pub fn peek(&self, alloc: Global) -> Result<PeekResult, NoMemory>
         ensures free { IfOk result (λ shown. shown.free
             ≡ count_by (is_free self.now) (range_with_len 0 (2 ^ self.now.dim))) }
-        ensures grants { IfOk result (λ shown. shown.grants ≡ self.now.held) }
+        ensures grants { IfOk result (λ shown. shown.grants ≡ self.now.grants) }
     {
         let held = self.grants.as_slice().to_vec(alloc)?;
         Ok(PeekResult {
-            free: self.free.0.count_ones(),
+            free: self.free_nodes.0.count_ones(),
             grants: Grants::from_vec(held),
         })
     }

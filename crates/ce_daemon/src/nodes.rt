@@ -4,7 +4,7 @@ ghost use Rattle.ce_model.specs.Subcubes.{has_node};
 use ce_model::NodeSet;
 
 // The nodes of a set that are not in the other.
-pub(crate) fn without(set: NodeSet, other: NodeSet) -> NodeSet
+pub(crate) fn difference(set: NodeSet, other: NodeSet) -> NodeSet
     ensures nodes { (node : ℕ) → has_node result node
         ≡ (has_node set node && not (has_node other node)) }
     ensures within { result.0 ≤ set.0 }

@@ -8,7 +8,7 @@ use std::test::Fail;
 // The daemon of a machine of four nodes.
 #[tactic(auto, using(ce_model::specs::Limits::greatest_dim_lem))]
 fn four_nodes(alloc: Global) -> Result<Daemon<u32>, NoMemory>
-    ensures { IfOk result (λ daemon. daemon ≡ record { dim = 2; count = 0; held = [] }) }
+    ensures { IfOk result (λ daemon. daemon ≡ record { dim = 2; count = 0; grants = [] }) }
 {
     Daemon::new(alloc, 2, node_numbers(alloc, 4)?)
 }
@@ -16,7 +16,7 @@ fn four_nodes(alloc: Global) -> Result<Daemon<u32>, NoMemory>
 // The daemon of the greatest machine.
 #[tactic(auto, using(ce_model::specs::Limits::greatest_dim_lem))]
 fn most_nodes(alloc: Global) -> Result<Daemon<u32>, NoMemory>
-    ensures { IfOk result (λ daemon. daemon ≡ record { dim = 6; count = 0; held = [] }) }
+    ensures { IfOk result (λ daemon. daemon ≡ record { dim = 6; count = 0; grants = [] }) }
 {
     Daemon::new(alloc, 6, node_numbers(alloc, 64)?)
 }
@@ -36,7 +36,7 @@ fn no_fit(rt: HostRuntime) -> Result<(), Fail> {
     let shown = daemon.peek(alloc)?;
     assert_eq!(rt; shown.free, 2);
     assert_eq!(rt; shown.grants.as_slice(), [b, c].as_slice());
-    assert_eq!(rt; daemon.free(), NodeSet(9));
+    assert_eq!(rt; daemon.free_nodes(), NodeSet(9));
     Ok(())
 }
 
@@ -62,13 +62,13 @@ fn not_contiguous(rt: HostRuntime) -> Result<(), Fail> {
 fn greatest_machine(rt: HostRuntime) -> Result<(), Fail> {
     let alloc = rt.alloc();
     let mut daemon = most_nodes(alloc)?;
-    assert_eq!(rt; daemon.free(), NodeSet(u64::MAX));
+    assert_eq!(rt; daemon.free_nodes(), NodeSet(u64::MAX));
     let (whole, of_whole) = daemon.getcube(alloc, 7, 6)?.ok_or("no cube")?;
     assert_eq!(rt; whole.sub, Subcube { mask: 63, base: 0 });
     assert_eq!(rt; of_whole.len(), 64);
     assert_eq!(rt; daemon.peek(alloc)?.free, 0);
     daemon.freecube(7, of_whole);
-    assert_eq!(rt; daemon.free(), NodeSet(u64::MAX));
+    assert_eq!(rt; daemon.free_nodes(), NodeSet(u64::MAX));
     Ok(())
 }
 

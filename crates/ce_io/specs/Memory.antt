@@ -3,53 +3,53 @@ use Rattle.std.specs.Prelude.{ℕ, ◌-◌, min, List, ◌++◌, length, take, d
 use Rattle.ce_io.specs.Counts.{raised_count}
 
 -- the numbers of the calls that fail, the number of the next call, and how many bytes a call moves at most
-pub record Script : Type 0 where
+pub record CallPlan : Type 0 where
   pub fails : List ℕ
   pub calls : ℕ
   pub most : ℕ
 
 -- the next call fails
-abbrev pub IsFailingNext : Script → Type 0
-IsFailingNext script = Contains script.fails script.calls
+abbrev pub IsFailingNext : CallPlan → Type 0
+IsFailingNext plan = Contains plan.fails plan.calls
 
--- the script after a call
-abbrev pub after_call : Script → Script
-after_call script = record script { calls = raised_count script.calls 1 }
+-- the plan after a call
+abbrev pub after_call : CallPlan → CallPlan
+after_call plan = record plan { calls = raised_count plan.calls 1 }
 
--- a source in memory: its script, the bytes still to come, and its counts
+-- a source in memory: its plan, the bytes still to come, and its counts
 pub record SourceState : Type 0 where
-  pub script : Script
+  pub plan : CallPlan
   pub left : List ℕ
   pub given : ℕ
   pub faults : ℕ
 
 -- how many bytes the next read gives into so many places
 abbrev pub read_len : SourceState → ℕ → ℕ
-read_len source places = min source.script.most (min places (length source.left))
+read_len source places = min source.plan.most (min places (length source.left))
 
 -- the source after a read of n bytes
 abbrev pub after_read : SourceState → ℕ → SourceState
-after_read source n = record source { script = after_call source.script; left = drop n source.left; given = raised_count source.given n }
+after_read source n = record source { plan = after_call source.plan; left = drop n source.left; given = raised_count source.given n }
 
 -- the source after a read that failed
 abbrev pub after_failed_read : SourceState → SourceState
-after_failed_read source = record source { script = after_call source.script; faults = raised_count source.faults 1 }
+after_failed_read source = record source { plan = after_call source.plan; faults = raised_count source.faults 1 }
 
--- a sink in memory: its script, the bytes written, for how many there is room in all, and its count of faults
+-- a sink in memory: its plan, the bytes written, for how many there is room in all, and its count of faults
 pub record SinkState : Type 0 where
-  pub script : Script
+  pub plan : CallPlan
   pub written : List ℕ
   pub room : ℕ
   pub faults : ℕ
 
 -- how many bytes of a piece the next write takes
 abbrev pub write_len : SinkState → List ℕ → ℕ
-write_len sink piece = min sink.script.most (min (length piece) (sink.room - length sink.written))
+write_len sink piece = min sink.plan.most (min (length piece) (sink.room - length sink.written))
 
 -- the sink after a write of n bytes of a piece
 abbrev pub after_write : SinkState → List ℕ → ℕ → SinkState
-after_write sink piece n = record sink { script = after_call sink.script; written = sink.written ++ take n piece }
+after_write sink piece n = record sink { plan = after_call sink.plan; written = sink.written ++ take n piece }
 
 -- the sink after a write that failed
 abbrev pub after_failed_write : SinkState → SinkState
-after_failed_write sink = record sink { script = after_call sink.script; faults = raised_count sink.faults 1 }
+after_failed_write sink = record sink { plan = after_call sink.plan; faults = raised_count sink.faults 1 }

@@ -25,7 +25,7 @@ impl Model for MemSink {
     ghost Value = { SinkState };
 
     ghost view = { λ sink. record {
-      script = record { fails = sink.fails.items; calls = sink.calls; most = sink.most };
+      plan = record { fails = sink.fails.items; calls = sink.calls; most = sink.most };
       written = sink.bytes.items;
       room = sink.room;
       faults = sink.faults;
@@ -50,7 +50,7 @@ impl MemSink {
         ensures written { IfOk result (λ sink. sink.written ≡ []) }
         ensures faults { IfOk result (λ sink. sink.faults ≡ 0) }
         ensures room { IfOk result (λ sink. sink.room ≡ room) }
-        ensures script { IfOk result (λ sink. sink.script
+        ensures plan { IfOk result (λ sink. sink.plan
             ≡ record { fails = fails.items; calls = 0; most = most }) }
     {
         let bytes = Vec::with_capacity(alloc, room)?;
@@ -78,13 +78,13 @@ impl Sink for MemSink {
     ghost faults = { λ sink. sink.faults };
 
     fn write(&mut self, from: &[u8]) -> Result<usize, Failed>
-        // It fails exactly where its script says so or no room is left, and takes all that it may at each other call.
+        // It fails exactly where its plan says so or no room is left, and takes all that it may at each other call.
         ensures failed { IsErr result
-            ↔ (IsFailingNext self.old.script ⊎ (self.old.room ≤ length self.old.written)) }
+            ↔ (IsFailingNext self.old.plan ⊎ (self.old.room ≤ length self.old.written)) }
         ensures err { OnErr result (self.new ≡ after_failed_write self.old) }
         ensures ok { IfOk result (λ n. (n ≡ write_len self.old from.now)
             × (self.new ≡ after_write self.old from.now n)) }
-        ensures most { 1 ≤ self.old.script.most }
+        ensures most { 1 ≤ self.old.plan.most }
     {
         let call = self.calls;
         self.calls = call.saturating_add(1);

@@ -9,7 +9,7 @@ use std::marker::Model;
 #[derive(Debug, Drop)]
 pub struct MemSource {
     bytes: Vec<u8>,
-    next: usize,
+    position: usize,
     fails: Vec<u64>,
     calls: u64,
     most: usize,
@@ -23,13 +23,13 @@ impl Model for MemSource {
     ghost Value = { SourceState };
 
     ghost view = { λ source. record {
-      script = record { fails = source.fails.items; calls = source.calls; most = source.most };
-      left = drop source.next source.bytes.items;
-      given = source.next;
+      plan = record { fails = source.fails.items; calls = source.calls; most = source.most };
+      left = drop source.position source.bytes.items;
+      given = source.position;
       faults = source.faults;
     } };
 
-    ghost invariant = { λ source. (source.next ≤ vec_len source.bytes) × (1 ≤ source.most) };
+    ghost invariant = { λ source. (source.position ≤ vec_len source.bytes) × (1 ≤ source.most) };
 }
 
 impl MemSource {
@@ -41,12 +41,12 @@ impl MemSource {
         ensures left { result.left ≡ bytes.items }
         ensures given { result.given ≡ 0 }
         ensures faults { result.faults ≡ 0 }
-        ensures script { result.script
+        ensures plan { result.plan
             ≡ record { fails = fails.items; calls = 0; most = most } }
     {
         MemSource {
             bytes,
-            next: 0,
+            position: 0,
             fails,
             calls: 0,
             most,
@@ -63,13 +63,13 @@ impl Source for MemSource {
     ghost faults = { λ source. source.faults };
 
     fn read(&mut self, into: &mut [u8]) -> Result<usize, Failed>
-        // It fails exactly where its script says so, and gives all that it may at each other call.
-        ensures failed { IsErr result ↔ IsFailingNext self.old.script }
+        // It fails exactly where its plan says so, and gives all that it may at each other call.
+        ensures failed { IsErr result ↔ IsFailingNext self.old.plan }
         ensures err { OnErr result (self.new ≡ after_failed_read self.old) }
         ensures ok { IfOk result (λ n. (n ≡ read_len self.old (length into.old))
             × (self.new ≡ after_read self.old n)) }
         ensures bytes { IfOk result (λ n. take n into.new ≡ take n self.old.left) }
-        ensures most { 1 ≤ self.old.script.most }
+        ensures most { 1 ≤ self.old.plan.most }
     {
         let call = self.calls;
         self.calls = call.saturating_add(1);
@@ -77,10 +77,10 @@ impl Source for MemSource {
             self.faults = self.faults.saturating_add(1);
             return Err(Failed);
         }
-        let left = &self.bytes[self.next..];
+        let left = &self.bytes[self.position..];
         let count = left.len().min(into.len()).min(self.most);
         into[..count].copy_from_slice(&left[..count]);
-        self.next += count;
+        self.position += count;
         Ok(count)
     }
 }

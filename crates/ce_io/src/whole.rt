@@ -23,14 +23,14 @@ pub enum ReadError {
     #[error("a read failed")]
     Read,
     /// Memory ran out.
-    #[error("no memory")]
+    #[error("{0}")]
     Memory(NoMemory),
 }
 
 impl From<AllocError> for ReadError {
-    ghost use Rattle.ce_io.specs.ReadError.{IsMemory};
+    ghost use Rattle.ce_io.specs.ReadError.{IsNoMemory};
 
-    ghost from_gives = { λ _ e. IsMemory e };
+    ghost from_gives = { λ _ e. IsNoMemory e };
 
     fn from(fault: AllocError) -> Self {
         ReadError::Memory(NoMemory::from(fault))

@@ -9,14 +9,14 @@ use lib.Seq.{map-set}
 use Rattle.atomic_table.specs.Table.{State, opening, Splits, Joins, Final, Seen}
 use Rattle.atomic_table.proofs.Lists.{set_again, at_map, at_longer, set_else}
 use Rattle.ce_model.specs.declared.topology.TheConstants.{HOST}
-use Rattle.ce_lock.specs.declared.view.Place.{Place}
+use Rattle.ce_lock.specs.declared.view.QueuePlace.{QueuePlace}
 use Rattle.ce_lock.specs.declared.view.Right.{Right}
 use Rattle.ce_lock.specs.declared.view.Last.{Last}
 use Rattle.ce_lock.specs.declared.view.View.{View}
-use Rattle.ce_lock.specs.Entries.{longer, Every, AtEach, IsIn}
+use Rattle.ce_lock.specs.Entries.{longer_list, Every, AtEach, IsIn}
 use Rattle.ce_lock.specs.Meanings.{Meanings}
 use Rattle.ce_lock.specs.OneOrder.{IsQueue, IsFair, IsHeaded, IsSeated, IsGone, IsMissable, IsLast, IsTold, IsInOrder}
-use Rattle.ce_lock.specs.Telling.{nowhere, nobody, copy, view_after_making, next_head, view_with_out, actor_view, view_after_meeting, view_after_joining, last_of, view_after_closing, spent_view, first_view, IsLeft}
+use Rattle.ce_lock.specs.Telling.{idle_place, no_actor, copy, view_after_making, next_head, view_with_out, actor_view, view_after_meeting, view_after_joining, last_of, view_after_closing, spent_view, first_view, IsLeft}
 use Rattle.ce_lock.proofs.Seats.{at_same, at_other, at_one, at_added, map_added, map_kept, each_kept, each_added, each_unset}
 use Rattle.ce_lock.proofs.Tickets.{come}
 use Rattle.ce_lock.proofs.Fair.{used, still_in, copy_comes, copy_gone, sends, sent_gone, makes, made_gone, spent_gone, copy_goes, head_goes, head_gone, takes_back, back_gone}
@@ -27,20 +27,20 @@ clash : {P : Type 0} → false ≡ true → P
 clash e = absurd (cc)
 
 -- of two front parts, where one is the whole, the longer is the whole
-whole_first : {A : Type 0} (xs a ys b h : List A) → xs ++ a ≡ h → ys ++ b ≡ h → xs ≡ h → longer xs ys ≡ h
+whole_first : {A : Type 0} (xs a ys b h : List A) → xs ++ a ≡ h → ys ++ b ≡ h → xs ≡ h → longer_list xs ys ≡ h
 whole_first xs a ys b h p q is = ⊎_elim
-    (λ (t : (longer xs ys ≡ xs) × ((mid : List _) × (ys ++ mid ≡ xs) × (b ≡ mid ++ a))). t.0 ∙ is)
-    (λ (t : (longer xs ys ≡ ys) × ((mid : List _) × (xs ++ mid ≡ ys) × (a ≡ mid ++ b))).
+    (λ (t : (longer_list xs ys ≡ xs) × ((mid : List _) × (ys ++ mid ≡ xs) × (b ≡ mid ++ a))). t.0 ∙ is)
+    (λ (t : (longer_list xs ys ≡ ys) × ((mid : List _) × (xs ++ mid ≡ ys) × (a ≡ mid ++ b))).
     let none : length b ≡ 0 = omega (arith, ap length t.1.1, length-append xs t.1.0, ap length q, length-append ys b, ap length is) in
     t.0 ∙ (sym (append-nil ys) ∙ (ap (λ (l : List _). ys ++ l) (sym (nil_from_length b none)) ∙ q)))
     (longer_is xs a ys b h p q)
 
-whole_second : {A : Type 0} (xs a ys b h : List A) → xs ++ a ≡ h → ys ++ b ≡ h → ys ≡ h → longer xs ys ≡ h
+whole_second : {A : Type 0} (xs a ys b h : List A) → xs ++ a ≡ h → ys ++ b ≡ h → ys ≡ h → longer_list xs ys ≡ h
 whole_second xs a ys b h p q is = ⊎_elim
-    (λ (t : (longer xs ys ≡ xs) × ((mid : List _) × (ys ++ mid ≡ xs) × (b ≡ mid ++ a))).
+    (λ (t : (longer_list xs ys ≡ xs) × ((mid : List _) × (ys ++ mid ≡ xs) × (b ≡ mid ++ a))).
     let none : length a ≡ 0 = omega (arith, ap length t.1.1, length-append ys t.1.0, ap length p, length-append xs a, ap length is) in
     t.0 ∙ (sym (append-nil xs) ∙ (ap (λ (l : List _). xs ++ l) (sym (nil_from_length a none)) ∙ p)))
-    (λ (t : (longer xs ys ≡ ys) × ((mid : List _) × (xs ++ mid ≡ ys) × (a ≡ mid ++ b))). t.0 ∙ is)
+    (λ (t : (longer_list xs ys ≡ ys) × ((mid : List _) × (xs ++ mid ≡ ys) × (a ≡ mid ++ b))). t.0 ∙ is)
     (longer_is xs a ys b h p q)
 
 module _ {O E F : Type 0} (m : Meanings O E F) (o : O) (families : ℕ) where
@@ -50,18 +50,18 @@ module _ {O E F : Type 0} (m : Meanings O E F) (o : O) (families : ℕ) where
   abbrev rights : List (View O E) → List Right
   rights vs = map (λ w. w.right) vs
 
-  abbrev places : List (View O E) → List Place
+  abbrev places : List (View O E) → List QueuePlace
   places vs = map (λ w. w.place) vs
 
   -- a seat comes, and the one that it comes from has another right, and all else as before
-  comes : (s : State O (View O E)) (r : IsRuled s) (id : ℕ) (v : View O E) (right : Right) (u : View O E) → get_elem? s.views id ≡ some v → u.place ≡ nowhere → right.draws ≡ v.right.draws → right.spent ≡ v.right.spent
+  comes : (s : State O (View O E)) (r : IsRuled s) (id : ℕ) (v : View O E) (right : Right) (u : View O E) → get_elem? s.views id ≡ some v → u.place ≡ idle_place → right.may_draw ≡ v.right.may_draw → right.is_spent ≡ v.right.is_spent
       → IsFair families (set (rights s.views) id right ++ u.right ∷ []) → ((family : ℕ) → IsGone (rights s.views) family → IsGone (set (rights s.views) id right ++ u.right ∷ []) family)
-      → (right.spent ≡ false → IsTold m o r.history right v.page) → (u.right.spent ≡ false → IsTold m o r.history u.right u.page) → u.page.lasts ≡ []
+      → (right.is_spent ≡ false → IsTold m o r.history right v.page) → (u.right.is_spent ≡ false → IsTold m o r.history u.right u.page) → u.page.joined_heads ≡ []
       → (0 < right.heads → Every (λ e. (m.whose e).family < right.heads) r.history) → (0 < u.right.heads → Every (λ e. (m.whose e).family < u.right.heads) r.history)
       → IsRuled record { words = s.words; homes = s.homes; views = set s.views id (record v { right = right }) ++ u ∷ [] }
   comes s r id v right u at idle draws live fair gone told told_u lasts_u made made_u = let w : View O E = record v { right = right } in let vs : List (View O E) = set s.views id w in
       let rights_are : rights (vs ++ u ∷ []) ≡ set (rights s.views) id right ++ u.right ∷ [] = map_added (λ x. x.right) vs u ∙ ap (λ (l : List Right). l ++ u.right ∷ []) (map-set (λ x. x.right) s.views id w) in
-      let places_are : places (vs ++ u ∷ []) ≡ places s.views ++ nowhere ∷ [] = map_added (λ x. x.place) vs u
+      let places_are : places (vs ++ u ∷ []) ≡ places s.views ++ idle_place ∷ [] = map_added (λ x. x.place) vs u
       ∙ (λ k. map_kept (λ (x : View O E). x.place) s.views id v w at refl k ++ idle k ∷ []) in record {
         now = r.now;
         next = r.next;
@@ -71,24 +71,24 @@ module _ {O E F : Type 0} (m : Meanings O E F) (o : O) (families : ℕ) where
         short = r.short;
         queue = subst (IsQueue r.now r.next) (sym places_are) (come r.now r.next (places s.views) r.queue);
         fair = subst (IsFair families) (sym rights_are) fair;
-        entitled = each_added (λ (x : View O E). x.place.drawn ≡ true → x.right.draws ≡ true) vs u (λ e. clash (sym (ap (λ (p : Place). p.drawn) idle) ∙ e))
-            (each_kept (λ (x : View O E). x.place.drawn ≡ true → x.right.draws ≡ true) s.views id w (λ e. draws ∙ r.entitled id v at e) r.entitled);
+        entitled = each_added (λ (x : View O E). x.place.has_ticket ≡ true → x.right.may_draw ≡ true) vs u (λ e. clash (sym (ap (λ (p : QueuePlace). p.has_ticket) idle) ∙ e))
+            (each_kept (λ (x : View O E). x.place.has_ticket ≡ true → x.right.may_draw ≡ true) s.views id w (λ e. draws ∙ r.entitled id v at e) r.entitled);
         home = λ all. r.home (each_unset (λ (x : View O E). x.place.out ≡ false) s.views id v w at
             (all id w (at_longer vs (u ∷ []) id w (at_same s.views id v w at))) (λ j x e. all j x (at_longer vs (u ∷ []) j x e)));
-        informed = each_added (λ (x : View O E). x.place.out ≡ true → x.page.seen ≡ r.history) vs u (λ e. clash (sym (ap (λ (p : Place). p.out) idle) ∙ e))
+        informed = each_added (λ (x : View O E). x.place.out ≡ true → x.page.seen ≡ r.history) vs u (λ e. clash (sym (ap (λ (p : QueuePlace). p.out) idle) ∙ e))
             (each_kept (λ (x : View O E). x.place.out ≡ true → x.page.seen ≡ r.history) s.views id w (r.informed id v at) r.informed);
-        told = each_added (λ (x : View O E). x.right.spent ≡ false → IsTold m o r.history x.right x.page) vs u told_u
-            (each_kept (λ (x : View O E). x.right.spent ≡ false → IsTold m o r.history x.right x.page) s.views id w told r.told);
-        gone = subst (λ (rs : List Right). AtEach (vs ++ u ∷ []) (λ x. Every (λ l. IsGone rs l.family) x.page.lasts)) (sym rights_are)
-            (each_added (λ (x : View O E). Every (λ l. IsGone (set (rights s.views) id right ++ u.right ∷ []) l.family) x.page.lasts) vs u
+        told = each_added (λ (x : View O E). x.right.is_spent ≡ false → IsTold m o r.history x.right x.page) vs u told_u
+            (each_kept (λ (x : View O E). x.right.is_spent ≡ false → IsTold m o r.history x.right x.page) s.views id w told r.told);
+        gone = subst (λ (rs : List Right). AtEach (vs ++ u ∷ []) (λ x. Every (λ l. IsGone rs l.family) x.page.joined_heads)) (sym rights_are)
+            (each_added (λ (x : View O E). Every (λ l. IsGone (set (rights s.views) id right ++ u.right ∷ []) l.family) x.page.joined_heads) vs u
             (subst (λ (ls : List (Last E)). Every (λ l. IsGone (set (rights s.views) id right ++ u.right ∷ []) l.family) ls) (sym lasts_u) tt)
-            (each_kept (λ (x : View O E). Every (λ l. IsGone (set (rights s.views) id right ++ u.right ∷ []) l.family) x.page.lasts) s.views id w
-            (gone_at v.page.lasts (r.gone id v at)) (λ j x e. gone_at x.page.lasts (r.gone j x e))));
+            (each_kept (λ (x : View O E). Every (λ l. IsGone (set (rights s.views) id right ++ u.right ∷ []) l.family) x.page.joined_heads) s.views id w
+            (gone_at v.page.joined_heads (r.gone id v at)) (λ j x e. gone_at x.page.joined_heads (r.gone j x e))));
         made = each_added (λ (x : View O E). 0 < x.right.heads → Every (λ e. (m.whose e).family < x.right.heads) r.history) vs u made_u
             (each_kept (λ (x : View O E). 0 < x.right.heads → Every (λ e. (m.whose e).family < x.right.heads) r.history) s.views id w made r.made);
         longest = let l = r.longest in dite (ℕ_discrete l.0 id)
             (λ is. let here : v ≡ l.1 = at_one s.views id v l.1 at (ap (get_elem? s.views) (sym is) ∙ l.2) in
-            (id, w, at_longer vs (u ∷ []) id w (at_same s.views id v w at), live ∙ (ap (λ (z : View O E). z.right.spent) here ∙ l.3), ap (λ (z : View O E). z.page.seen) here ∙ l.4))
+            (id, w, at_longer vs (u ∷ []) id w (at_same s.views id v w at), live ∙ (ap (λ (z : View O E). z.right.is_spent) here ∙ l.3), ap (λ (z : View O E). z.page.seen) here ∙ l.4))
             (λ ne. (l.0, l.1, at_longer vs (u ∷ []) l.0 l.1 (at_other s.views id l.0 l.1 w ne l.2), l.3, l.4));
       }
     where
@@ -99,34 +99,34 @@ module _ {O E F : Type 0} (m : Meanings O E F) (o : O) (families : ℕ) where
   same_rights : (s : State O (View O E)) (id : ℕ) (v : View O E) → get_elem? s.views id ≡ some v → set (rights s.views) id v.right ≡ rights s.views
   same_rights s id v at = set_again (rights s.views) id v.right (at_map (λ (w : View O E). w.right) s.views id v at)
 
-  pub copies : (id : ℕ) (v : View O E) → v.right.spent ≡ false → Splits IsRuled id v v (copy v)
+  pub copies : (id : ℕ) (v : View O E) → v.right.is_spent ≡ false → Splits IsRuled id v v (copy v)
   copies id v live s r at = comes s r id v v.right (copy v) at refl refl refl
-      (subst (λ (l : List Right). IsFair families (l ++ nobody ∷ [])) (sym (same_rights s id v at)) (copy_comes families (rights s.views) r.fair))
-      (λ family g. subst (λ (l : List Right). IsGone (l ++ nobody ∷ []) family) (sym (same_rights s id v at)) (copy_gone families (rights s.views) r.fair family g))
-      (r.told id v at) (λ _. told_copy m o r.history v.right nobody v.page [] (r.told id v at live) refl) refl (r.made id v at) (λ z. absurd (omega arith))
+      (subst (λ (l : List Right). IsFair families (l ++ no_actor ∷ [])) (sym (same_rights s id v at)) (copy_comes families (rights s.views) r.fair))
+      (λ family g. subst (λ (l : List Right). IsGone (l ++ no_actor ∷ []) family) (sym (same_rights s id v at)) (copy_gone families (rights s.views) r.fair family g))
+      (r.told id v at) (λ _. told_copy m o r.history v.right no_actor v.page [] (r.told id v at live) refl) refl (r.made id v at) (λ z. absurd (omega arith))
 
-  pub makes_head : (id : ℕ) (v : View O E) → v.right.spent ≡ false → 0 < v.right.heads → v.right.heads < families → Splits IsRuled id v (view_after_making v) (next_head v)
+  pub makes_head : (id : ℕ) (v : View O E) → v.right.is_spent ≡ false → 0 < v.right.heads → v.right.heads < families → Splits IsRuled id v (view_after_making v) (next_head v)
   makes_head id v live some_heads room s r at = let family_below = r.made id v at some_heads in let at' = at_map (λ (w : View O E). w.right) s.views id v at in
       let told = r.told id v at live in comes s r id v (record v.right { heads = 0 }) (next_head v) at refl refl refl
       (makes families (rights s.views) r.fair id v.right at' some_heads room)
       (made_gone families (rights s.views) r.fair id v.right at' some_heads room)
-      (λ _. record { opening_is = told.opening_is; missed = told.missed; whole = told.whole; missable = told.missable; own = told.own; olds = told.olds; lasts = told.lasts })
+      (λ _. record { opening_is = told.opening_is; missed = told.missed; whole = told.whole; missable = told.missable; own = told.own; older_histories = told.older_histories; joined_heads = told.joined_heads })
       (λ _. told_fresh m o r.history v.right (next_head v).right v.page told
       (every_map (λ e. (m.whose e).family < v.right.heads) (λ e. (m.whose e).family ≢ v.right.heads) (λ e l is. absurd (omega arith)) r.history family_below)) refl
       (λ z. absurd (omega arith)) (λ _. every_map (λ e. (m.whose e).family < v.right.heads) (λ e. (m.whose e).family < v.right.heads + 1) (λ e l. omega arith) r.history family_below)
 
-  pub sends_out : (id a : ℕ) (v : View O E) → v.right.draws ≡ true → v.right.actor ≡ HOST → a ≢ HOST → a < 2 ^ 32 → ¬ IsIn a v.right.away → Splits IsRuled id v (view_with_out a v) (actor_view m.whose a v)
+  pub sends_out : (id a : ℕ) (v : View O E) → v.right.may_draw ≡ true → v.right.actor ≡ HOST → a ≢ HOST → a < 2 ^ 32 → ¬ IsIn a v.right.absent_actors → Splits IsRuled id v (view_with_out a v) (actor_view m.whose a v)
   sends_out id a v d host other small free s r at = let at' = at_map (λ (w : View O E). w.right) s.views id v at in let told = r.told id v at (not_spent m o families s r id v at d) in
-      comes s r id v (record v.right { away = a ∷ v.right.away }) (actor_view m.whose a v) at refl refl refl
+      comes s r id v (record v.right { absent_actors = a ∷ v.right.absent_actors }) (actor_view m.whose a v) at refl refl refl
       (sends families (rights s.views) r.fair id a v.right at' d host other small free)
       (sent_gone families (rights s.views) r.fair id a v.right at' d host other small free)
       (λ _. told_sender m o r.history v.right v.page a told) (λ _. told_sent m o r.history v.right v.page a told d host other free) refl (r.made id v at) (λ z. absurd (omega arith))
 
   -- a seat goes into another, which keeps its place
   goes : (s : State O (View O E)) (r : IsRuled s) (id other : ℕ) (v w both : View O E) → get_elem? s.views id ≡ some v → ¬ (other ≡ id) → get_elem? s.views other ≡ some w
-      → v.place ≡ nowhere → w.place ≡ nowhere → both.place ≡ nowhere → both.right.spent ≡ false
+      → v.place ≡ idle_place → w.place ≡ idle_place → both.place ≡ idle_place → both.right.is_spent ≡ false
       → IsFair families (set (set (rights s.views) id both.right) other used) → ((family : ℕ) → IsGone (rights s.views) family → IsGone (set (set (rights s.views) id both.right) other used) family)
-      → Every (λ l. IsGone (set (set (rights s.views) id both.right) other used) l.family) both.page.lasts
+      → Every (λ l. IsGone (set (set (rights s.views) id both.right) other used) l.family) both.page.joined_heads
       → IsTold m o r.history both.right both.page → (0 < both.right.heads → Every (λ e. (m.whose e).family < both.right.heads) r.history)
       → (v.page.seen ≡ r.history → both.page.seen ≡ r.history) → (w.page.seen ≡ r.history → both.page.seen ≡ r.history)
       → IsRuled record { words = s.words; homes = s.homes; views = set (set s.views id both) other spent_view }
@@ -144,18 +144,18 @@ module _ {O E F : Type 0} (m : Meanings O E F) (o : O) (families : ℕ) where
         short = r.short;
         queue = subst (IsQueue r.now r.next) (sym places_are) r.queue;
         fair = subst (IsFair families) (sym rights_are) fair;
-        entitled = each_kept (λ (x : View O E). x.place.drawn ≡ true → x.right.draws ≡ true) vs other spent_view (λ e. clash e)
-            (each_kept (λ (x : View O E). x.place.drawn ≡ true → x.right.draws ≡ true) s.views id both (λ e. clash (sym (ap (λ (p : Place). p.drawn) idle_both) ∙ e)) r.entitled);
-        home = λ all. r.home (each_unset (λ (x : View O E). x.place.out ≡ false) s.views id v both at (ap (λ (p : Place). p.out) idle)
-            (each_unset (λ (x : View O E). x.place.out ≡ false) vs other w spent_view there (ap (λ (p : Place). p.out) idle_w) all));
+        entitled = each_kept (λ (x : View O E). x.place.has_ticket ≡ true → x.right.may_draw ≡ true) vs other spent_view (λ e. clash e)
+            (each_kept (λ (x : View O E). x.place.has_ticket ≡ true → x.right.may_draw ≡ true) s.views id both (λ e. clash (sym (ap (λ (p : QueuePlace). p.has_ticket) idle_both) ∙ e)) r.entitled);
+        home = λ all. r.home (each_unset (λ (x : View O E). x.place.out ≡ false) s.views id v both at (ap (λ (p : QueuePlace). p.out) idle)
+            (each_unset (λ (x : View O E). x.place.out ≡ false) vs other w spent_view there (ap (λ (p : QueuePlace). p.out) idle_w) all));
         informed = each_kept (λ (x : View O E). x.place.out ≡ true → x.page.seen ≡ r.history) vs other spent_view (λ e. clash e)
-            (each_kept (λ (x : View O E). x.place.out ≡ true → x.page.seen ≡ r.history) s.views id both (λ e. clash (sym (ap (λ (p : Place). p.out) idle_both) ∙ e)) r.informed);
-        told = each_kept (λ (x : View O E). x.right.spent ≡ false → IsTold m o r.history x.right x.page) vs other spent_view (λ e. clash (sym e))
-            (each_kept (λ (x : View O E). x.right.spent ≡ false → IsTold m o r.history x.right x.page) s.views id both (λ _. told) r.told);
-        gone = subst (λ (rs : List Right). AtEach us (λ x. Every (λ l. IsGone rs l.family) x.page.lasts)) (sym rights_are)
-            (each_kept (λ (x : View O E). Every (λ l. IsGone (set (set (rights s.views) id both.right) other used) l.family) x.page.lasts) vs other spent_view tt
-            (each_kept (λ (x : View O E). Every (λ l. IsGone (set (set (rights s.views) id both.right) other used) l.family) x.page.lasts) s.views id both lasts
-            (λ j x e. every_map (λ (l : Last E). IsGone (rights s.views) l.family) (λ l. IsGone (set (set (rights s.views) id both.right) other used) l.family) (λ l h. gone l.family h) x.page.lasts (r.gone j x e))));
+            (each_kept (λ (x : View O E). x.place.out ≡ true → x.page.seen ≡ r.history) s.views id both (λ e. clash (sym (ap (λ (p : QueuePlace). p.out) idle_both) ∙ e)) r.informed);
+        told = each_kept (λ (x : View O E). x.right.is_spent ≡ false → IsTold m o r.history x.right x.page) vs other spent_view (λ e. clash (sym e))
+            (each_kept (λ (x : View O E). x.right.is_spent ≡ false → IsTold m o r.history x.right x.page) s.views id both (λ _. told) r.told);
+        gone = subst (λ (rs : List Right). AtEach us (λ x. Every (λ l. IsGone rs l.family) x.page.joined_heads)) (sym rights_are)
+            (each_kept (λ (x : View O E). Every (λ l. IsGone (set (set (rights s.views) id both.right) other used) l.family) x.page.joined_heads) vs other spent_view tt
+            (each_kept (λ (x : View O E). Every (λ l. IsGone (set (set (rights s.views) id both.right) other used) l.family) x.page.joined_heads) s.views id both lasts
+            (λ j x e. every_map (λ (l : Last E). IsGone (rights s.views) l.family) (λ l. IsGone (set (set (rights s.views) id both.right) other used) l.family) (λ l h. gone l.family h) x.page.joined_heads (r.gone j x e))));
         made = each_kept (λ (x : View O E). 0 < x.right.heads → Every (λ e. (m.whose e).family < x.right.heads) r.history) vs other spent_view (λ z. absurd (omega arith))
             (each_kept (λ (x : View O E). 0 < x.right.heads → Every (λ e. (m.whose e).family < x.right.heads) r.history) s.views id both made r.made);
         longest = let l = r.longest in dite (ℕ_discrete l.0 id)
@@ -170,23 +170,23 @@ module _ {O E F : Type 0} (m : Meanings O E F) (o : O) (families : ℕ) where
   was_there vs id other w both ne e = sym (set_else vs id other both ne) ∙ e
 
   -- a copy goes into a view
-  pub meets : (id other : ℕ) (v w : View O E) → v.place ≡ nowhere → v.right.spent ≡ false → w.place ≡ nowhere → w.right ≡ nobody → Joins IsRuled id v other w (view_after_meeting v w) spent_view
+  pub meets : (id other : ℕ) (v w : View O E) → v.place ≡ idle_place → v.right.is_spent ≡ false → w.place ≡ idle_place → w.right ≡ no_actor → Joins IsRuled id v other w (view_after_meeting v w) spent_view
   meets id other v w idle live idle_w copied s r at ne there = let at_w = was_there s.views id other w (view_after_meeting v w) ne there in let told = r.told id v at live in
-      let told_w = r.told other w at_w (ap (λ (x : Right). x.spent) copied) in
+      let told_w = r.told other w at_w (ap (λ (x : Right). x.is_spent) copied) in
       let at_r : get_elem? (rights s.views) other ≡ some w.right = at_map (λ (x : View O E). x.right) s.views other w at_w in
       let back : set (set (rights s.views) id v.right) other used ≡ set (rights s.views) other used = ap (λ (l : List Right). set l other used) (same_rights s id v at) in
       let gone : (family : ℕ) → IsGone (rights s.views) family → IsGone (set (set (rights s.views) id v.right) other used) family = λ family g. subst (λ (l : List Right). IsGone l family) (sym back) (spent_gone families (rights s.views) r.fair other family g) in
       goes s r id other v w (view_after_meeting v w) at ne at_w idle idle_w idle live
-      (subst (IsFair families) (sym back) (copy_goes families (rights s.views) r.fair other w.right at_r (ap (λ (x : Right). x.draws) copied)))
+      (subst (IsFair families) (sym back) (copy_goes families (rights s.views) r.fair other w.right at_r (ap (λ (x : Right). x.may_draw) copied)))
       gone
-      (every_map (λ (l : Last E). IsGone (rights s.views) l.family) (λ l. IsGone (set (set (rights s.views) id v.right) other used) l.family) (λ l h. gone l.family h) v.page.lasts (r.gone id v at))
-      (told_joins m o r.history v.right v.right v.page w.page.seen told_w.missed v.page.lasts told told_w.whole refl refl told.lasts (λ _ es h mid e. h))
+      (every_map (λ (l : Last E). IsGone (rights s.views) l.family) (λ l. IsGone (set (set (rights s.views) id v.right) other used) l.family) (λ l h. gone l.family h) v.page.joined_heads (r.gone id v at))
+      (told_joins m o r.history v.right v.right v.page w.page.seen told_w.missed v.page.joined_heads told told_w.whole refl refl told.joined_heads (λ _ es h mid e. h))
       (r.made id v at)
       (λ is. whole_first v.page.seen told.missed w.page.seen told_w.missed r.history told.whole told_w.whole is)
       (λ is. whole_second v.page.seen told.missed w.page.seen told_w.missed r.history told.whole told_w.whole is)
 
   -- a worker goes into the head of its family
-  pub takes_in : (id other : ℕ) (v w : View O E) → v.place ≡ nowhere → v.right.draws ≡ true → v.right.actor ≡ HOST → w.place ≡ nowhere → w.right.draws ≡ true → w.right.family ≡ v.right.family → IsIn w.right.actor v.right.away
+  pub takes_in : (id other : ℕ) (v w : View O E) → v.place ≡ idle_place → v.right.may_draw ≡ true → v.right.actor ≡ HOST → w.place ≡ idle_place → w.right.may_draw ≡ true → w.right.family ≡ v.right.family → IsIn w.right.actor v.right.absent_actors
       → Joins IsRuled id v other w (view_after_joining v w) spent_view
   takes_in id other v w idle d host idle_w dw family within s r at ne there = let at_w = was_there s.views id other w (view_after_joining v w) ne there in
       let live = not_spent m o families s r id v at d in let told = r.told id v at live in let told_w = r.told other w at_w (not_spent m o families s r other w at_w dw) in
@@ -196,8 +196,8 @@ module _ {O E F : Type 0} (m : Meanings O E F) (o : O) (families : ℕ) where
       goes s r id other v w (view_after_joining v w) at ne at_w idle idle_w idle live
       (takes_back families (rights s.views) r.fair id other v.right w.right at_r d host at_rw dw family worker)
       gone
-      (every_map (λ (l : Last E). IsGone (rights s.views) l.family) (λ l. IsGone (set (set (rights s.views) id (view_after_joining v w).right) other used) l.family) (λ l h. gone l.family h) v.page.lasts (r.gone id v at))
-      (told_joins m o r.history v.right (view_after_joining v w).right v.page w.page.seen told_w.missed v.page.lasts told told_w.whole refl refl told.lasts
+      (every_map (λ (l : Last E). IsGone (rights s.views) l.family) (λ l. IsGone (set (set (rights s.views) id (view_after_joining v w).right) other used) l.family) (λ l h. gone l.family h) v.page.joined_heads (r.gone id v at))
+      (told_joins m o r.history v.right (view_after_joining v w).right v.page w.page.seen told_w.missed v.page.joined_heads told told_w.whole refl refl told.joined_heads
       (λ _ es h mid e. every_both (IsMissable m v.right) (IsMissable m w.right) (IsMissable m (view_after_joining v w).right) (both_miss v w family) es h
       (every_back (IsMissable m w.right) mid es (subst (Every (IsMissable m w.right)) (sym e) (told_w.missable dw)))))
       (r.made id v at)
@@ -207,15 +207,15 @@ module _ {O E F : Type 0} (m : Meanings O E F) (o : O) (families : ℕ) where
       both_miss : (v w : View O E) → w.right.family ≡ v.right.family → (e : E) → IsMissable m v.right e → IsMissable m w.right e → IsMissable m (view_after_joining v w).right e
       both_miss v w family e x y = (
         x.0,
-        λ host same. still_in w.right.actor (m.whose e).actor v.right.away
+        λ host same. still_in w.right.actor (m.whose e).actor v.right.absent_actors
             (λ is. ⊎_elim (λ (z : (m.whose e).family ≢ w.right.family). z (same ∙ sym family)) (λ (z : ((m.whose e).actor ≢ w.right.actor) × (m.alone e ≡ false)). z.0 is) y.0)
             (x.1 host same),
       )
 
   -- a head with nobody out goes, and a copy keeps what it knows
-  pub closes : (id other : ℕ) (v w : View O E) → v.place ≡ nowhere → v.right ≡ nobody → w.place ≡ nowhere → w.right.draws ≡ true → w.right.actor ≡ HOST → w.right.away ≡ [] → w.page.earlier ≡ []
+  pub closes : (id other : ℕ) (v w : View O E) → v.place ≡ idle_place → v.right ≡ no_actor → w.place ≡ idle_place → w.right.may_draw ≡ true → w.right.actor ≡ HOST → w.right.absent_actors ≡ [] → w.page.earlier ≡ []
       → Joins IsRuled id v other w (view_after_closing v w) spent_view
-  closes id other v w idle copied idle_w dw host alone fresh s r at ne there = let at_w = was_there s.views id other w (view_after_closing v w) ne there in let live : v.right.spent ≡ false = ap (λ (x : Right). x.spent) copied in
+  closes id other v w idle copied idle_w dw host alone fresh s r at ne there = let at_w = was_there s.views id other w (view_after_closing v w) ne there in let live : v.right.is_spent ≡ false = ap (λ (x : Right). x.is_spent) copied in
       let told = r.told id v at live in let told_w = r.told other w at_w (not_spent m o families s r other w at_w dw) in let at_rw = right_at m o families s.views other w at_w in
       let back : set (set (rights s.views) id v.right) other used ≡ set (rights s.views) other used = ap (λ (l : List Right). set l other used) (same_rights s id v at) in
       let gone : (f : ℕ) → IsGone (rights s.views) f → IsGone (set (set (rights s.views) id v.right) other used) f = λ f g. subst (λ (l : List Right). IsGone l f) (sym back) (spent_gone families (rights s.views) r.fair other f g) in
@@ -223,10 +223,10 @@ module _ {O E F : Type 0} (m : Meanings O E F) (o : O) (families : ℕ) where
       (subst (IsFair families) (sym back) (head_goes families (rights s.views) r.fair other w.right at_rw dw host alone))
       gone (
         subst (λ (l : List Right). IsGone l w.right.family) (sym back) (head_gone families (rights s.views) r.fair other w.right at_rw dw host alone),
-        every_map (λ (l : Last E). IsGone (rights s.views) l.family) (λ l. IsGone (set (set (rights s.views) id v.right) other used) l.family) (λ l h. gone l.family h) v.page.lasts (r.gone id v at),
+        every_map (λ (l : Last E). IsGone (rights s.views) l.family) (λ l. IsGone (set (set (rights s.views) id v.right) other used) l.family) (λ l h. gone l.family h) v.page.joined_heads (r.gone id v at),
       )
-      (told_joins m o r.history v.right v.right v.page w.page.seen told_w.missed (last_of w ∷ v.page.lasts) told told_w.whole refl refl
-      (told_last m o r.history w.right w.page told_w dw host alone fresh, told.lasts) (λ d es h mid e. h))
+      (told_joins m o r.history v.right v.right v.page w.page.seen told_w.missed (last_of w ∷ v.page.joined_heads) told told_w.whole refl refl
+      (told_last m o r.history w.right w.page told_w dw host alone fresh, told.joined_heads) (λ d es h mid e. h))
       (r.made id v at)
       (λ is. whole_first v.page.seen told.missed w.page.seen told_w.missed r.history told.whole told_w.whole is)
       (λ is. whole_second v.page.seen told.missed w.page.seen told_w.missed r.history told.whole told_w.whole is)
@@ -251,25 +251,25 @@ module _ {O E F : Type 0} (m : Meanings O E F) (o : O) (families : ℕ) where
       up = omega arith;
       few = lit< tt;
       each = λ t low high. absurd (omega arith);
-      once = λ i j p q ei ej _ _ _. only_place nowhere i p ei ∙ sym (only_place nowhere j q ej);
-      drawn = only (λ (p : Place). p.drawn ≡ true → (0 ≤ p.ticket) × (p.ticket < 0)) nowhere (λ e. clash e);
-      turn = only (λ (p : Place). p.turn ≡ true → (p.drawn ≡ true) × (p.ticket ≡ 0)) nowhere (λ e. clash e);
-      out = only (λ (p : Place). p.out ≡ true → p.turn ≡ true) nowhere (λ e. clash e);
+      once = λ i j p q ei ej _ _ _. only_place idle_place i p ei ∙ sym (only_place idle_place j q ej);
+      has_ticket = only (λ (p : QueuePlace). p.has_ticket ≡ true → (0 ≤ p.ticket) × (p.ticket < 0)) idle_place (λ e. clash e);
+      turn = only (λ (p : QueuePlace). p.turn ≡ true → (p.has_ticket ≡ true) × (p.ticket ≡ 0)) idle_place (λ e. clash e);
+      out = only (λ (p : QueuePlace). p.out ≡ true → p.turn ≡ true) idle_place (λ e. clash e);
     };
     fair = record {
       few = few;
-      plain = only (λ (r : Right). r.draws ≡ true → (r.spent ≡ false) × (r.family < families) × (r.actor < 2 ^ 32)) v.right (λ _. (refl, some_families, lit< tt));
+      plain = only (λ (r : Right). r.may_draw ≡ true → (r.is_spent ≡ false) × (r.family < families) × (r.actor < 2 ^ 32)) v.right (λ _. (refl, some_families, lit< tt));
       apart = λ i j p q ei ej _ _ _ _. only_place v.right i p ei ∙ sym (only_place v.right j q ej);
-      headed = only (λ (r : Right). r.draws ≡ true → IsHeaded (v.right ∷ []) r) v.right (λ _. record { at = 0; head = v.right; there = refl; draws = refl; host = refl; family = refl; away = λ ne. absurd (ne refl) });
-      seated = only (λ (r : Right). r.draws ≡ true → r.actor ≡ HOST → (a : ℕ) → IsIn a r.away → (a ≢ HOST) × IsSeated (v.right ∷ []) r.family a) v.right (λ _ _ a none. absurd none);
+      headed = only (λ (r : Right). r.may_draw ≡ true → IsHeaded (v.right ∷ []) r) v.right (λ _. record { at = 0; head = v.right; there = refl; may_draw = refl; host = refl; family = refl; absent_actors = λ ne. absurd (ne refl) });
+      seated = only (λ (r : Right). r.may_draw ≡ true → r.actor ≡ HOST → (a : ℕ) → IsIn a r.absent_actors → (a ≢ HOST) × IsSeated (v.right ∷ []) r.family a) v.right (λ _ _ a none. absurd none);
       maker = λ i j p q ei ej _ _. only_place v.right i p ei ∙ sym (only_place v.right j q ej);
-      made = λ i j p q ei ej. first_of_two v.right (λ (p q : Right). 0 < p.heads → q.draws ≡ true → q.family < p.heads) (λ _ _. omega arith) i j p q ei ej;
+      made = λ i j p q ei ej. first_of_two v.right (λ (p q : Right). 0 < p.heads → q.may_draw ≡ true → q.family < p.heads) (λ _ _. omega arith) i j p q ei ej;
     };
-    entitled = only (λ (u : View O E). u.place.drawn ≡ true → u.right.draws ≡ true) v (λ e. clash e);
+    entitled = only (λ (u : View O E). u.place.has_ticket ≡ true → u.right.may_draw ≡ true) v (λ e. clash e);
     home = λ _. (o, refl, refl, empty);
     informed = only (λ (u : View O E). u.place.out ≡ true → u.page.seen ≡ []) v (λ e. clash e);
-    told = only (λ (u : View O E). u.right.spent ≡ false → IsTold m o [] u.right u.page) v (λ _. record { opening_is = refl; missed = []; whole = refl; missable = λ _. tt; own = λ _. refl; olds = tt; lasts = tt });
-    gone = only (λ (u : View O E). Every (λ l. IsGone (v.right ∷ []) l.family) u.page.lasts) v tt;
+    told = only (λ (u : View O E). u.right.is_spent ≡ false → IsTold m o [] u.right u.page) v (λ _. record { opening_is = refl; missed = []; whole = refl; missable = λ _. tt; own = λ _. refl; older_histories = tt; joined_heads = tt });
+    gone = only (λ (u : View O E). Every (λ l. IsGone (v.right ∷ []) l.family) u.page.joined_heads) v tt;
     made = only (λ (u : View O E). 0 < u.right.heads → Every (λ e. (m.whose e).family < u.right.heads) []) v (λ _. tt);
     longest = (0, v, refl, refl, refl);
   }
@@ -283,8 +283,8 @@ module _ {O E F : Type 0} (m : Meanings O E F) (o : O) (families : ℕ) where
   gone_in rs (l ∷ ls) f g h = ⊎_elim (λ (t : f ≡ l.family). subst (IsGone rs) (sym t) g.0) (λ (t : IsIn f (map (λ (l : Last E). l.family) ls)). gone_in rs ls f g.1 t) h
 
   -- where the heads of all families went, the object is home, with the history that each of them saw
-  pub ends : (ws : List ℕ) (xs : List O) (id : ℕ) (v : View O E) → Final (Seen IsRuled id v) ws xs → v.right.spent ≡ false → ((f : ℕ) → f < families → IsIn f (map (λ l. l.family) v.page.lasts))
-      → (y : O) → get_elem? xs 0 ≡ some y → IsLeft m o v.page.lasts y
+  pub ends : (ws : List ℕ) (xs : List O) (id : ℕ) (v : View O E) → Final (Seen IsRuled id v) ws xs → v.right.is_spent ≡ false → ((f : ℕ) → f < families → IsIn f (map (λ l. l.family) v.page.joined_heads))
+      → (y : O) → get_elem? xs 0 ≡ some y → IsLeft m o v.page.joined_heads y
   ends ws xs id v final live all y is = let s = final.0 in let r = final.1.0 in let at = final.1.1 in
       let told = r.told id v at live in let home = r.home (λ j u e. nobody_out s r id v at all j u e) in
       let same : home.0 ≡ y = some-injective home.0 y (sym (final.4 0 home.0 home.1) ∙ is) in
@@ -292,13 +292,13 @@ module _ {O E F : Type 0} (m : Meanings O E F) (o : O) (families : ℕ) where
         fixed = fixed;
         lawful = subst (m.lawful (m.fixed o)) history r.lawful;
         short = subst (λ (h : List E). length h < 2 ^ 63) history r.short;
-        each = subst (λ (h : List E). Every (IsLast m h) v.page.lasts) history told.lasts;
+        each = subst (λ (h : List E). Every (IsLast m h) v.page.joined_heads) history told.joined_heads;
       }
     where
-      nobody_out : (s : State O (View O E)) (r : IsRuled s) (id : ℕ) (v : View O E) → get_elem? s.views id ≡ some v → ((f : ℕ) → f < families → IsIn f (map (λ l. l.family) v.page.lasts))
+      nobody_out : (s : State O (View O E)) (r : IsRuled s) (id : ℕ) (v : View O E) → get_elem? s.views id ≡ some v → ((f : ℕ) → f < families → IsIn f (map (λ l. l.family) v.page.joined_heads))
           → (j : ℕ) (u : View O E) → get_elem? s.views j ≡ some u → u.place.out ≡ false
       nobody_out s r id v at all j u e = ⊎_elim
           (λ (out : u.place.out ≡ true). let there = place_at m o families s.views j u e in let turn = r.queue.out j u.place there out in let draws = r.entitled j u e (r.queue.turn j u.place there turn).0 in
           let right = right_at m o families s.views j u e in let plain = r.fair.plain j u.right right draws in
-          absurd ((gone_in (rights s.views) v.page.lasts u.right.family (r.gone id v at) (all u.right.family plain.1) j u.right right).0 draws refl))
+          absurd ((gone_in (rights s.views) v.page.joined_heads u.right.family (r.gone id v at) (all u.right.family plain.1) j u.right right).0 draws refl))
           (λ (i : u.place.out ≡ false). i) (is_true_or_false u.place.out)

@@ -25,9 +25,9 @@ module _ {O E F : Type 0} (m : Meanings O E F) where
     hand = refl;
     who_is = refl;
     live = refl;
-    draws = refl;
-    olds = refl;
-    lasts = refl;
+    may_draw = refl;
+    older_histories = refl;
+    joined_heads = refl;
     lawful = empty (m.fixed o);
     short = lit< tt;
     own = refl;

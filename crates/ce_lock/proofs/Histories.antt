@@ -8,7 +8,7 @@ use Rattle.ce_lock.specs.declared.who.Who.{Who}
 use Rattle.ce_lock.specs.declared.view.Right.{Right}
 use Rattle.ce_lock.specs.declared.view.Last.{Last}
 use Rattle.ce_lock.specs.declared.view.Page.{Page}
-use Rattle.ce_lock.specs.Entries.{IsPrefix, longer, Every, IsIn, is_of, entries_of, IsForeign}
+use Rattle.ce_lock.specs.Entries.{IsPrefix, longer_list, Every, IsIn, is_of, entries_of, IsForeign}
 use Rattle.ce_lock.specs.Meanings.{Meanings}
 use Rattle.ce_lock.specs.OneOrder.{who_of, IsMissable, IsLast, IsTold}
 
@@ -39,15 +39,15 @@ module _ {A : Type 0} where
   between (x ∷ xs) a (y ∷ ys) b e le = let head : x ≡ y = cc in let tail : xs ++ a ≡ ys ++ b = cc in
       let t = between xs a ys b tail (omega arith) in (t.0, (λ k. head k ∷ t.1 k), t.2)
 
-  pub longer_first : (xs ys : List A) → length xs ≤ length (longer xs ys)
+  pub longer_first : (xs ys : List A) → length xs ≤ length (longer_list xs ys)
   longer_first xs ys = grind arith
 
-  pub longer_second : (xs ys : List A) → length ys ≤ length (longer xs ys)
+  pub longer_second : (xs ys : List A) → length ys ≤ length (longer_list xs ys)
   longer_second xs ys = grind arith
 
   -- the longer one is either, and the other is a front part of it
   pub longer_is : (xs a ys b h : List A) → xs ++ a ≡ h → ys ++ b ≡ h
-      → ((longer xs ys ≡ xs) × ((mid : List A) × (ys ++ mid ≡ xs) × (b ≡ mid ++ a))) ⊎ ((longer xs ys ≡ ys) × ((mid : List A) × (xs ++ mid ≡ ys) × (a ≡ mid ++ b)))
+      → ((longer_list xs ys ≡ xs) × ((mid : List A) × (ys ++ mid ≡ xs) × (b ≡ mid ++ a))) ⊎ ((longer_list xs ys ≡ ys) × ((mid : List A) × (xs ++ mid ≡ ys) × (a ≡ mid ++ b)))
   longer_is xs a ys b h p q = dite (dec_lt (length xs) (length ys))
       (λ lt. inr (picks true (lt_true (length xs) (length ys) lt), between xs a ys b (p ∙ sym q) (omega arith)))
       (λ not. inl (picks_first false (lt_false (length xs) (length ys) not), between ys b xs a (q ∙ sym p) (omega arith)))
@@ -58,10 +58,10 @@ module _ {A : Type 0} where
       lt_false : (m n : ℕ) → ¬ (m < n) → ltb m n ≡ false
       lt_false m n l = grind arith
 
-      picks : (c : Bool) → ltb (length xs) (length ys) ≡ true → longer xs ys ≡ ys
+      picks : (c : Bool) → ltb (length xs) (length ys) ≡ true → longer_list xs ys ≡ ys
       picks c e = ap (λ (z : Bool). cond z ys xs) e
 
-      picks_first : (c : Bool) → ltb (length xs) (length ys) ≡ false → longer xs ys ≡ xs
+      picks_first : (c : Bool) → ltb (length xs) (length ys) ≡ false → longer_list xs ys ≡ xs
       picks_first c e = ap (λ (z : Bool). cond z ys xs) e
 
 module _ {E : Type 0} (whose : E → Who) where
@@ -122,7 +122,7 @@ module _ {O E F : Type 0} (m : Meanings O E F) (opening : O) where
   lasts_grow h e ls is ne = every_both (IsLast m h) (λ l. (m.whose e).family ≢ l.family) (IsLast m (h ++ e ∷ [])) (last_grows h e) ls is ne
 
   -- another's entry is added
-  pub told_grows : (h : List E) (r : Right) (p : Page O E) (e : E) → IsTold m opening h r p → (r.draws ≡ true → IsMissable m r e) → Every (λ l. (m.whose e).family ≢ l.family) p.lasts
+  pub told_grows : (h : List E) (r : Right) (p : Page O E) (e : E) → IsTold m opening h r p → (r.may_draw ≡ true → IsMissable m r e) → Every (λ l. (m.whose e).family ≢ l.family) p.joined_heads
       → IsTold m opening (h ++ e ∷ []) r p
   told_grows h r p e t fine apart = record {
     opening_is = t.opening_is;
@@ -130,12 +130,12 @@ module _ {O E F : Type 0} (m : Meanings O E F) (opening : O) where
     whole = sym (append_assoc p.seen t.missed (e ∷ [])) ∙ ap (λ (x : List E). x ++ e ∷ []) t.whole;
     missable = λ d. every_append (IsMissable m r) t.missed (e ∷ []) (t.missable d) (fine d, tt);
     own = λ d. own_other m.whose (who_of r) h e (not_of m.whose m.alone (who_of r) e (fine d).0) ∙ t.own d;
-    olds = every_map (λ old. IsPrefix old h) (λ old. IsPrefix old (h ++ e ∷ [])) (λ old x. prefix_grows old h (e ∷ []) x) p.olds t.olds;
-    lasts = lasts_grow h e p.lasts t.lasts apart;
+    older_histories = every_map (λ old. IsPrefix old h) (λ old. IsPrefix old (h ++ e ∷ [])) (λ old x. prefix_grows old h (e ∷ []) x) p.older_histories t.older_histories;
+    joined_heads = lasts_grow h e p.joined_heads t.joined_heads apart;
   }
 
   -- its own entry is added, after it has seen all
-  pub told_wrote : (h : List E) (r : Right) (p : Page O E) (e : E) → IsTold m opening h r p → p.seen ≡ h → m.whose e ≡ who_of r → Every (λ l. (m.whose e).family ≢ l.family) p.lasts
+  pub told_wrote : (h : List E) (r : Right) (p : Page O E) (e : E) → IsTold m opening h r p → p.seen ≡ h → m.whose e ≡ who_of r → Every (λ l. (m.whose e).family ≢ l.family) p.joined_heads
       → IsTold m opening (h ++ e ∷ []) r (record p { seen = p.seen ++ e ∷ []; mine = p.mine ++ e ∷ [] })
   told_wrote h r p e t all mine apart = record {
     opening_is = t.opening_is;
@@ -143,29 +143,29 @@ module _ {O E F : Type 0} (m : Meanings O E F) (opening : O) where
     whole = append-nil (p.seen ++ e ∷ []) ∙ ap (λ (x : List E). x ++ e ∷ []) all;
     missable = λ d. tt;
     own = λ d. own_mine m.whose (who_of r) h e (of_actor m.whose (who_of r) e mine) ∙ (ap (λ (x : List E). x ++ e ∷ []) (t.own d) ∙ append_assoc p.earlier p.mine (e ∷ []));
-    olds = every_map (λ old. IsPrefix old h) (λ old. IsPrefix old (h ++ e ∷ [])) (λ old x. prefix_grows old h (e ∷ []) x) p.olds t.olds;
-    lasts = lasts_grow h e p.lasts t.lasts apart;
+    older_histories = every_map (λ old. IsPrefix old h) (λ old. IsPrefix old (h ++ e ∷ [])) (λ old x. prefix_grows old h (e ∷ []) x) p.older_histories t.older_histories;
+    joined_heads = lasts_grow h e p.joined_heads t.joined_heads apart;
   }
 
   -- it sees all
   pub told_reads : (h : List E) (r : Right) (p : Page O E) → IsTold m opening h r p → IsTold m opening h r (record p { seen = h })
-  told_reads h r p t = record { opening_is = t.opening_is; missed = []; whole = append-nil h; missable = λ d. tt; own = t.own; olds = t.olds; lasts = t.lasts }
+  told_reads h r p t = record { opening_is = t.opening_is; missed = []; whole = append-nil h; missable = λ d. tt; own = t.own; older_histories = t.older_histories; joined_heads = t.joined_heads }
 
   -- the look after a join
-  pub told_settles : (h : List E) (r : Right) (p : Page O E) → IsTold m opening h r p → IsTold m opening h r (record p { olds = [] })
-  told_settles h r p t = record { opening_is = t.opening_is; missed = t.missed; whole = t.whole; missable = t.missable; own = t.own; olds = tt; lasts = t.lasts }
+  pub told_settles : (h : List E) (r : Right) (p : Page O E) → IsTold m opening h r p → IsTold m opening h r (record p { older_histories = [] })
+  told_settles h r p t = record { opening_is = t.opening_is; missed = t.missed; whole = t.whole; missable = t.missable; own = t.own; older_histories = tt; joined_heads = t.joined_heads }
 
   -- a copy, of a view that may not draw
-  pub told_copy : (h : List E) (r r' : Right) (p : Page O E) (earlier : List E) → IsTold m opening h r p → r'.draws ≡ false
-      → IsTold m opening h r' (record { opening = p.opening; seen = p.seen; earlier = earlier; mine = []; olds = []; lasts = [] })
-  told_copy h r r' p earlier t none = record { opening_is = t.opening_is; missed = t.missed; whole = t.whole; missable = λ d. never d; own = λ d. never d; olds = tt; lasts = tt }
+  pub told_copy : (h : List E) (r r' : Right) (p : Page O E) (earlier : List E) → IsTold m opening h r p → r'.may_draw ≡ false
+      → IsTold m opening h r' (record { opening = p.opening; seen = p.seen; earlier = earlier; mine = []; older_histories = []; joined_heads = [] })
+  told_copy h r r' p earlier t none = record { opening_is = t.opening_is; missed = t.missed; whole = t.whole; missable = λ d. never d; own = λ d. never d; older_histories = tt; joined_heads = tt }
     where
-      never : {P : Type 0} → r'.draws ≡ true → P
+      never : {P : Type 0} → r'.may_draw ≡ true → P
       never d = absurd (cc (none, d))
 
   -- a copy for an actor of which there are no entries
   pub told_fresh : (h : List E) (r r' : Right) (p : Page O E) → IsTold m opening h r p → Every (λ e. (m.whose e).family ≢ r'.family) h
-      → IsTold m opening h r' (record { opening = p.opening; seen = p.seen; earlier = []; mine = []; olds = []; lasts = [] })
+      → IsTold m opening h r' (record { opening = p.opening; seen = p.seen; earlier = []; mine = []; older_histories = []; joined_heads = [] })
   told_fresh h r r' p t none = record {
     opening_is = t.opening_is;
     missed = t.missed;
@@ -173,15 +173,15 @@ module _ {O E F : Type 0} (m : Meanings O E F) (opening : O) where
     missable = λ d. every_map (λ e. (m.whose e).family ≢ r'.family) (IsMissable m r') (λ e ne. (inl ne, λ _ same. absurd (ne same))) t.missed
         (every_back (λ e. (m.whose e).family ≢ r'.family) p.seen t.missed (subst (Every (λ e. (m.whose e).family ≢ r'.family)) (sym t.whole) none));
     own = λ d. own_none m.whose (who_of r') h (every_map (λ e. (m.whose e).family ≢ r'.family) (λ e. is_of m.whose (who_of r') e ≡ false) (λ e ne. not_of m.whose m.alone (who_of r') e (inl ne)) h none);
-    olds = tt;
-    lasts = tt;
+    older_histories = tt;
+    joined_heads = tt;
   }
 
   -- a copy for an actor that a head sends out
-  pub told_sent : (h : List E) (r : Right) (p : Page O E) (a : ℕ) → IsTold m opening h r p → r.draws ≡ true → r.actor ≡ HOST → a ≢ HOST → ¬ IsIn a r.away
-      → IsTold m opening h (record { spent = false; draws = true; family = r.family; actor = a; heads = 0; away = [] })
-      (record { opening = p.opening; seen = p.seen; earlier = entries_of m.whose (record { family = r.family; actor = a }) p.seen; mine = []; olds = []; lasts = [] })
-  told_sent h r p a t d host other free = let r' : Right = record { spent = false; draws = true; family = r.family; actor = a; heads = 0; away = [] } in
+  pub told_sent : (h : List E) (r : Right) (p : Page O E) (a : ℕ) → IsTold m opening h r p → r.may_draw ≡ true → r.actor ≡ HOST → a ≢ HOST → ¬ IsIn a r.absent_actors
+      → IsTold m opening h (record { is_spent = false; may_draw = true; family = r.family; actor = a; heads = 0; absent_actors = [] })
+      (record { opening = p.opening; seen = p.seen; earlier = entries_of m.whose (record { family = r.family; actor = a }) p.seen; mine = []; older_histories = []; joined_heads = [] })
+  told_sent h r p a t d host other free = let r' : Right = record { is_spent = false; may_draw = true; family = r.family; actor = a; heads = 0; absent_actors = [] } in
       let fine : Every (IsMissable m r') t.missed = every_map (IsMissable m r) (IsMissable m r') (λ e x. (worker e x, λ is. absurd (other is))) t.missed (t.missable d) in record {
         opening_is = t.opening_is;
         missed = t.missed;
@@ -189,52 +189,52 @@ module _ {O E F : Type 0} (m : Meanings O E F) (opening : O) where
         missable = λ _. fine;
         own = λ _. ap (entries_of m.whose (record { family = r.family; actor = a })) (sym t.whole)
             ∙ (own_missed m.whose m.alone (record { family = r.family; actor = a }) p.seen t.missed (foreign_missed r' t.missed fine) ∙ sym (append-nil (entries_of m.whose (record { family = r.family; actor = a }) p.seen)));
-        olds = tt;
-        lasts = tt;
+        older_histories = tt;
+        joined_heads = tt;
       }
     where
       worker : (e : E) → IsMissable m r e → IsForeign m.whose m.alone (record { family = r.family; actor = a }) e
       worker e x = dite (ℕ_discrete (m.whose e).family r.family)
-          (λ same. inr ((λ is. free (subst (λ (z : ℕ). IsIn z r.away) is (x.1 host same))), ⊎_elim (λ (z : (m.whose e).family ≢ r.family). absurd (z same)) (λ (z : ((m.whose e).actor ≢ r.actor) × (m.alone e ≡ false)). z.1) x.0))
+          (λ same. inr ((λ is. free (subst (λ (z : ℕ). IsIn z r.absent_actors) is (x.1 host same))), ⊎_elim (λ (z : (m.whose e).family ≢ r.family). absurd (z same)) (λ (z : ((m.whose e).actor ≢ r.actor) × (m.alone e ≡ false)). z.1) x.0))
           (λ ne. inl ne)
 
   -- the head that sends it out
-  pub told_sender : (h : List E) (r : Right) (p : Page O E) (a : ℕ) → IsTold m opening h r p → IsTold m opening h (record r { away = a ∷ r.away }) p
+  pub told_sender : (h : List E) (r : Right) (p : Page O E) (a : ℕ) → IsTold m opening h r p → IsTold m opening h (record r { absent_actors = a ∷ r.absent_actors }) p
   told_sender h r p a t = record {
     opening_is = t.opening_is;
     missed = t.missed;
     whole = t.whole;
-    missable = λ d. every_map (IsMissable m r) (IsMissable m (record r { away = a ∷ r.away })) (λ e x. (x.0, λ host same. inr (x.1 host same))) t.missed (t.missable d);
+    missable = λ d. every_map (IsMissable m r) (IsMissable m (record r { absent_actors = a ∷ r.absent_actors })) (λ e x. (x.0, λ host same. inr (x.1 host same))) t.missed (t.missable d);
     own = t.own;
-    olds = t.olds;
-    lasts = t.lasts;
+    older_histories = t.older_histories;
+    joined_heads = t.joined_heads;
   }
 
   -- a view takes in what another has seen: here with what it may have missed then, and its right then
-  pub told_joins : (h : List E) (r r' : Right) (p : Page O E) (seen missed : List E) (lasts : List (Last E)) → IsTold m opening h r p → seen ++ missed ≡ h → who_of r' ≡ who_of r → r'.draws ≡ r.draws
+  pub told_joins : (h : List E) (r r' : Right) (p : Page O E) (seen missed : List E) (lasts : List (Last E)) → IsTold m opening h r p → seen ++ missed ≡ h → who_of r' ≡ who_of r → r'.may_draw ≡ r.may_draw
       → Every (IsLast m h) lasts
-      → (r.draws ≡ true → (es : List E) → Every (IsMissable m r) es → (mid : List E) → mid ++ es ≡ missed → Every (IsMissable m r') es)
-      → IsTold m opening h r' (record p { seen = longer p.seen seen; olds = p.seen ∷ seen ∷ p.olds; lasts = lasts })
+      → (r.may_draw ≡ true → (es : List E) → Every (IsMissable m r) es → (mid : List E) → mid ++ es ≡ missed → Every (IsMissable m r') es)
+      → IsTold m opening h r' (record p { seen = longer_list p.seen seen; older_histories = p.seen ∷ seen ∷ p.older_histories; joined_heads = lasts })
   told_joins h r r' p seen missed lasts t whole who draws lasts_are fine = ⊎_elim
-      (λ (x : (longer p.seen seen ≡ p.seen) × ((mid : List E) × (seen ++ mid ≡ p.seen) × (missed ≡ mid ++ t.missed))).
+      (λ (x : (longer_list p.seen seen ≡ p.seen) × ((mid : List E) × (seen ++ mid ≡ p.seen) × (missed ≡ mid ++ t.missed))).
       joined t.missed (ap (λ (l : List E). l ++ t.missed) x.0 ∙ t.whole) (λ d. fine d t.missed (t.missable d) x.1.0 (sym x.1.2)))
-      (λ (x : (longer p.seen seen ≡ seen) × ((mid : List E) × (p.seen ++ mid ≡ seen) × (t.missed ≡ mid ++ missed))).
+      (λ (x : (longer_list p.seen seen ≡ seen) × ((mid : List E) × (p.seen ++ mid ≡ seen) × (t.missed ≡ mid ++ missed))).
       joined missed (ap (λ (l : List E). l ++ missed) x.0 ∙ whole) (λ d. fine d missed (every_back (IsMissable m r) x.1.0 missed (subst (Every (IsMissable m r)) x.1.2 (t.missable d))) [] refl))
       (longer_is p.seen t.missed seen missed h t.whole whole)
     where
-      joined : (left : List E) → longer p.seen seen ++ left ≡ h → (r.draws ≡ true → Every (IsMissable m r') left) → IsTold m opening h r' (record p { seen = longer p.seen seen; olds = p.seen ∷ seen ∷ p.olds; lasts = lasts })
+      joined : (left : List E) → longer_list p.seen seen ++ left ≡ h → (r.may_draw ≡ true → Every (IsMissable m r') left) → IsTold m opening h r' (record p { seen = longer_list p.seen seen; older_histories = p.seen ∷ seen ∷ p.older_histories; joined_heads = lasts })
       joined left is missable = record {
         opening_is = t.opening_is;
         missed = left;
         whole = is;
         missable = λ d. missable (sym draws ∙ d);
         own = λ d. ap (λ (w : Who). entries_of m.whose w h) who ∙ t.own (sym draws ∙ d);
-        olds = (record { rest = t.missed; whole = t.whole }, (record { rest = missed; whole = whole }, t.olds));
-        lasts = lasts_are;
+        older_histories = (record { rest = t.missed; whole = t.whole }, (record { rest = missed; whole = whole }, t.older_histories));
+        joined_heads = lasts_are;
       }
 
   -- what is kept of a head with nobody out
-  pub told_last : (h : List E) (r : Right) (p : Page O E) → IsTold m opening h r p → r.draws ≡ true → r.actor ≡ HOST → r.away ≡ [] → p.earlier ≡ []
+  pub told_last : (h : List E) (r : Right) (p : Page O E) → IsTold m opening h r p → r.may_draw ≡ true → r.actor ≡ HOST → r.absent_actors ≡ [] → p.earlier ≡ []
       → IsLast m h (record { family = r.family; mine = p.mine; seen = p.seen })
   told_last h r p t d host nobody_out none = record {
     missed = t.missed;

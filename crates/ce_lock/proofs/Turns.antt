@@ -8,7 +8,7 @@ use Rattle.ce_lock.specs.declared.view.View.{View}
 use Rattle.ce_lock.specs.Entries.{Every, IsForeign, entries_of}
 use Rattle.ce_lock.specs.Meanings.{Meanings}
 use Rattle.ce_lock.specs.OneOrder.{who_of, IsMissable}
-use Rattle.ce_lock.specs.Telling.{place_called, place_holding, view_at, view_with_seen, view_after_entry, HasTaken, HasCommitted, HasGiven}
+use Rattle.ce_lock.specs.Telling.{served_place, place_holding, view_at, view_with_seen, view_after_entry, HasTaken, HasCommitted, HasGiven}
 use Rattle.atomic_table.specs.Seated.{TableId}
 use Rattle.ce_lock.specs.Sitting.{IsTurn, IsSound, IsKnown}
 use Rattle.ce_lock.proofs.Histories.{own_missed, own_mine, of_actor, foreign_missed}
@@ -24,7 +24,7 @@ carries lawful fits whose alone fronts still f who call (e ∷ es) before l h fi
     let l' = subst (lawful f) (sym same) l in
     subst (λ x. fits f x who call) same (carries lawful fits whose alone fronts still f who call es (before ++ e ∷ []) l' h.1 (still f before e who call (fronts f (before ++ e ∷ []) es l') fit h.0))
 
-module _ {O E F : Type 0} (m : Meanings O E F) (me me' : Me O (View O E)) (t : ℕ) (at : me.0.place ≡ place_called t) (took : HasTaken m me me') where
+module _ {O E F : Type 0} (m : Meanings O E F) (me me' : Me O (View O E)) (t : ℕ) (at : me.0.place ≡ served_place t) (took : HasTaken m me me') where
   -- the view while the object is out
   abbrev pub base : View O E
   base = view_at (view_with_seen me.0 (me.0.page.seen ++ took.missed)) (place_holding t)
@@ -70,15 +70,15 @@ module _ {O E F : Type 0} (m : Meanings O E F) (me me' : Me O (View O E)) (t : �
 
       -- what the commit asks
       pub entry_fits : m.fixed z ≡ m.fixed y → (m.lawful (m.fixed y) (m.history y) → m.lawful (m.fixed y) (m.history z)) → length (m.history z) < 2 ^ 63 → m.whose e ≡ who_of me.0.right
-          → (m.alone e ≡ true → (me.0.right.actor ≡ HOST) × (me.0.right.away ≡ []))
+          → (m.alone e ≡ true → (me.0.right.actor ≡ HOST) × (me.0.right.absent_actors ≡ []))
           → (m.history z ≡ me''.0.page.seen ++ e ∷ []) × m.lawful (m.fixed took.opening) (me''.0.page.seen ++ e ∷ []) × (length (me''.0.page.seen ++ e ∷ []) < 2 ^ 63)
-          × (m.whose e ≡ who_of me''.0.right) × (m.alone e ≡ true → (me''.0.right.actor ≡ HOST) × (me''.0.right.away ≡ []))
+          × (m.whose e ≡ who_of me''.0.right) × (m.alone e ≡ true → (me''.0.right.actor ≡ HOST) × (me''.0.right.absent_actors ≡ []))
       entry_fits fixed lawful short mine alone = (
         grown_is,
         subst (λ (x : F × List E). m.lawful x.0 x.1) (λ k. (fixed_is k, grown_is k)) (lawful (subst (λ (x : F × List E). m.lawful x.0 x.1) (λ k. (sym fixed_is k, sym history_is k)) took.lawful)),
         subst (λ (l : List E). length l < 2 ^ 63) grown_is short,
         mine ∙ ap (λ (v : View O E). who_of v.right) (sym acted_view),
-        λ a. subst (λ (v : View O E). (v.right.actor ≡ HOST) × (v.right.away ≡ [])) (sym acted_view) (alone a),
+        λ a. subst (λ (v : View O E). (v.right.actor ≡ HOST) × (v.right.absent_actors ≡ [])) (sym acted_view) (alone a),
       )
 
       -- what a turn with an entry makes of the view
@@ -116,14 +116,14 @@ module _ {O E F : Type 0} (m : Meanings O E F) (me me' : Me O (View O E)) (t : �
 
         pub given : (last : Me O (View O E)) → HasGiven after last → (last.0 ≡ view_after_entry (view_with_seen me.0 (me.0.page.seen ++ took.missed)) e) × (last.1 ≡ [])
         given last gave = let is = gave t (ap (λ (v : View O E). v.place) committed_view) in (
-          ap (λ (x : Me O (View O E)). x.0) is ∙ (ap (λ (v : View O E). view_at v (place_called t)) committed_view ∙ ap (view_at (view_after_entry (view_with_seen me.0 (me.0.page.seen ++ took.missed)) e)) (sym at)),
+          ap (λ (x : Me O (View O E)). x.0) is ∙ (ap (λ (v : View O E). view_at v (served_place t)) committed_view ∙ ap (view_at (view_after_entry (view_with_seen me.0 (me.0.page.seen ++ took.missed)) e)) (sym at)),
           ap (λ (x : Me O (View O E)). x.1) is ∙ ap rest committed_hand,
         )
 
     -- after a refusal
     pub refused : (last : Me O (View O E)) → HasGiven me'' last → (last.0 ≡ view_with_seen me.0 (me.0.page.seen ++ took.missed)) × (last.1 ≡ [])
     refused last gave = let is = gave t (ap (λ (v : View O E). v.place) acted_view) in (
-      ap (λ (x : Me O (View O E)). x.0) is ∙ (ap (λ (v : View O E). view_at v (place_called t)) acted_view ∙ ap (view_at (view_with_seen me.0 (me.0.page.seen ++ took.missed))) (sym at)),
+      ap (λ (x : Me O (View O E)). x.0) is ∙ (ap (λ (v : View O E). view_at v (served_place t)) acted_view ∙ ap (view_at (view_with_seen me.0 (me.0.page.seen ++ took.missed))) (sym at)),
       ap (λ (x : Me O (View O E)). x.1) is ∙ ap rest acted_hand,
     )
 
@@ -160,9 +160,9 @@ module _ {O E F : Type 0} (m : Meanings O E F) {C R X : Type 0} (stands : F → 
         hand = refl;
         who_is = s.who_is;
         live = s.live;
-        draws = s.draws;
-        olds = s.olds;
-        lasts = s.lasts;
+        may_draw = s.may_draw;
+        older_histories = s.older_histories;
+        joined_heads = s.joined_heads;
         lawful = subst (λ (x : O × View O E). m.lawful (m.fixed x.0) x.1.page.seen) (λ k. (same k, is k)) t.lawful;
         short = subst (λ (w : View O E). length w.page.seen < 2 ^ 63) is t.short;
         own = own;

@@ -10,8 +10,8 @@ pub record IsPrefix {A : Type 0} (xs ys : List A) : Type 0 where
   pub whole : xs ++ rest ≡ ys
 
 -- the longer of two lists, and the first where neither is
-abbrev pub longer : {A : Type 0} → List A → List A → List A
-longer xs ys = if nat_lt (length xs) (length ys) then ys else xs
+abbrev pub longer_list : {A : Type 0} → List A → List A → List A
+longer_list xs ys = if nat_lt (length xs) (length ys) then ys else xs
 
 -- each of the list
 abbrev pub Every : {A : Type 0} → (A → Type 0) → List A → Type 0

@@ -5,7 +5,7 @@ use lib.ListN.{get_elem?}
 use Rattle.atomic_table.specs.Table.{State}
 use Rattle.ce_model.specs.declared.topology.TheConstants.{HOST}
 use Rattle.ce_lock.specs.declared.who.Who.{Who}
-use Rattle.ce_lock.specs.declared.view.Place.{Place}
+use Rattle.ce_lock.specs.declared.view.QueuePlace.{QueuePlace}
 use Rattle.ce_lock.specs.declared.view.Right.{Right}
 use Rattle.ce_lock.specs.declared.view.Last.{Last}
 use Rattle.ce_lock.specs.declared.view.Page.{Page}
@@ -17,15 +17,15 @@ use Rattle.ce_lock.specs.Meanings.{Meanings}
 -- another; fewer than 2^64 are out, so the words, which are the remainders of the two, double none.
 -- The second point: a view that tells that it is its turn has the ticket that is served, so there is one
 -- at most. And, of the third point: only such a view tells that the object is out.
-pub record IsQueue (now next : ℕ) (places : List Place) : Type 0 where
+pub record IsQueue (now next : ℕ) (places : List QueuePlace) : Type 0 where
   pub up : now ≤ next
   pub few : next < now + 2 ^ 64
   pub each : (t : ℕ) → now ≤ t → t < next
-      → (i : ℕ) × (p : Place) × (get_elem? places i ≡ some p) × (p.drawn ≡ true) × (p.ticket ≡ t)
-  pub once : (i j : ℕ) (p q : Place) → get_elem? places i ≡ some p → get_elem? places j ≡ some q
-      → p.drawn ≡ true → q.drawn ≡ true → p.ticket ≡ q.ticket → i ≡ j
-  pub drawn : AtEach places (λ p. p.drawn ≡ true → (now ≤ p.ticket) × (p.ticket < next))
-  pub turn : AtEach places (λ p. p.turn ≡ true → (p.drawn ≡ true) × (p.ticket ≡ now))
+      → (i : ℕ) × (p : QueuePlace) × (get_elem? places i ≡ some p) × (p.has_ticket ≡ true) × (p.ticket ≡ t)
+  pub once : (i j : ℕ) (p q : QueuePlace) → get_elem? places i ≡ some p → get_elem? places j ≡ some q
+      → p.has_ticket ≡ true → q.has_ticket ≡ true → p.ticket ≡ q.ticket → i ≡ j
+  pub has_ticket : AtEach places (λ p. p.has_ticket ≡ true → (now ≤ p.ticket) × (p.ticket < next))
+  pub turn : AtEach places (λ p. p.turn ≡ true → (p.has_ticket ≡ true) × (p.ticket ≡ now))
   pub out : AtEach places (λ p. p.out ≡ true → p.turn ≡ true)
 
 -- the head of the family of r has a view, and has the actor of r out
@@ -33,17 +33,17 @@ pub record IsHeaded (rights : List Right) (r : Right) : Type 0 where
   pub at : ℕ
   pub head : Right
   pub there : get_elem? rights at ≡ some head
-  pub draws : head.draws ≡ true
+  pub may_draw : head.may_draw ≡ true
   pub host : head.actor ≡ HOST
   pub family : head.family ≡ r.family
-  pub away : r.actor ≢ HOST → IsIn r.actor head.away
+  pub absent_actors : r.actor ≢ HOST → IsIn r.actor head.absent_actors
 
 -- a view of this actor may draw
 pub record IsSeated (rights : List Right) (family actor : ℕ) : Type 0 where
   pub at : ℕ
   pub right : Right
   pub there : get_elem? rights at ≡ some right
-  pub draws : right.draws ≡ true
+  pub may_draw : right.may_draw ≡ true
   pub family_is : right.family ≡ family
   pub actor_is : right.actor ≡ actor
 
@@ -53,20 +53,20 @@ pub record IsSeated (rights : List Right) (family actor : ℕ) : Type 0 where
 -- in order of family: each makes the next, and only the last one may.
 pub record IsFair (families : ℕ) (rights : List Right) : Type 0 where
   pub few : families < 2 ^ 32
-  pub plain : AtEach rights (λ r. r.draws ≡ true → (r.spent ≡ false) × (r.family < families) × (r.actor < 2 ^ 32))
+  pub plain : AtEach rights (λ r. r.may_draw ≡ true → (r.is_spent ≡ false) × (r.family < families) × (r.actor < 2 ^ 32))
   pub apart : (i j : ℕ) (p q : Right) → get_elem? rights i ≡ some p → get_elem? rights j ≡ some q
-      → p.draws ≡ true → q.draws ≡ true → p.family ≡ q.family → p.actor ≡ q.actor → i ≡ j
-  pub headed : AtEach rights (λ r. r.draws ≡ true → IsHeaded rights r)
-  pub seated : AtEach rights (λ r. r.draws ≡ true → r.actor ≡ HOST
-      → (a : ℕ) → IsIn a r.away → (a ≢ HOST) × IsSeated rights r.family a)
+      → p.may_draw ≡ true → q.may_draw ≡ true → p.family ≡ q.family → p.actor ≡ q.actor → i ≡ j
+  pub headed : AtEach rights (λ r. r.may_draw ≡ true → IsHeaded rights r)
+  pub seated : AtEach rights (λ r. r.may_draw ≡ true → r.actor ≡ HOST
+      → (a : ℕ) → IsIn a r.absent_actors → (a ≢ HOST) × IsSeated rights r.family a)
   pub maker : (i j : ℕ) (p q : Right) → get_elem? rights i ≡ some p → get_elem? rights j ≡ some q
       → 0 < p.heads → 0 < q.heads → i ≡ j
   pub made : (i j : ℕ) (p q : Right) → get_elem? rights i ≡ some p → get_elem? rights j ≡ some q
-      → 0 < p.heads → q.draws ≡ true → q.family < p.heads
+      → 0 < p.heads → q.may_draw ≡ true → q.family < p.heads
 
 -- no view of the family may draw, and none will: its head was made, and joined away
 abbrev pub IsGone : List Right → ℕ → Type 0
-IsGone rights family = AtEach rights (λ r. (r.draws ≡ true → r.family ≢ family) × (0 < r.heads → family < r.heads))
+IsGone rights family = AtEach rights (λ r. (r.may_draw ≡ true → r.family ≢ family) × (0 < r.heads → family < r.heads))
 
 -- whom a view acts for
 abbrev pub who_of : Right → Who
@@ -77,7 +77,7 @@ module _ {O E F : Type 0} (m : Meanings O E F) where
   -- actor out, if that is of its family.
   abbrev pub IsMissable : Right → E → Type 0
   IsMissable r e = IsForeign m.whose m.alone (who_of r) e
-      × (r.actor ≡ HOST → (m.whose e).family ≡ r.family → IsIn (m.whose e).actor r.away)
+      × (r.actor ≡ HOST → (m.whose e).family ≡ r.family → IsIn (m.whose e).actor r.absent_actors)
 
   -- Of a head that was joined away: its entries are the kept ones, and all entries of its family are in
   -- what it had seen.
@@ -96,10 +96,10 @@ module _ {O E F : Type 0} (m : Meanings O E F) where
     pub opening_is : p.opening ≡ Some opening
     pub missed : List E
     pub whole : p.seen ++ missed ≡ history
-    pub missable : r.draws ≡ true → Every (IsMissable r) missed
-    pub own : r.draws ≡ true → entries_of m.whose (who_of r) history ≡ p.earlier ++ p.mine
-    pub olds : Every (λ old. IsPrefix old history) p.olds
-    pub lasts : Every (IsLast history) p.lasts
+    pub missable : r.may_draw ≡ true → Every (IsMissable r) missed
+    pub own : r.may_draw ≡ true → entries_of m.whose (who_of r) history ≡ p.earlier ++ p.mine
+    pub older_histories : Every (λ old. IsPrefix old history) p.older_histories
+    pub joined_heads : Every (IsLast history) p.joined_heads
 
   -- The rule. There is one history, lawful at every moment, and its length is the third word.
   -- The third point: the slot holds the object unless a view tells that it is out; it has the fixed data
@@ -115,12 +115,12 @@ module _ {O E F : Type 0} (m : Meanings O E F) where
     pub short : length history < 2 ^ 63
     pub queue : IsQueue now next (map (λ v. v.place) s.views)
     pub fair : IsFair families (map (λ v. v.right) s.views)
-    pub entitled : AtEach s.views (λ v. v.place.drawn ≡ true → v.right.draws ≡ true)
+    pub entitled : AtEach s.views (λ v. v.place.has_ticket ≡ true → v.right.may_draw ≡ true)
     pub home : AtEach s.views (λ v. v.place.out ≡ false)
         → (y : O) × (get_elem? s.homes 0 ≡ some (some y)) × (m.fixed y ≡ m.fixed opening) × (m.history y ≡ history)
     pub informed : AtEach s.views (λ v. v.place.out ≡ true → v.page.seen ≡ history)
-    pub told : AtEach s.views (λ v. v.right.spent ≡ false → IsTold opening history v.right v.page)
-    pub gone : AtEach s.views (λ v. Every (λ l. IsGone (map (λ w. w.right) s.views) l.family) v.page.lasts)
+    pub told : AtEach s.views (λ v. v.right.is_spent ≡ false → IsTold opening history v.right v.page)
+    pub gone : AtEach s.views (λ v. Every (λ l. IsGone (map (λ w. w.right) s.views) l.family) v.page.joined_heads)
     pub made : AtEach s.views (λ v. 0 < v.right.heads → Every (λ e. (m.whose e).family < v.right.heads) history)
-    pub longest : (i : ℕ) × (v : View O E) × (get_elem? s.views i ≡ some v) × (v.right.spent ≡ false)
+    pub longest : (i : ℕ) × (v : View O E) × (get_elem? s.views i ≡ some v) × (v.right.is_spent ≡ false)
         × (v.page.seen ≡ history)

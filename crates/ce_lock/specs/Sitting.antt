@@ -9,7 +9,7 @@ use Rattle.ce_lock.specs.declared.view.View.{View}
 use Rattle.ce_lock.specs.Entries.{IsPrefix, Every, entries_of}
 use Rattle.ce_lock.specs.Meanings.{Meanings}
 use Rattle.ce_lock.specs.OneOrder.{who_of, IsMissable}
-use Rattle.ce_lock.specs.Telling.{nowhere, view_with_seen, view_after_entry}
+use Rattle.ce_lock.specs.Telling.{idle_place, view_with_seen, view_after_entry}
 
 -- a book: which table it is, the object that it was made of, and how many families it has
 pub record BookFacts (O : Type 0) : Type 0 where
@@ -44,7 +44,7 @@ module _ {O E : Type 0} where
 
   -- of a head: the actors of its family whose seats are out
   abbrev pub out : Sitting O E → List ℕ
-  out s = s.1.right.away
+  out s = s.1.right.absent_actors
 
   -- which book the seat is of
   abbrev pub name_of : Sitting O E → TableId × Option O
@@ -66,9 +66,8 @@ module _ {O E : Type 0} where
 
   -- two raw seats of the table without tickets, the second with nothing in hand: what each join asks of both
   pub record AreIdle (table : TableId) (a b : Seat O (View O E)) : Type 0 where
-    pub sized : IsSized table
     pub of_table : (a.table_id ≡ table) × (b.table_id ≡ table)
-    pub places : (a.me.0.place ≡ nowhere) × (b.me.0.place ≡ nowhere)
+    pub places : (a.me.0.place ≡ idle_place) × (b.me.0.place ≡ idle_place)
     pub hand : b.me.1 ≡ []
 
 module _ {O E F : Type 0} (m : Meanings O E F) where
@@ -116,13 +115,13 @@ module _ {O E F : Type 0} (m : Meanings O E F) where
   pub record IsSound (actor : Who) (me : Me O (View O E)) : Type 0 where
     pub opening : O
     pub opening_is : me.0.page.opening ≡ Some opening
-    pub place : me.0.place ≡ nowhere
+    pub place : me.0.place ≡ idle_place
     pub hand : me.1 ≡ []
     pub who_is : who_of me.0.right ≡ actor
-    pub live : me.0.right.spent ≡ false
-    pub draws : me.0.right.draws ≡ true
-    pub olds : me.0.page.olds ≡ []
-    pub lasts : me.0.page.lasts ≡ []
+    pub live : me.0.right.is_spent ≡ false
+    pub may_draw : me.0.right.may_draw ≡ true
+    pub older_histories : me.0.page.older_histories ≡ []
+    pub joined_heads : me.0.page.joined_heads ≡ []
     pub lawful : m.lawful (m.fixed opening) me.0.page.seen
     pub short : length me.0.page.seen < 2 ^ 63
     pub own : entries_of m.whose (who_of me.0.right) me.0.page.seen ≡ me.0.page.earlier ++ me.0.page.mine
@@ -137,7 +136,7 @@ module _ {O E F : Type 0} (m : Meanings O E F) where
     pub hand : me.1 ≡ []
     pub who_is : who_of me.0.right ≡ actor
     pub fitting : fits (m.fixed opening) me.0.page.seen actor call
-    pub nobody_out : alone call ≡ true → (me.0.right.actor ≡ HOST) × (me.0.right.away ≡ [])
+    pub nobody_out : alone call ≡ true → (me.0.right.actor ≡ HOST) × (me.0.right.absent_actors ≡ [])
 
   module _ {C R X : Type 0} (stands : F → List E → E → Who → C → R → Type 0) where
     -- what one answer makes of the object

@@ -2,36 +2,36 @@
 use Rattle.std.specs.Prelude.{◌≡◌, ◌≢◌, ℕ, ◌+◌, ◌%◌, ◌^◌, ◌<◌, ◌≤◌, true, false, List, [], ◌∷◌, ◌++◌, length, Some, None}
 use Rattle.atomic_table.specs.Table.{Me, rest}
 use Rattle.ce_model.specs.declared.topology.TheConstants.{HOST}
-use Rattle.ce_lock.specs.declared.view.Place.{Place}
+use Rattle.ce_lock.specs.declared.view.QueuePlace.{QueuePlace}
 use Rattle.ce_lock.specs.declared.view.Right.{Right}
 use Rattle.ce_lock.specs.declared.view.Last.{Last}
 use Rattle.ce_lock.specs.declared.view.Page.{Page}
 use Rattle.ce_lock.specs.declared.view.View.{View}
 use Rattle.ce_lock.specs.declared.who.Who.{Who}
-use Rattle.ce_lock.specs.Entries.{IsPrefix, longer, Every, without, entries_of}
+use Rattle.ce_lock.specs.Entries.{IsPrefix, longer_list, Every, without, entries_of}
 use Rattle.ce_lock.specs.Meanings.{Meanings}
 use Rattle.ce_lock.specs.OneOrder.{who_of, IsMissable, IsLast}
 
 -- the places: with no ticket, waiting, at its turn, and with the object out
-abbrev pub nowhere : Place
-nowhere = record { drawn = false; turn = false; out = false; ticket = 0 }
+abbrev pub idle_place : QueuePlace
+idle_place = record { has_ticket = false; turn = false; out = false; ticket = 0 }
 
-abbrev pub place_waiting : ℕ → Place
-place_waiting t = record { drawn = true; turn = false; out = false; ticket = t }
+abbrev pub place_waiting : ℕ → QueuePlace
+place_waiting t = record { has_ticket = true; turn = false; out = false; ticket = t }
 
-abbrev pub place_called : ℕ → Place
-place_called t = record { drawn = true; turn = true; out = false; ticket = t }
+abbrev pub served_place : ℕ → QueuePlace
+served_place t = record { has_ticket = true; turn = true; out = false; ticket = t }
 
-abbrev pub place_holding : ℕ → Place
-place_holding t = record { drawn = true; turn = true; out = true; ticket = t }
+abbrev pub place_holding : ℕ → QueuePlace
+place_holding t = record { has_ticket = true; turn = true; out = true; ticket = t }
 
 -- the right of who acts for nobody
-abbrev pub nobody : Right
-nobody = record { spent = false; draws = false; family = 0; actor = 0; heads = 0; away = [] }
+abbrev pub no_actor : Right
+no_actor = record { is_spent = false; may_draw = false; family = 0; actor = 0; heads = 0; absent_actors = [] }
 
 module _ {O E : Type 0} where
   -- the view at another place
-  abbrev pub view_at : View O E → Place → View O E
+  abbrev pub view_at : View O E → QueuePlace → View O E
   view_at v p = record v { place = p }
 
   -- the view, which has seen the list
@@ -44,15 +44,15 @@ module _ {O E : Type 0} where
 
   -- the view after the look that follows a join
   abbrev pub settled_view : View O E → View O E
-  settled_view v = record v { page = record v.page { olds = [] } }
+  settled_view v = record v { page = record v.page { older_histories = [] } }
 
   -- what was seen, as a page with no entries of its own
   abbrev pub page_of : View O E → List E → Page O E
-  page_of v earlier = record { opening = v.page.opening; seen = v.page.seen; earlier = earlier; mine = []; olds = []; lasts = [] }
+  page_of v earlier = record { opening = v.page.opening; seen = v.page.seen; earlier = earlier; mine = []; older_histories = []; joined_heads = [] }
 
   -- a copy of what a view has seen, which may not draw
   abbrev pub copy : View O E → View O E
-  copy v = record { place = nowhere; right = nobody; page = page_of v [] }
+  copy v = record { place = idle_place; right = no_actor; page = page_of v [] }
 
   -- the view of the maker of heads, after it has made one more, which makes the next
   abbrev pub view_after_making : View O E → View O E
@@ -61,20 +61,20 @@ module _ {O E : Type 0} where
   -- the view of the next head
   abbrev pub next_head : View O E → View O E
   next_head v = record {
-    place = nowhere;
-    right = record { spent = false; draws = true; family = v.right.heads; actor = HOST; heads = v.right.heads + 1; away = [] };
+    place = idle_place;
+    right = record { is_spent = false; may_draw = true; family = v.right.heads; actor = HOST; heads = v.right.heads + 1; absent_actors = [] };
     page = page_of v [];
   }
 
   -- the view of a head, with one actor more out
   abbrev pub view_with_out : ℕ → View O E → View O E
-  view_with_out a v = record v { right = record v.right { away = a ∷ v.right.away } }
+  view_with_out a v = record v { right = record v.right { absent_actors = a ∷ v.right.absent_actors } }
 
   -- the view of the actor that is sent out
   abbrev pub actor_view : (E → Who) → ℕ → View O E → View O E
   actor_view whose a v = record {
-    place = nowhere;
-    right = record { spent = false; draws = true; family = v.right.family; actor = a; heads = 0; away = [] };
+    place = idle_place;
+    right = record { is_spent = false; may_draw = true; family = v.right.family; actor = a; heads = 0; absent_actors = [] };
     page = page_of v (entries_of whose (record { family = v.right.family; actor = a }) v.page.seen);
   }
 
@@ -82,14 +82,14 @@ module _ {O E : Type 0} where
   abbrev pub view_after_meeting : View O E → View O E → View O E
   view_after_meeting v w = record v {
     page = record v.page {
-      seen = longer v.page.seen w.page.seen;
-      olds = v.page.seen ∷ w.page.seen ∷ v.page.olds;
+      seen = longer_list v.page.seen w.page.seen;
+      older_histories = v.page.seen ∷ w.page.seen ∷ v.page.older_histories;
     };
   }
 
   -- the view of a head after it has taken an actor back
   abbrev pub view_after_joining : View O E → View O E → View O E
-  view_after_joining v w = record (view_after_meeting v w) { right = record v.right { away = without w.right.actor v.right.away } }
+  view_after_joining v w = record (view_after_meeting v w) { right = record v.right { absent_actors = without w.right.actor v.right.absent_actors } }
 
   -- what is kept of a head that is joined away
   abbrev pub last_of : View O E → Last E
@@ -99,27 +99,27 @@ module _ {O E : Type 0} where
   abbrev pub view_after_closing : View O E → View O E → View O E
   view_after_closing v w = record v {
     page = record v.page {
-      seen = longer v.page.seen w.page.seen;
-      olds = v.page.seen ∷ w.page.seen ∷ v.page.olds;
-      lasts = last_of w ∷ v.page.lasts;
+      seen = longer_list v.page.seen w.page.seen;
+      older_histories = v.page.seen ∷ w.page.seen ∷ v.page.older_histories;
+      joined_heads = last_of w ∷ v.page.joined_heads;
     };
   }
 
   -- what is left of a seat that was joined into another
   abbrev pub spent_view : View O E
   spent_view = record {
-    place = nowhere;
-    right = record { spent = true; draws = false; family = 0; actor = 0; heads = 0; away = [] };
-    page = record { opening = None; seen = []; earlier = []; mine = []; olds = []; lasts = [] };
+    place = idle_place;
+    right = record { is_spent = true; may_draw = false; family = 0; actor = 0; heads = 0; absent_actors = [] };
+    page = record { opening = None; seen = []; earlier = []; mine = []; older_histories = []; joined_heads = [] };
   }
 
   -- The view of the head of family n, which has seen nothing yet. It makes the next head where `heads` is
   -- n + 1, and none where `heads` is 0.
   abbrev pub fresh_head : O → ℕ → ℕ → View O E
   fresh_head o n heads = record {
-    place = nowhere;
-    right = record { spent = false; draws = true; family = n; actor = HOST; heads = heads; away = [] };
-    page = record { opening = Some o; seen = []; earlier = []; mine = []; olds = []; lasts = [] };
+    place = idle_place;
+    right = record { is_spent = false; may_draw = true; family = n; actor = HOST; heads = heads; absent_actors = [] };
+    page = record { opening = Some o; seen = []; earlier = []; mine = []; older_histories = []; joined_heads = [] };
   }
 
   -- the view of the first head
@@ -134,16 +134,16 @@ module _ {O E : Type 0} where
 
   -- look: it is the view's turn where the word equals its ticket
   pub record HasLooked (me : Me O (View O E)) (found : ℕ) (after : Me O (View O E)) : Type 0 where
-    pub yes : (t : ℕ) → me.0.place ≡ place_waiting t → found ≡ t % 2 ^ 64 → after ≡ (view_at me.0 (place_called t), me.1)
+    pub yes : (t : ℕ) → me.0.place ≡ place_waiting t → found ≡ t % 2 ^ 64 → after ≡ (view_at me.0 (served_place t), me.1)
     pub no : (t : ℕ) → me.0.place ≡ place_waiting t → found ≢ t % 2 ^ 64 → after ≡ me
 
   -- give: the object is home
   abbrev pub HasGiven : Me O (View O E) → Me O (View O E) → Type 0
-  HasGiven me after = (t : ℕ) → me.0.place ≡ place_holding t → after ≡ (view_at me.0 (place_called t), rest me.1)
+  HasGiven me after = (t : ℕ) → me.0.place ≡ place_holding t → after ≡ (view_at me.0 (served_place t), rest me.1)
 
   -- leave: the view holds no ticket
   abbrev pub HasLeft : Me O (View O E) → Me O (View O E) → Type 0
-  HasLeft me after = after ≡ (view_at me.0 nowhere, me.1)
+  HasLeft me after = after ≡ (view_at me.0 idle_place, me.1)
 
 module _ {O E F : Type 0} (m : Meanings O E F) where
   -- take: the view has seen the whole history, and has the object, which has just this history
@@ -157,7 +157,7 @@ module _ {O E F : Type 0} (m : Meanings O E F) where
     pub lawful : m.lawful (m.fixed opening) (me.0.page.seen ++ missed)
     pub short : length (me.0.page.seen ++ missed) < 2 ^ 63
     pub missable : Every (IsMissable m me.0.right) missed
-    pub after_is : (t : ℕ) → me.0.place ≡ place_called t
+    pub after_is : (t : ℕ) → me.0.place ≡ served_place t
         → after ≡ (view_at (view_with_seen me.0 (me.0.page.seen ++ missed)) (place_holding t), (0, object) ∷ me.1)
 
   -- commit: the view gains the entry that the object gained
@@ -172,9 +172,9 @@ module _ {O E F : Type 0} (m : Meanings O E F) where
     pub after_is : after ≡ (settled_view me.0, me.1)
     pub lawful : m.lawful (m.fixed opening) me.0.page.seen
     pub short : length me.0.page.seen < 2 ^ 63
-    pub own : me.0.right.draws ≡ true
+    pub own : me.0.right.may_draw ≡ true
         → entries_of m.whose (who_of me.0.right) me.0.page.seen ≡ me.0.page.earlier ++ me.0.page.mine
-    pub longest : Every (λ old. length old ≤ length me.0.page.seen → IsPrefix old me.0.page.seen) me.0.page.olds
+    pub longest : Every (λ old. length old ≤ length me.0.page.seen → IsPrefix old me.0.page.seen) me.0.page.older_histories
 
   -- What is left when all heads were joined away: the object has the fixed data of the opening one, and its
   -- history is lawful, and is what each head saw and made.

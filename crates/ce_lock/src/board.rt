@@ -1,8 +1,10 @@
 //! The table that the seats of a book share. Word 0 is the next ticket, word 1 the ticket that is
 //! served, word 2 the number of entries, all modulo 2^64. The one slot holds the object.
+ghost use Rattle.ce_lock.specs.Sitting.{IsSized};
+
 use crate::kept::Kept;
 use crate::view::View;
-use atomic_table::{Seat, Shared, Table, TableRule};
+use atomic_table::{Seat, Table, TableRule};
 use std::alloc::Global;
 use std::marker::PhantomData;
 use std::snapshot::Snapshot;
@@ -41,8 +43,11 @@ impl<O: Kept> TableRule<O, View<O, O::Entry>, About<O>> for InOneOrder<O> {
     ghost first = { λ about. first_view about.opening.value };
 }
 
-pub type Board<O> = Shared<O, View<O, <O as Kept>::Entry>, About<O>, InOneOrder<O>>;
-
-pub type Holding<O> = Table<O, View<O, <O as Kept>::Entry>, About<O>, InOneOrder<O>, Global>;
+/// The table of a book.
+#[derive(Drop)]
+pub struct Board<O: Kept> {
+    pub table: Table<O, View<O, O::Entry>, About<O>, InOneOrder<O>, Global>,
+    ghost sized: { IsSized table.shared.table_id },
+}
 
 pub type Chair<O> = Seat<O, View<O, <O as Kept>::Entry>>;

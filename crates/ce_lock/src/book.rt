@@ -6,7 +6,7 @@ ghost use Rattle.ce_lock.specs.Entries.{IsPrefix, Every, IsIn, without, entries_
 ghost use Rattle.ce_lock.specs.Meanings.{meanings};
 ghost use Rattle.ce_lock.specs.Sitting.{IsOf, IsSameSeat, IsKnown, IsBehind, IsNewHead, IsHeadIn, IsWhole, who, seen_history, earlier, mine, out};
 
-use crate::board::Holding;
+use crate::board::Board;
 use crate::kept::Kept;
 use crate::plays::Named;
 use crate::seat::Seat;
@@ -22,22 +22,22 @@ use std::sync::Wait;
 /// which book it is, the object that it was made of, and the number of families.
 #[derive(Drop)]
 pub struct Book<O: Kept> {
-    pub(crate) table: Holding<O>,
+    pub(crate) board: Board<O>,
 }
 
 impl<O: Kept> Model for Book<O> {
-    ghost use Rattle.std.specs.Prelude.{◌≡◌, ◌<◌};
-    ghost use Rattle.ce_lock.specs.Sitting.{BookFacts, IsSized};
+    ghost use Rattle.std.specs.Prelude.{◌<◌};
+    ghost use Rattle.ce_lock.specs.Sitting.{BookFacts};
 
     ghost Value = { BookFacts O };
 
     ghost view = { λ b. record {
-      table = b.table.shared.table_id;
-      opening = b.table.shared.key.opening.value;
-      families = b.table.shared.key.families;
+      table = b.board.table.shared.table_id;
+      opening = b.board.table.shared.key.opening.value;
+      families = b.board.table.shared.key.families;
     } };
 
-    ghost invariant = { λ b. IsSized b.table.shared.table_id × (0 < b.table.shared.key.families) };
+    ghost invariant = { λ b. 0 < b.board.table.shared.key.families };
 }
 
 impl<O: Kept> Book<O> {
@@ -60,7 +60,7 @@ impl<O: Kept> Book<O> {
             × (mine head.new ≡ mine head.old) }
     {
         let family = head.who.family;
-        let chair = worker_seat::<O, Brand>(&self.table.shared, &mut head.chair, actor);
+        let chair = worker_seat::<O, Brand>(&self.board, &mut head.chair, actor);
         Seat {
             who: Who { family, actor },
             chair,
@@ -94,7 +94,7 @@ impl<O: Kept> Book<O> {
             self.now.opening seat.new }
     {
         let who = seat.who;
-        take_turn(rt, &self.table.shared, alloc, &mut seat.chair, who, call)
+        take_turn(rt, &self.board, alloc, &mut seat.chair, who, call)
     }
 
     /// Makes both seats see what either saw.
@@ -143,7 +143,7 @@ impl<O: Kept> Book<O> {
         ensures known_from { IsKnown (meanings O.fixed O.history O.lawful O.whose O.alone_entry)
             self.now.opening from.new }
     {
-        let board = &self.table.shared;
+        let board = &self.board;
         let copy = copy_seat(board, &mut from.chair);
         meet_copy(board, &mut to.chair, copy);
         settle(board, &mut to.chair);
@@ -165,7 +165,7 @@ impl<O: Kept> Book<O> {
         ensures known { IsKnown (meanings O.fixed O.history O.lawful O.whose O.alone_entry)
             self.now.opening head.new }
     {
-        let board = &self.table.shared;
+        let board = &self.board;
         take_back(board, &mut head.chair, worker.into_chair());
         settle(board, &mut head.chair);
     }

@@ -4,10 +4,10 @@ ghost use Rattle.ce_model.specs.declared.topology.TheConstants.{HOST};
 ghost use Rattle.ce_lock.specs.declared.who.Who.{Who};
 ghost use Rattle.ce_lock.specs.Entries.{Every, IsIn};
 ghost use Rattle.ce_lock.specs.Meanings.{meanings};
-ghost use Rattle.ce_lock.specs.Telling.{nowhere, nobody, last_of, IsLeft};
-ghost use Rattle.ce_lock.specs.Sitting.{IsSized, IsHeadIn, IsWhole, IsSound, IsSameChair, who};
+ghost use Rattle.ce_lock.specs.Telling.{idle_place, no_actor, last_of, IsLeft};
+ghost use Rattle.ce_lock.specs.Sitting.{IsHeadIn, IsWhole, IsSound, IsSameChair, who};
 
-use crate::board::{Chair, Holding};
+use crate::board::{Board, Chair};
 use crate::book::Book;
 use crate::kept::Kept;
 use crate::seat::Seat;
@@ -26,8 +26,8 @@ impl<O: Kept> Book<O> {
             (O.history result)) heads.items }
     {
         let closer = self.join_heads(heads);
-        let Book { table } = self;
-        take_object(table, closer)
+        let Book { board } = self;
+        take_object(board, closer)
     }
 
     /// Joins all heads into a copy of the last one.
@@ -37,10 +37,10 @@ impl<O: Kept> Book<O> {
         requires all { (f : ℕ) → f < self.now.families
             → IsIn f (map (λ s. (who s).family) heads.items) }
         ensures chair { result.table_id ≡ self.now.table }
-        ensures live { result.me.0.right.spent ≡ false }
-        ensures lasts { result.me.0.page.lasts ≡ map (λ s. last_of s.1) heads.items }
+        ensures live { result.me.0.right.is_spent ≡ false }
+        ensures joined_heads { result.me.0.page.joined_heads ≡ map (λ s. last_of s.1) heads.items }
     {
-        let board = &self.table.shared;
+        let board = &self.board;
         let Some(last) = heads.pop() else {
             unreachable!()
         };
@@ -57,32 +57,32 @@ impl<O: Kept> Book<O> {
     fn join_last(&self, closer: &mut Chair<O>, head: Chair<O>)
         requires chairs { (closer.old.table_id ≡ self.now.table)
             × (head.table_id ≡ self.now.table) }
-        requires copied { (closer.old.me.0.place ≡ nowhere) × (closer.old.me.0.right ≡ nobody) }
+        requires copied { (closer.old.me.0.place ≡ idle_place)
+            × (closer.old.me.0.right ≡ no_actor) }
         requires sound { (actor : Who)
             × IsSound (meanings O.fixed O.history O.lawful O.whose O.alone_entry) actor head.me }
-        requires head { (head.me.0.right.actor ≡ HOST) × (head.me.0.right.away ≡ []) }
+        requires head { (head.me.0.right.actor ≡ HOST) × (head.me.0.right.absent_actors ≡ []) }
         ensures chair { IsSameChair closer.old closer.new }
-        ensures copied { (closer.new.me.0.place ≡ nowhere) × (closer.new.me.0.right ≡ nobody) }
-        ensures lasts { closer.new.me.0.page.lasts
-            ≡ last_of head.me.0 ∷ closer.old.me.0.page.lasts }
+        ensures copied { (closer.new.me.0.place ≡ idle_place) × (closer.new.me.0.right ≡ no_actor) }
+        ensures joined_heads { closer.new.me.0.page.joined_heads
+            ≡ last_of head.me.0 ∷ closer.old.me.0.page.joined_heads }
     {
-        let board = &self.table.shared;
+        let board = &self.board;
         close_head(board, closer, head);
         settle(board, closer);
     }
 }
 
 /// The object of a table to which no seat comes any more.
-fn take_object<O: Kept>(table: Holding<O>, closer: Chair<O>) -> O
-    requires sized { IsSized table.shared.table_id }
-    requires chair { closer.table_id ≡ table.shared.table_id }
-    requires live { closer.me.0.right.spent ≡ false }
-    requires all { (f : ℕ) → f < table.shared.key.families
-        → IsIn f (map (λ l. l.family) closer.me.0.page.lasts) }
+fn take_object<O: Kept>(board: Board<O>, closer: Chair<O>) -> O
+    requires chair { closer.table_id ≡ board.table.shared.table_id }
+    requires live { closer.me.0.right.is_spent ≡ false }
+    requires all { (f : ℕ) → f < board.table.shared.key.families
+        → IsIn f (map (λ l. l.family) closer.me.0.page.joined_heads) }
     ensures { IsLeft (meanings O.fixed O.history O.lawful O.whose O.alone_entry)
-        table.shared.key.opening.value closer.me.0.page.lasts result }
+        board.table.shared.key.opening.value closer.me.0.page.joined_heads result }
 {
-    let mut closed = table.close_with(closer);
+    let mut closed = board.table.close_with(closer);
     let object = closed.take(0);
     closed.free();
     object

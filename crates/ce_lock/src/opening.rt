@@ -4,7 +4,7 @@ ghost use Rattle.ce_lock.specs.Meanings.{meanings};
 ghost use Rattle.ce_lock.specs.Telling.{first_view};
 ghost use Rattle.ce_lock.specs.Sitting.{IsNewHead, IsKnown};
 
-use crate::board::{About, Chair};
+use crate::board::{About, Board, Chair};
 use crate::book::Book;
 use crate::kept::Kept;
 use crate::seat::Seat;
@@ -59,7 +59,10 @@ impl<O: Kept> Book<O> {
         };
         slots.push_reserved(object);
         match Table::new(alloc, &[0, 0, 0], slots, &about) {
-            Ok((table, first)) => Ok((Book { table }, first)),
+            Ok((table, first)) => {
+                let board = Board { table };
+                Ok((Book { board }, first))
+            }
             Err(Refused { slots }) => Err((only_one(slots), NoMemory)),
         }
     }
@@ -77,7 +80,7 @@ impl<O: Kept> Book<O> {
     {
         let mut maker = first;
         for family in 0..families - 1 {
-            let next = next_seat(&self.table.shared, &mut maker);
+            let next = next_seat(&self.board, &mut maker);
             heads.push_reserved(Seat::of_head(family, maker));
             maker = next;
         }

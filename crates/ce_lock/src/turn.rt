@@ -1,8 +1,8 @@
 //! One turn at the object: a ticket, the wait for it, the call, and the way out.
 ghost use Rattle.std.specs.Prelude.{◌≡◌, ◌≢◌, ℕ, ◌+◌, ◌%◌, ◌^◌, ◌<◌, true, false, List, [], ◌∷◌, ◌++◌, length, Some};
 ghost use Rattle.ce_lock.specs.Meanings.{meanings};
-ghost use Rattle.ce_lock.specs.Telling.{nowhere, place_waiting, place_called, view_at};
-ghost use Rattle.ce_lock.specs.Sitting.{IsSized, IsSameChair, IsReady, IsAnswer, IsTurn};
+ghost use Rattle.ce_lock.specs.Telling.{idle_place, place_waiting, served_place, view_at};
+ghost use Rattle.ce_lock.specs.Sitting.{IsSameChair, IsReady, IsAnswer, IsTurn};
 
 use crate::board::{Board, Chair};
 use crate::kept::Kept;
@@ -18,12 +18,11 @@ const OBJECT: usize = 0;
 /// Waits until the ticket is served. It parks between two looks. A caller that is woken before its
 /// turn wakes another one before it parks again, which may be the one that was meant.
 fn wait_for_turn<O: Kept, R: Wait>(rt: &R, board: &Board<O>, chair: &mut Chair<O>, ticket: u64)
-    requires sized { IsSized board.now.table_id }
-    requires chair { chair.old.table_id ≡ board.now.table_id }
+    requires chair { chair.old.table_id ≡ board.now.table.shared.table_id }
     requires waits { (t : ℕ) × (chair.old.me.0.place ≡ place_waiting t) × (t % 2 ^ 64 ≡ ticket) }
     ensures chair { IsSameChair chair.old chair.new }
     ensures called { (t : ℕ) × (chair.old.me.0.place ≡ place_waiting t)
-        × (chair.new.me ≡ (view_at chair.old.me.0 (place_called t), chair.old.me.1)) }
+        × (chair.new.me ≡ (view_at chair.old.me.0 (served_place t), chair.old.me.1)) }
 {
     let mut woken = false;
     for _ in rt.forever() {
@@ -32,9 +31,12 @@ fn wait_for_turn<O: Kept, R: Wait>(rt: &R, board: &Board<O>, chair: &mut Chair<O
             return;
         }
         if woken {
-            board.wake_one(SERVING);
+            board.table.shared.wake_one(SERVING);
         }
-        board.park(rt, SERVING, (serving & 0xFFFF_FFFF) as u32);
+        board
+            .table
+            .shared
+            .park(rt, SERVING, (serving & 0xFFFF_FFFF) as u32);
         woken = true;
     }
     unreachable!()
@@ -48,7 +50,7 @@ fn answer<O: Kept>(
     who: Who,
     call: O::Call,
 ) -> Result<O::Reply, (O::Call, NoMemory)>
-    requires chair { chair.old.table_id ≡ board.now.table_id }
+    requires chair { chair.old.table_id ≡ board.now.table.shared.table_id }
     requires holds { (y : O) × (chair.old.me.1 ≡ (0, y) ∷ [])
         × O.fits (O.fixed y) (O.history y) who call }
     ensures chair { IsSameChair chair.old chair.new }
@@ -57,7 +59,9 @@ fn answer<O: Kept>(
         × IsAnswer (meanings O.fixed O.history O.lawful O.whose O.alone_entry)
         O.stands y z who call result }
 {
-    chair.slot_mut(board, OBJECT).act(alloc, who, call)
+    chair
+        .slot_mut(&board.table.shared, OBJECT)
+        .act(alloc, who, call)
 }
 
 /// Makes the call, while it is the seat's turn.
@@ -68,9 +72,8 @@ fn work<O: Kept>(
     who: Who,
     call: O::Call,
 ) -> Result<O::Reply, (O::Call, NoMemory)>
-    requires sized { IsSized board.now.table_id }
-    requires chair { chair.old.table_id ≡ board.now.table_id }
-    requires turn { (t : ℕ) × (chair.old.me.0.place ≡ place_called t) }
+    requires chair { chair.old.table_id ≡ board.now.table.shared.table_id }
+    requires turn { (t : ℕ) × (chair.old.me.0.place ≡ served_place t) }
     requires ready { IsReady (meanings O.fixed O.history O.lawful O.whose O.alone_entry)
         O.fits O.alone who call chair.old.me }
     ensures chair { IsSameChair chair.old chair.new }
@@ -101,10 +104,9 @@ pub fn take_turn<O: Kept, R: Wait>(
     who: Who,
     call: O::Call,
 ) -> Result<O::Reply, (O::Call, NoMemory)>
-    requires sized { IsSized board.now.table_id }
-    requires chair { chair.old.table_id ≡ board.now.table_id }
-    requires idle { chair.old.me.0.place ≡ nowhere }
-    requires draws { chair.old.me.0.right.draws ≡ true }
+    requires chair { chair.old.table_id ≡ board.now.table.shared.table_id }
+    requires idle { chair.old.me.0.place ≡ idle_place }
+    requires may_draw { chair.old.me.0.right.may_draw ≡ true }
     requires ready { IsReady (meanings O.fixed O.history O.lawful O.whose O.alone_entry)
         O.fits O.alone who call chair.old.me }
     ensures chair { IsSameChair chair.old chair.new }
@@ -116,6 +118,6 @@ pub fn take_turn<O: Kept, R: Wait>(
     wait_for_turn(rt, board, chair, ticket);
     let outcome = work(board, alloc, chair, who, call);
     leave(board, chair);
-    board.wake_one(SERVING);
+    board.table.shared.wake_one(SERVING);
     outcome
 }

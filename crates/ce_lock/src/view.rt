@@ -3,9 +3,9 @@
 use std::collections::LinkedList;
 
 /// Where a seat is in the queue.
-pub struct Place {
+pub struct QueuePlace {
     /// It has drawn a ticket.
-    pub drawn: bool,
+    pub has_ticket: bool,
     /// It has seen that its turn has come.
     pub turn: bool,
     /// It has the object out of the slot.
@@ -17,9 +17,9 @@ pub struct Place {
 /// Whom a seat acts for, and what it may do.
 pub struct Right {
     /// It was joined into another one.
-    pub spent: bool,
+    pub is_spent: bool,
     /// It may draw tickets.
-    pub draws: bool,
+    pub may_draw: bool,
     /// Its family.
     pub family: u32,
     /// Its actor.
@@ -27,7 +27,7 @@ pub struct Right {
     /// How many heads were made so far, where it is the last of them, and else 0.
     pub heads: u32,
     /// Of a head: the actors of its family whose seats are out.
-    pub away: LinkedList<u32>,
+    pub absent_actors: LinkedList<u32>,
 }
 
 /// A head that was joined away when the book was closed.
@@ -51,14 +51,14 @@ pub struct Page<O, E> {
     /// Its own entries.
     pub mine: LinkedList<E>,
     /// What the seats had seen that were joined into it since its last look.
-    pub olds: LinkedList<LinkedList<E>>,
+    pub older_histories: LinkedList<LinkedList<E>>,
     /// The heads that were joined into it.
-    pub lasts: LinkedList<Last<E>>,
+    pub joined_heads: LinkedList<Last<E>>,
 }
 
 /// What a seat knows.
 pub struct View<O, E> {
-    pub place: Place,
+    pub place: QueuePlace,
     pub right: Right,
     pub page: Page<O, E>,
 }

@@ -12,11 +12,11 @@ use Rattle.ce_model.specs.declared.entry.TakeResult.{TakeResult}
 use Rattle.ce_model.specs.declared.entry.KillFound.{KillFound}
 use Rattle.ce_model.specs.declared.entry.KillFound.TheVariants.{Killed, Unused, Already}
 use Rattle.ce_model.specs.Parcels.{Parcel, Item, start, mail, kill, is_eligible}
-use Rattle.ce_model.specs.Node.{Call, takes, spawns, kills, notes, arms, looks, takes_mail}
-use Rattle.ce_model.specs.Trace.{NodeRecord, taken_in, is_work, is_idle}
+use Rattle.ce_model.specs.Node.{Call, take_call, spawn_call, kill_call, note_call, arm_call, look_call, mail_call}
+use Rattle.ce_model.specs.Trace.{NodeRecord, taken_result, is_work, is_idle}
 use Rattle.ce_model.specs.Answers.{offer_of, is_among, kill_found, found_where, is_quiet_node, first_number}
 use Rattle.ce_model.specs.Subcubes.{node_of, is_inside}
-use Rattle.ce_model.specs.Machine.{MachineParts, IsMachine, HeldCube, MachineState, held_by, nodes_of, without_taken, record_by, held_by_entry, after, IsCallOf, IsLawful}
+use Rattle.ce_model.specs.Machine.{MachineParts, IsMachine, HeldCube, MachineState, cube_held_by, nodes_of, without_taken, record_by, cube_after_entry, after, IsCallOf, IsLawful}
 use Rattle.ce_solo.proofs.Sending.{place_parts}
 use Rattle.ce_solo.proofs.Projection.Numbers.{IsPlaced, out_no_host, inside_no_host}
 use Rattle.ce_solo.proofs.Projection.Kinds.{entry_of}
@@ -25,7 +25,7 @@ use Rattle.ce_machine.proofs.Called.{placed-now, call-places, of-host, of-node}
 use Rattle.ce_machine.proofs.Answered.{place_of, answer_to, take-answer, spawn-answer, kill-answer, note-answer, arm-answer, look-answer, mail-answer}
 use Rattle.ce_machine.proofs.CallEffects.{with_call_mark, note-record, spawn-here, spawn-away, spawn-used, kill-here, kill-away, kill-unused, kill-already, take-own, take-other, arm-record, look-record, take_mail-record, note-cube, arm-cube, look-cube, spawn-cube, kill-cube, take-cube, no_mail-cube, mail-cube, call-each, call-cube}
 
-module _ (parts : MachineParts) (machine : IsMachine parts) (h : List Entry) (lawful : IsLawful parts h) (user : ℕ) (cube : HeldCube) (holds : held_by (after h) user ≡ Some cube)
+module _ (parts : MachineParts) (machine : IsMachine parts) (h : List Entry) (lawful : IsLawful parts h) (user : ℕ) (cube : HeldCube) (holds : cube_held_by (after h) user ≡ Some cube)
     (actor : ℕ) where
   -- the state once the actor has made this entry, and what was kept before
   abbrev now : What → MachineState
@@ -51,175 +51,175 @@ module _ (parts : MachineParts) (machine : IsMachine parts) (h : List Entry) (la
     each : (what : What) → answered_as call ≡ what → (node : ℕ) → (node == HOST) ≡ false → (now what).node_record node ≡ record_by cube.grant.sub (entry_of user actor what) node (was node)
     each what e node no_host = call-each parts machine h lawful user cube holds actor call fits what e node no_host
 
-    whole : (what : What) → answered_as call ≡ what → held_by (now what) user ≡ Some (held_by_entry (entry_of user actor what) cube)
+    whole : (what : What) → answered_as call ≡ what → cube_held_by (now what) user ≡ Some (cube_after_entry (entry_of user actor what) cube)
     whole what e = call-cube parts machine h lawful user cube holds actor call fits what e
 
   -- ---- notes
 
-  pub noted-each : (pid word : ℕ) → IsCallOf parts h actor (notes pid word) cube → (node : ℕ) → (node == HOST) ≡ false
+  pub noted-each : (pid word : ℕ) → IsCallOf parts h actor (note_call pid word) cube → (node : ℕ) → (node == HOST) ≡ false
       → (next h (entry_of user actor (Note pid word))).node_record node ≡ with_call_mark actor node ((after h).node_record node)
   noted-each pid word fits node no_host =
-      each (notes pid word) fits (Note pid word) (note-answer (after h) cube actor pid word) node no_host ∙ note-record cube.grant.sub user actor node (was node) pid word
+      each (note_call pid word) fits (Note pid word) (note-answer (after h) cube actor pid word) node no_host ∙ note-record cube.grant.sub user actor node (was node) pid word
 
-  pub noted-cube : (pid word : ℕ) → IsCallOf parts h actor (notes pid word) cube → held_by (next h (entry_of user actor (Note pid word))) user ≡ Some cube
-  noted-cube pid word fits = whole (notes pid word) fits (Note pid word) (note-answer (after h) cube actor pid word) ∙ ap Some (note-cube user actor cube pid word)
+  pub noted-cube : (pid word : ℕ) → IsCallOf parts h actor (note_call pid word) cube → cube_held_by (next h (entry_of user actor (Note pid word))) user ≡ Some cube
+  noted-cube pid word fits = whole (note_call pid word) fits (Note pid word) (note-answer (after h) cube actor pid word) ∙ ap Some (note-cube user actor cube pid word)
 
   -- ---- what a host asks
 
-  pub armed-each : (count : ℕ) → IsCallOf parts h actor (arms count) cube → (node : ℕ) → (node == HOST) ≡ false
+  pub armed-each : (count : ℕ) → IsCallOf parts h actor (arm_call count) cube → (node : ℕ) → (node == HOST) ≡ false
       → (next h (entry_of user actor (Arm count))).node_record node ≡ (after h).node_record node
   armed-each count fits node no_host =
-      each (arms count) fits (Arm count) (arm-answer (after h) cube actor count) node no_host
-      ∙ arm-record cube.grant.sub user actor node (was node) (by_host (arms count) fits (of-host parts machine h lawful user cube holds actor (arms count) fits (λ none. none)) node no_host) count
+      each (arm_call count) fits (Arm count) (arm-answer (after h) cube actor count) node no_host
+      ∙ arm-record cube.grant.sub user actor node (was node) (by_host (arm_call count) fits (of-host parts machine h lawful user cube holds actor (arm_call count) fits (λ none. none)) node no_host) count
 
-  pub armed-cube : (count : ℕ) → IsCallOf parts h actor (arms count) cube
-      → held_by (next h (entry_of user actor (Arm count))) user ≡ Some (record cube { armed = count; dispatched = 0 })
-  armed-cube count fits = whole (arms count) fits (Arm count) (arm-answer (after h) cube actor count) ∙ ap Some (arm-cube user actor cube count)
+  pub armed-cube : (count : ℕ) → IsCallOf parts h actor (arm_call count) cube
+      → cube_held_by (next h (entry_of user actor (Arm count))) user ≡ Some (record cube { allowed_dispatches = count; made_dispatches = 0 })
+  armed-cube count fits = whole (arm_call count) fits (Arm count) (arm-answer (after h) cube actor count) ∙ ap Some (arm-cube user actor cube count)
 
-  module _ (fits : IsCallOf parts h actor looks cube) where
+  module _ (fits : IsCallOf parts h actor look_call cube) where
     -- what a look finds
     abbrev pub found : LookResult
-    found = found_where (list_all (λ node. is_quiet_node ((after h).node_record node)) (nodes_of cube.grant)) (cube.dispatched == cube.armed)
+    found = found_where (list_all (λ node. is_quiet_node ((after h).node_record node)) (nodes_of cube.grant)) (cube.made_dispatches == cube.allowed_dispatches)
 
-    pub looked : answer_to (after h) cube actor looks ≡ Look found
-    looked = look-answer (after h) cube actor parts.dim (placed looks fits)
+    pub looked : answer_to (after h) cube actor look_call ≡ Look found
+    looked = look-answer (after h) cube actor parts.dim (placed look_call fits)
 
     pub looked-each : (node : ℕ) → (node == HOST) ≡ false → (next h (entry_of user actor (Look found))).node_record node ≡ (after h).node_record node
     looked-each node no_host =
-        each looks fits (Look found) looked node no_host
-        ∙ look-record cube.grant.sub user actor node (was node) (by_host looks fits (of-host parts machine h lawful user cube holds actor looks fits (λ none. none)) node no_host) found
+        each look_call fits (Look found) looked node no_host
+        ∙ look-record cube.grant.sub user actor node (was node) (by_host look_call fits (of-host parts machine h lawful user cube holds actor look_call fits (λ none. none)) node no_host) found
 
-    pub looked-cube : held_by (next h (entry_of user actor (Look found))) user ≡ Some cube
-    looked-cube = whole looks fits (Look found) looked ∙ ap Some (look-cube user actor cube found)
+    pub looked-cube : cube_held_by (next h (entry_of user actor (Look found))) user ≡ Some cube
+    looked-cube = whole look_call fits (Look found) looked ∙ ap Some (look-cube user actor cube found)
 
-  module _ (fits : IsCallOf parts h actor takes_mail cube) where
+  module _ (fits : IsCallOf parts h actor mail_call cube) where
     is_host : (actor == HOST) ≡ true
-    is_host = of-host parts machine h lawful user cube holds actor takes_mail fits (λ none. none)
+    is_host = of-host parts machine h lawful user cube holds actor mail_call fits (λ none. none)
 
-    mail-each : (number : Option ℕ) → answered_as takes_mail ≡ HostTake number → (node : ℕ) → (node == HOST) ≡ false
+    mail-each : (number : Option ℕ) → answered_as mail_call ≡ HostTake number → (node : ℕ) → (node == HOST) ≡ false
         → (now (HostTake number)).node_record node ≡ was node
     mail-each number e node no_host =
-        each takes_mail fits (HostTake number) e node no_host
-        ∙ take_mail-record cube.grant.sub user actor node (was node) (by_host takes_mail fits is_host node no_host) number
+        each mail_call fits (HostTake number) e node no_host
+        ∙ take_mail-record cube.grant.sub user actor node (was node) (by_host mail_call fits is_host node no_host) number
 
     -- no message waits
     module _ (none : cube.mail ≡ []) where
-      pub no_mail : answer_to (after h) cube actor takes_mail ≡ HostTake None
+      pub no_mail : answer_to (after h) cube actor mail_call ≡ HostTake None
       no_mail = mail-answer (after h) cube actor is_host ∙ ap (λ items. HostTake (first_number items)) none
 
       pub no_mail-each : (node : ℕ) → (node == HOST) ≡ false → (next h (entry_of user actor (HostTake None))).node_record node ≡ (after h).node_record node
       no_mail-each node no_host = mail-each None no_mail node no_host
 
-      pub no_mail-held : held_by (next h (entry_of user actor (HostTake None))) user ≡ Some cube
-      no_mail-held = whole takes_mail fits (HostTake None) no_mail ∙ ap Some (no_mail-cube user actor cube)
+      pub no_mail-held : cube_held_by (next h (entry_of user actor (HostTake None))) user ≡ Some cube
+      no_mail-held = whole mail_call fits (HostTake None) no_mail ∙ ap Some (no_mail-cube user actor cube)
 
     -- the first that waits is taken
     module _ (parcel : Parcel) (rest : List Item) (first : cube.mail ≡ mail parcel ∷ rest) where
-      pub mail_taken : answer_to (after h) cube actor takes_mail ≡ HostTake (Some parcel.number)
+      pub mail_taken : answer_to (after h) cube actor mail_call ≡ HostTake (Some parcel.number)
       mail_taken = mail-answer (after h) cube actor is_host ∙ ap (λ items. HostTake (first_number items)) first
 
       pub mail_taken-each : (node : ℕ) → (node == HOST) ≡ false
           → (next h (entry_of user actor (HostTake (Some parcel.number)))).node_record node ≡ (after h).node_record node
       mail_taken-each node no_host = mail-each (Some parcel.number) mail_taken node no_host
 
-      pub mail_taken-cube : held_by (next h (entry_of user actor (HostTake (Some parcel.number)))) user ≡ Some (record cube { mail = rest })
-      mail_taken-cube = whole takes_mail fits (HostTake (Some parcel.number)) mail_taken ∙ ap Some (mail-cube user actor cube parcel rest is_host first)
+      pub mail_taken-cube : cube_held_by (next h (entry_of user actor (HostTake (Some parcel.number)))) user ≡ Some (record cube { mail = rest })
+      mail_taken-cube = whole mail_call fits (HostTake (Some parcel.number)) mail_taken ∙ ap Some (mail-cube user actor cube parcel rest is_host first)
 
   -- ---- spawns and kills: what is kept for the node of the process, and for each other
 
-  module _ (pid image : ℕ) (to : Place) (fits : IsCallOf parts h actor (spawns pid image to) cube) where
+  module _ (pid image : ℕ) (to : Place) (fits : IsCallOf parts h actor (spawn_call pid image to) cube) where
     abbrev node_at : ℕ
     node_at = node_of cube.grant.sub to.node
 
     at_no_host : (node_at == HOST) ≡ false
-    at_no_host = out_no_host parts.dim cube.grant (placed (spawns pid image to) fits) to.node
+    at_no_host = out_no_host parts.dim cube.grant (placed (spawn_call pid image to) fits) to.node
 
-    spawned : (fresh : Bool) → not (is_among to.pid ((after h).node_record (node_of cube.grant.sub to.node)).spawned) ≡ fresh
-        → answered_as (spawns pid image to) ≡ Spawn pid image (place_of cube to) fresh
+    spawned : (fresh : Bool) → not (is_among to.pid ((after h).node_record (node_of cube.grant.sub to.node)).spawned_ids) ≡ fresh
+        → answered_as (spawn_call pid image to) ≡ Spawn pid image (place_of cube to) fresh
     spawned fresh e =
-        spawn-answer (after h) cube actor parts.dim (placed (spawns pid image to) fits) pid image to
-        (place_parts cube.grant.dim to (call-places parts machine h lawful user cube holds actor (spawns pid image to) fits)).0
+        spawn-answer (after h) cube actor parts.dim (placed (spawn_call pid image to) fits) pid image to
+        (place_parts cube.grant.dim to (call-places parts machine h lawful user cube holds actor (spawn_call pid image to) fits)).0
         ∙ ap (Spawn pid image (place_of cube to)) e
 
-    module _ (fresh : Bool) (e : not (is_among to.pid ((after h).node_record (node_of cube.grant.sub to.node)).spawned) ≡ fresh) where
-      pub spawned-as : answer_to (after h) cube actor (spawns pid image to) ≡ Spawn pid image (place_of cube to) fresh
+    module _ (fresh : Bool) (e : not (is_among to.pid ((after h).node_record (node_of cube.grant.sub to.node)).spawned_ids) ≡ fresh) where
+      pub spawned-as : answer_to (after h) cube actor (spawn_call pid image to) ≡ Spawn pid image (place_of cube to) fresh
       spawned-as = spawned fresh e
 
       pub spawned-away : (node : ℕ) → (node == HOST) ≡ false → (node_of cube.grant.sub to.node == node) ≡ false
           → (next h (entry_of user actor (Spawn pid image (place_of cube to) fresh))).node_record node ≡ with_call_mark actor node ((after h).node_record node)
       spawned-away node no_host away =
-          each (spawns pid image to) fits (Spawn pid image (place_of cube to) fresh) (spawned fresh e) node no_host
+          each (spawn_call pid image to) fits (Spawn pid image (place_of cube to) fresh) (spawned fresh e) node no_host
           ∙ spawn-away cube.grant.sub user actor node (was node) pid image (place_of cube to) fresh away
 
-      pub spawned-cube : held_by (next h (entry_of user actor (Spawn pid image (place_of cube to) fresh))) user ≡ Some cube
+      pub spawned-cube : cube_held_by (next h (entry_of user actor (Spawn pid image (place_of cube to) fresh))) user ≡ Some cube
       spawned-cube =
-          whole (spawns pid image to) fits (Spawn pid image (place_of cube to) fresh) (spawned fresh e)
+          whole (spawn_call pid image to) fits (Spawn pid image (place_of cube to) fresh) (spawned fresh e)
           ∙ ap Some (spawn-cube user actor cube pid image (place_of cube to) fresh at_no_host)
 
-    pub spawned-here : not (is_among to.pid ((after h).node_record (node_of cube.grant.sub to.node)).spawned) ≡ true
+    pub spawned-here : not (is_among to.pid ((after h).node_record (node_of cube.grant.sub to.node)).spawned_ids) ≡ true
         → let node = node_of cube.grant.sub to.node in let kept = (after h).node_record node in
         (next h (entry_of user actor (Spawn pid image (place_of cube to) true))).node_record node
-        ≡ record (with_call_mark actor node kept) { waiting = kept.waiting ++ start to.pid image ∷ []; spawned = kept.spawned ++ to.pid ∷ [] }
+        ≡ record (with_call_mark actor node kept) { waiting_items = kept.waiting_items ++ start to.pid image ∷ []; spawned_ids = kept.spawned_ids ++ to.pid ∷ [] }
     spawned-here e =
-        each (spawns pid image to) fits (Spawn pid image (place_of cube to) true) (spawned true e) node_at at_no_host
+        each (spawn_call pid image to) fits (Spawn pid image (place_of cube to) true) (spawned true e) node_at at_no_host
         ∙ spawn-here cube.grant.sub user actor node_at (was node_at) pid image (place_of cube to) (eq-eqb node_at node_at refl)
 
-    pub spawn_used-each : not (is_among to.pid ((after h).node_record (node_of cube.grant.sub to.node)).spawned) ≡ false → (node : ℕ) → (node == HOST) ≡ false
+    pub spawn_used-each : not (is_among to.pid ((after h).node_record (node_of cube.grant.sub to.node)).spawned_ids) ≡ false → (node : ℕ) → (node == HOST) ≡ false
         → (next h (entry_of user actor (Spawn pid image (place_of cube to) false))).node_record node ≡ with_call_mark actor node ((after h).node_record node)
     spawn_used-each e node no_host =
-        each (spawns pid image to) fits (Spawn pid image (place_of cube to) false) (spawned false e) node no_host
+        each (spawn_call pid image to) fits (Spawn pid image (place_of cube to) false) (spawned false e) node no_host
         ∙ spawn-used cube.grant.sub user actor node (was node) pid image (place_of cube to)
 
-  module _ (pid : ℕ) (to : Place) (fits : IsCallOf parts h actor (kills pid to) cube) where
+  module _ (pid : ℕ) (to : Place) (fits : IsCallOf parts h actor (kill_call pid to) cube) where
     abbrev kill_at : ℕ
     kill_at = node_of cube.grant.sub to.node
 
     kill_no_host : (kill_at == HOST) ≡ false
-    kill_no_host = out_no_host parts.dim cube.grant (placed (kills pid to) fits) to.node
+    kill_no_host = out_no_host parts.dim cube.grant (placed (kill_call pid to) fits) to.node
 
     module _ (found : KillFound) (e : kill_found ((after h).node_record (node_of cube.grant.sub to.node)) to.pid ≡ found) where
-      pub killed-as : answer_to (after h) cube actor (kills pid to) ≡ Kill pid (place_of cube to) found
+      pub killed-as : answer_to (after h) cube actor (kill_call pid to) ≡ Kill pid (place_of cube to) found
       killed-as =
-          kill-answer (after h) cube actor parts.dim (placed (kills pid to) fits) pid to
-          (place_parts cube.grant.dim to (call-places parts machine h lawful user cube holds actor (kills pid to) fits)).0
+          kill-answer (after h) cube actor parts.dim (placed (kill_call pid to) fits) pid to
+          (place_parts cube.grant.dim to (call-places parts machine h lawful user cube holds actor (kill_call pid to) fits)).0
           ∙ ap (Kill pid (place_of cube to)) e
 
       pub killed-away : (node : ℕ) → (node == HOST) ≡ false → (node_of cube.grant.sub to.node == node) ≡ false
           → (next h (entry_of user actor (Kill pid (place_of cube to) found))).node_record node ≡ with_call_mark actor node ((after h).node_record node)
       killed-away node no_host away =
-          each (kills pid to) fits (Kill pid (place_of cube to) found) killed-as node no_host
+          each (kill_call pid to) fits (Kill pid (place_of cube to) found) killed-as node no_host
           ∙ kill-away cube.grant.sub user actor node (was node) pid (place_of cube to) found away
 
-      pub killed-cube : held_by (next h (entry_of user actor (Kill pid (place_of cube to) found))) user ≡ Some cube
+      pub killed-cube : cube_held_by (next h (entry_of user actor (Kill pid (place_of cube to) found))) user ≡ Some cube
       killed-cube =
-          whole (kills pid to) fits (Kill pid (place_of cube to) found) killed-as
+          whole (kill_call pid to) fits (Kill pid (place_of cube to) found) killed-as
           ∙ ap Some (kill-cube user actor cube pid (place_of cube to) found kill_no_host)
 
     pub killed-here : kill_found ((after h).node_record (node_of cube.grant.sub to.node)) to.pid ≡ Killed
         → let node = node_of cube.grant.sub to.node in let kept = (after h).node_record node in
         (next h (entry_of user actor (Kill pid (place_of cube to) Killed))).node_record node
-        ≡ record (with_call_mark actor node kept) { waiting = kept.waiting ++ kill to.pid ∷ []; killed = kept.killed ++ to.pid ∷ [] }
+        ≡ record (with_call_mark actor node kept) { waiting_items = kept.waiting_items ++ kill to.pid ∷ []; killed_ids = kept.killed_ids ++ to.pid ∷ [] }
     killed-here e =
-        each (kills pid to) fits (Kill pid (place_of cube to) Killed) (killed-as Killed e) kill_at kill_no_host
+        each (kill_call pid to) fits (Kill pid (place_of cube to) Killed) (killed-as Killed e) kill_at kill_no_host
         ∙ kill-here cube.grant.sub user actor kill_at (was kill_at) pid (place_of cube to) (eq-eqb kill_at kill_at refl)
 
     pub kill_unused-each : kill_found ((after h).node_record (node_of cube.grant.sub to.node)) to.pid ≡ Unused → (node : ℕ) → (node == HOST) ≡ false
         → (next h (entry_of user actor (Kill pid (place_of cube to) Unused))).node_record node ≡ with_call_mark actor node ((after h).node_record node)
     kill_unused-each e node no_host =
-        each (kills pid to) fits (Kill pid (place_of cube to) Unused) (killed-as Unused e) node no_host
+        each (kill_call pid to) fits (Kill pid (place_of cube to) Unused) (killed-as Unused e) node no_host
         ∙ kill-unused cube.grant.sub user actor node (was node) pid (place_of cube to)
 
     pub kill_already-each : kill_found ((after h).node_record (node_of cube.grant.sub to.node)) to.pid ≡ Already → (node : ℕ) → (node == HOST) ≡ false
         → (next h (entry_of user actor (Kill pid (place_of cube to) Already))).node_record node ≡ with_call_mark actor node ((after h).node_record node)
     kill_already-each e node no_host =
-        each (kills pid to) fits (Kill pid (place_of cube to) Already) (killed-as Already e) node no_host
+        each (kill_call pid to) fits (Kill pid (place_of cube to) Already) (killed-as Already e) node no_host
         ∙ kill-already cube.grant.sub user actor node (was node) pid (place_of cube to)
 
   -- ---- takes
 
-  module _ (asking dead : ℕ) (poller : Option ℕ) (fits : IsCallOf parts h actor (takes asking dead poller) cube) where
+  module _ (asking dead : ℕ) (poller : Option ℕ) (fits : IsCallOf parts h actor (take_call asking dead poller) cube) where
     abbrev call : Call
-    call = takes asking dead poller
+    call = take_call asking dead poller
 
     -- a node takes, and it isn't the host
     pub taker : is_inside cube.grant.sub actor ≡ true
@@ -228,12 +228,12 @@ module _ (parts : MachineParts) (machine : IsMachine parts) (h : List Entry) (la
     no_host : (actor == HOST) ≡ false
     no_host = no_host_by call fits taker
 
-    module _ (given : TakeResult) (e : offer_of (find (is_eligible asking dead) ((after h).node_record actor).waiting) poller (cube.dispatched == cube.armed) ≡ given) where
-      pub took-as : answer_to (after h) cube actor (takes asking dead poller) ≡ Take asking dead poller given
+    module _ (given : TakeResult) (e : offer_of (find (is_eligible asking dead) ((after h).node_record actor).waiting_items) poller (cube.made_dispatches == cube.allowed_dispatches) ≡ given) where
+      pub took-as : answer_to (after h) cube actor (take_call asking dead poller) ≡ Take asking dead poller given
       took-as = take-answer (after h) cube actor asking dead poller no_host ∙ ap (Take asking dead poller) e
 
       pub took-own : let kept = (after h).node_record actor in (next h (entry_of user actor (Take asking dead poller given))).node_record actor
-          ≡ record kept { waiting = without_taken (taken_in (Take asking dead poller given)) kept.waiting; mark = record { idle = is_idle given; asking = asking; dead = dead } }
+          ≡ record kept { waiting_items = without_taken (taken_result (Take asking dead poller given)) kept.waiting_items; mark = record { is_idle = is_idle given; asking_ids = asking; dead_ids = dead } }
       took-own =
           each call fits (Take asking dead poller given) took-as actor no_host
           ∙ take-own cube.grant.sub user actor actor (was actor) asking dead poller given (eq-eqb actor actor refl)
@@ -243,6 +243,6 @@ module _ (parts : MachineParts) (machine : IsMachine parts) (h : List Entry) (la
       took-other node apart other =
           each call fits (Take asking dead poller given) took-as node apart ∙ take-other cube.grant.sub user actor node (was node) other asking dead poller given
 
-      pub took-cube : held_by (next h (entry_of user actor (Take asking dead poller given))) user
-          ≡ Some (record cube { dispatched = if is_work given then cube.dispatched + 1 else cube.dispatched })
+      pub took-cube : cube_held_by (next h (entry_of user actor (Take asking dead poller given))) user
+          ≡ Some (record cube { made_dispatches = if is_work given then cube.made_dispatches + 1 else cube.made_dispatches })
       took-cube = whole call fits (Take asking dead poller given) took-as ∙ ap Some (take-cube user actor cube asking dead poller given no_host)

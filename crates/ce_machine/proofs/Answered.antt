@@ -7,13 +7,13 @@ use Rattle.ce_model.specs.declared.topology.BlockId.{BlockId}
 use Rattle.ce_model.specs.declared.entry.What.{What}
 use Rattle.ce_model.specs.declared.entry.What.TheVariants.{Arm, Look, HostTake, Send, Spawn, Kill, Note, Take}
 use Rattle.ce_model.specs.Parcels.{is_eligible}
-use Rattle.ce_model.specs.Node.{Call, takes, sends, spawns, kills, notes, arms, looks, takes_mail}
+use Rattle.ce_model.specs.Node.{Call, take_call, send_call, spawn_call, kill_call, note_call, arm_call, look_call, mail_call}
 use Rattle.ce_model.specs.Trace.{NodeRecord}
 use Rattle.ce_model.specs.Answers.{answer, offer_of, is_among, kill_found, is_quiet_node, is_quiet, found_where, first_number}
 use Rattle.ce_model.specs.Cube.{node_numbers}
 use Rattle.ce_model.specs.Subcubes.{node_of}
-use Rattle.ce_model.specs.Renaming.{place_outward, targets_renamed}
-use Rattle.ce_model.specs.Machine.{MachineParts, MachineState, HeldCube, held_by, nodes_of, host_record, standing_of, with_places_outward, in_cube, what_of_request}
+use Rattle.ce_model.specs.Renaming.{place_outward, renamed_targets}
+use Rattle.ce_model.specs.Machine.{MachineParts, MachineState, HeldCube, cube_held_by, nodes_of, host_record, cube_standing, with_places_outward, in_cube, what_of_request}
 use Rattle.ce_solo.proofs.Projection.Numbers.{IsPlaced, out_node, out_no_host}
 
 -- the place of the machine that a place of a cube's node is
@@ -23,61 +23,61 @@ place_of cube to = record { node = node_of cube.grant.sub to.node; pid = to.pid 
 module _ (state : MachineState) (cube : HeldCube) (actor : ℕ) where
   -- the answer to a call of the cube
   abbrev pub answer_to : Call → What
-  answer_to call = answer (nodes_of cube.grant) (standing_of state cube) actor (with_places_outward cube.grant call)
+  answer_to call = answer (nodes_of cube.grant) (cube_standing state cube) actor (with_places_outward cube.grant call)
 
   -- it makes the entry of a user that holds the cube
-  pub call-answered : (parts : MachineParts) (user : ℕ) (call : Call) → held_by state user ≡ Some cube → what_of_request parts state user actor (in_cube call) ≡ Some (answer_to call)
-  call-answered parts user call holds = ap (option_map (λ cube. answer (nodes_of cube.grant) (standing_of state cube) actor (with_places_outward cube.grant call))) holds
+  pub call-answered : (parts : MachineParts) (user : ℕ) (call : Call) → cube_held_by state user ≡ Some cube → what_of_request parts state user actor (in_cube call) ≡ Some (answer_to call)
+  call-answered parts user call holds = ap (option_map (λ cube. answer (nodes_of cube.grant) (cube_standing state cube) actor (with_places_outward cube.grant call))) holds
 
   pub send-answer : (pid : ℕ) (to : List (Place × BlockId)) (bytes : List ℕ)
-      → answer_to (sends pid to bytes) ≡ Send pid cube.parcel_count (targets_renamed (place_outward cube.grant.sub) (λ id. id) to) bytes
+      → answer_to (send_call pid to bytes) ≡ Send pid cube.parcel_count (renamed_targets (place_outward cube.grant.sub) (λ id. id) to) bytes
   unfolding answer
   send-answer pid to bytes = refl
 
-  pub note-answer : (pid word : ℕ) → answer_to (notes pid word) ≡ Note pid word
+  pub note-answer : (pid word : ℕ) → answer_to (note_call pid word) ≡ Note pid word
   unfolding answer
   note-answer pid word = refl
 
-  pub arm-answer : (count : ℕ) → answer_to (arms count) ≡ Arm count
+  pub arm-answer : (count : ℕ) → answer_to (arm_call count) ≡ Arm count
   unfolding answer
   arm-answer count = refl
 
-  pub take-answer : (asking dead : ℕ) (poller : Option ℕ) → (actor == HOST) ≡ false → answer_to (takes asking dead poller)
-      ≡ Take asking dead poller (offer_of (find (is_eligible asking dead) (state.node_record actor).waiting) poller (cube.dispatched == cube.armed))
+  pub take-answer : (asking dead : ℕ) (poller : Option ℕ) → (actor == HOST) ≡ false → answer_to (take_call asking dead poller)
+      ≡ Take asking dead poller (offer_of (find (is_eligible asking dead) (state.node_record actor).waiting_items) poller (cube.made_dispatches == cube.allowed_dispatches))
   unfolding answer
   take-answer asking dead poller node = rw node refl
 
-  pub mail-answer : (actor == HOST) ≡ true → answer_to takes_mail ≡ HostTake (first_number cube.mail)
+  pub mail-answer : (actor == HOST) ≡ true → answer_to mail_call ≡ HostTake (first_number cube.mail)
   unfolding answer
   mail-answer host = rw host refl
 
   module _ (dim : ℕ) (placed : IsPlaced dim cube.grant) where
     -- what the cube's standing has for one of its nodes
-    node-standing : (r : ℕ) → (standing_of state cube).node_record (node_of cube.grant.sub r) ≡ state.node_record (node_of cube.grant.sub r)
+    node-standing : (r : ℕ) → (cube_standing state cube).node_record (node_of cube.grant.sub r) ≡ state.node_record (node_of cube.grant.sub r)
     node-standing r = ap (λ b. if b then host_record cube else state.node_record (node_of cube.grant.sub r)) (out_no_host dim cube.grant placed r)
 
     place-outward : (to : Place) → to.node < 2 ^ cube.grant.dim → place_outward cube.grant.sub to ≡ place_of cube to
     place-outward to below = ap (λ node. record { node = node; pid = to.pid }) (out_node dim cube.grant placed to.node below)
 
-    pub spawn-answer : (pid image : ℕ) (to : Place) → to.node < 2 ^ cube.grant.dim → answer_to (spawns pid image to)
-        ≡ Spawn pid image (place_of cube to) (not (is_among to.pid (state.node_record (node_of cube.grant.sub to.node)).spawned))
+    pub spawn-answer : (pid image : ℕ) (to : Place) → to.node < 2 ^ cube.grant.dim → answer_to (spawn_call pid image to)
+        ≡ Spawn pid image (place_of cube to) (not (is_among to.pid (state.node_record (node_of cube.grant.sub to.node)).spawned_ids))
     unfolding answer
     spawn-answer pid image to below =
-        ap (λ (at : Place). Spawn pid image at (not (is_among at.pid ((standing_of state cube).node_record at.node).spawned))) (place-outward to below)
-        ∙ ap (λ (kept : NodeRecord). Spawn pid image (place_of cube to) (not (is_among to.pid kept.spawned))) (node-standing to.node)
+        ap (λ (at : Place). Spawn pid image at (not (is_among at.pid ((cube_standing state cube).node_record at.node).spawned_ids))) (place-outward to below)
+        ∙ ap (λ (kept : NodeRecord). Spawn pid image (place_of cube to) (not (is_among to.pid kept.spawned_ids))) (node-standing to.node)
 
-    pub kill-answer : (pid : ℕ) (to : Place) → to.node < 2 ^ cube.grant.dim → answer_to (kills pid to)
+    pub kill-answer : (pid : ℕ) (to : Place) → to.node < 2 ^ cube.grant.dim → answer_to (kill_call pid to)
         ≡ Kill pid (place_of cube to) (kill_found (state.node_record (node_of cube.grant.sub to.node)) to.pid)
     unfolding answer
     kill-answer pid to below =
-        ap (λ (at : Place). Kill pid at (kill_found ((standing_of state cube).node_record at.node) at.pid)) (place-outward to below)
+        ap (λ (at : Place). Kill pid at (kill_found ((cube_standing state cube).node_record at.node) at.pid)) (place-outward to below)
         ∙ ap (λ (kept : NodeRecord). Kill pid (place_of cube to) (kill_found kept to.pid)) (node-standing to.node)
 
-    all-quiet : (rs : List ℕ) → list_all (λ node. is_quiet_node ((standing_of state cube).node_record node)) (map (node_of cube.grant.sub) rs)
+    all-quiet : (rs : List ℕ) → list_all (λ node. is_quiet_node ((cube_standing state cube).node_record node)) (map (node_of cube.grant.sub) rs)
         ≡ list_all (λ node. is_quiet_node (state.node_record node)) (map (node_of cube.grant.sub) rs)
     all-quiet [] = refl
     all-quiet (r ∷ rs) = λ i. is_quiet_node (node-standing r i) && all-quiet rs i
 
-    pub look-answer : answer_to looks ≡ Look (found_where (list_all (λ node. is_quiet_node (state.node_record node)) (nodes_of cube.grant)) (cube.dispatched == cube.armed))
+    pub look-answer : answer_to look_call ≡ Look (found_where (list_all (λ node. is_quiet_node (state.node_record node)) (nodes_of cube.grant)) (cube.made_dispatches == cube.allowed_dispatches))
     unfolding answer is_quiet
-    look-answer = ap (λ quiet. Look (found_where quiet (cube.dispatched == cube.armed))) (all-quiet (node_numbers cube.grant.dim))
+    look-answer = ap (λ quiet. Look (found_where quiet (cube.made_dispatches == cube.allowed_dispatches))) (all-quiet (node_numbers cube.grant.dim))

@@ -16,14 +16,14 @@ use Rattle.ce_model.specs.declared.entry.TakeResult.TheVariants.{Mail}
 use Rattle.ce_model.specs.declared.entry.KillFound.{KillFound}
 use Rattle.ce_model.specs.declared.entry.KillFound.TheVariants.{Killed, Unused, Already}
 use Rattle.ce_model.specs.Lists.{without_first}
-use Rattle.ce_model.specs.Parcels.{Parcel, Item, start, mail, kill, is_named_by, parcels_from}
-use Rattle.ce_model.specs.Node.{Call, takes, sends, spawns, kills, notes, arms, looks, takes_mail}
-use Rattle.ce_model.specs.Trace.{NodeRecord, Standing, taken_in, is_work, is_idle}
-use Rattle.ce_model.specs.Answers.{answer, call_of, is_quiet, is_used_up, found_where}
+use Rattle.ce_model.specs.Parcels.{Parcel, Item, start, mail, kill, is_named_by, message_parcels}
+use Rattle.ce_model.specs.Node.{Call, take_call, send_call, spawn_call, kill_call, note_call, arm_call, look_call, mail_call}
+use Rattle.ce_model.specs.Trace.{NodeRecord, Standing, taken_result, is_work, is_idle}
+use Rattle.ce_model.specs.Answers.{answer, recorded_call, is_quiet, is_used_up, found_where}
 use Rattle.ce_model.specs.Subcubes.{is_inside}
-use Rattle.ce_model.specs.Renaming.{CubeGrant, place_outward, number_outward, targets_renamed}
+use Rattle.ce_model.specs.Renaming.{CubeGrant, place_outward, number_outward, renamed_targets}
 use Rattle.ce_model.specs.Limits.{greatest_blocks}
-use Rattle.ce_model.specs.Machine.{MachineParts, IsMachine, HeldCube, held_by, nodes_of, standing_of, item_inward, without_taken, record_by, held_by_entry, after, with_places_outward, IsCallOf, IsLawful}
+use Rattle.ce_model.specs.Machine.{MachineParts, IsMachine, HeldCube, cube_held_by, nodes_of, cube_standing, item_inward, without_taken, record_by, cube_after_entry, after, with_places_outward, IsCallOf, IsLawful}
 use Rattle.ce_model.proofs.Subcubes.{is_inside-node_of}
 use Rattle.ce_model.proofs.AloneByEntries.{call_of-answer}
 use Rattle.ce_solo.proofs.Sending.{place_parts}
@@ -40,7 +40,7 @@ use Rattle.ce_machine.proofs.Effects.{call-own, call-inside, call-outside}
 -- what the entry of a message to these places of the cube brings to a number of the machine, which may be the host's
 abbrev pub mails_at : Subcube → Place → ℕ → List ℕ → ℕ → List (Place × BlockId) → List Item
 mails_at sub from first bytes node to =
-    map (item_inward sub) (map mail (filter (λ parcel. parcel.to.node == node) (parcels_from from first bytes (targets_renamed (place_outward sub) (λ id. id) to))))
+    map (item_inward sub) (map mail (filter (λ parcel. parcel.to.node == node) (message_parcels from first bytes (renamed_targets (place_outward sub) (λ id. id) to))))
 
 -- where none of the targets is, nothing comes
 pub mails-none : (sub : Subcube) (from : Place) (first : ℕ) (bytes : List ℕ) (node : ℕ) (to : List (Place × BlockId))
@@ -52,7 +52,7 @@ mails-none sub from first bytes node (target ∷ to) all = rw all.0 (mails-none 
 
 -- what is kept for a node, once an actor has made an entry that is no take
 abbrev pub with_call_mark : ℕ → ℕ → NodeRecord → NodeRecord
-with_call_mark actor node kept = record kept { mark = if actor == node then record kept.mark { idle = false } else kept.mark }
+with_call_mark actor node kept = record kept { mark = if actor == node then record kept.mark { is_idle = false } else kept.mark }
 
 pub busy-other : (actor node : ℕ) (kept : NodeRecord) → (actor == node) ≡ false → with_call_mark actor node kept ≡ kept
 busy-other actor node kept differ = rw differ refl
@@ -76,20 +76,20 @@ module _ (sub : Subcube) (user actor node : ℕ) (kept : NodeRecord) where
 
   pub note-record : (pid word : ℕ) → by (Note pid word) ≡ with_call_mark actor node kept
   note-record pid word = λ i. record {
-    waiting = stays (actor == node) kept.waiting i;
-    spawned = append-nil kept.spawned i;
-    killed = append-nil kept.killed i;
-    mark = if actor == node then record kept.mark { idle = false } else kept.mark;
+    waiting_items = stays (actor == node) kept.waiting_items i;
+    spawned_ids = append-nil kept.spawned_ids i;
+    killed_ids = append-nil kept.killed_ids i;
+    mark = if actor == node then record kept.mark { is_idle = false } else kept.mark;
   }
 
   -- a spawn, of an id that is new
   pub spawn-here : (pid image : ℕ) (to : Place) → (to.node == node) ≡ true
-      → by (Spawn pid image to true) ≡ record (with_call_mark actor node kept) { waiting = kept.waiting ++ start to.pid image ∷ []; spawned = kept.spawned ++ to.pid ∷ [] }
+      → by (Spawn pid image to true) ≡ record (with_call_mark actor node kept) { waiting_items = kept.waiting_items ++ start to.pid image ∷ []; spawned_ids = kept.spawned_ids ++ to.pid ∷ [] }
   spawn-here pid image to here = rw here (λ i. record {
-    waiting = comes (actor == node) kept.waiting (start to.pid image ∷ []) i;
-    spawned = kept.spawned ++ to.pid ∷ [];
-    killed = append-nil kept.killed i;
-    mark = if actor == node then record kept.mark { idle = false } else kept.mark;
+    waiting_items = comes (actor == node) kept.waiting_items (start to.pid image ∷ []) i;
+    spawned_ids = kept.spawned_ids ++ to.pid ∷ [];
+    killed_ids = append-nil kept.killed_ids i;
+    mark = if actor == node then record kept.mark { is_idle = false } else kept.mark;
   })
 
   pub spawn-away : (pid image : ℕ) (to : Place) (fresh : Bool) → (to.node == node) ≡ false → by (Spawn pid image to fresh) ≡ with_call_mark actor node kept
@@ -102,12 +102,12 @@ module _ (sub : Subcube) (user actor node : ℕ) (kept : NodeRecord) where
 
   -- a kill that is accepted
   pub kill-here : (pid : ℕ) (to : Place) → (to.node == node) ≡ true
-      → by (Kill pid to Killed) ≡ record (with_call_mark actor node kept) { waiting = kept.waiting ++ kill to.pid ∷ []; killed = kept.killed ++ to.pid ∷ [] }
+      → by (Kill pid to Killed) ≡ record (with_call_mark actor node kept) { waiting_items = kept.waiting_items ++ kill to.pid ∷ []; killed_ids = kept.killed_ids ++ to.pid ∷ [] }
   kill-here pid to here = rw here (λ i. record {
-    waiting = comes (actor == node) kept.waiting (kill to.pid ∷ []) i;
-    spawned = append-nil kept.spawned i;
-    killed = kept.killed ++ to.pid ∷ [];
-    mark = if actor == node then record kept.mark { idle = false } else kept.mark;
+    waiting_items = comes (actor == node) kept.waiting_items (kill to.pid ∷ []) i;
+    spawned_ids = append-nil kept.spawned_ids i;
+    killed_ids = kept.killed_ids ++ to.pid ∷ [];
+    mark = if actor == node then record kept.mark { is_idle = false } else kept.mark;
   })
 
   pub kill-away : (pid : ℕ) (to : Place) (found : KillFound) → (to.node == node) ≡ false → by (Kill pid to found) ≡ with_call_mark actor node kept
@@ -124,29 +124,29 @@ module _ (sub : Subcube) (user actor node : ℕ) (kept : NodeRecord) where
 
   -- a message to places of the cube
   pub send-record : (pid first : ℕ) (to : List (Place × BlockId)) (bytes : List ℕ)
-      → by (Send pid first (targets_renamed (place_outward sub) (λ id. id) to) bytes)
-      ≡ record (with_call_mark actor node kept) { waiting = kept.waiting ++ mails_at sub (record { node = actor; pid = pid }) first bytes node to }
+      → by (Send pid first (renamed_targets (place_outward sub) (λ id. id) to) bytes)
+      ≡ record (with_call_mark actor node kept) { waiting_items = kept.waiting_items ++ mails_at sub (record { node = actor; pid = pid }) first bytes node to }
   send-record pid first to bytes = λ i. record {
-    waiting = comes (actor == node) kept.waiting (mails_at sub (record { node = actor; pid = pid }) first bytes node to) i;
-    spawned = append-nil kept.spawned i;
-    killed = append-nil kept.killed i;
-    mark = if actor == node then record kept.mark { idle = false } else kept.mark;
+    waiting_items = comes (actor == node) kept.waiting_items (mails_at sub (record { node = actor; pid = pid }) first bytes node to) i;
+    spawned_ids = append-nil kept.spawned_ids i;
+    killed_ids = append-nil kept.killed_ids i;
+    mark = if actor == node then record kept.mark { is_idle = false } else kept.mark;
   }
 
   -- what a node takes
   pub take-own : (asking dead : ℕ) (poller : Option ℕ) (given : TakeResult) → (actor == node) ≡ true → by (Take asking dead poller given)
-      ≡ record kept { waiting = without_taken (taken_in (Take asking dead poller given)) kept.waiting; mark = record { idle = is_idle given; asking = asking; dead = dead } }
+      ≡ record kept { waiting_items = without_taken (taken_result (Take asking dead poller given)) kept.waiting_items; mark = record { is_idle = is_idle given; asking_ids = asking; dead_ids = dead } }
   take-own asking dead poller given own = rw own (λ i. record {
-    waiting = append-nil (without_taken (taken_in (Take asking dead poller given)) kept.waiting) i;
-    spawned = append-nil kept.spawned i;
-    killed = append-nil kept.killed i;
-    mark = record { idle = is_idle given; asking = asking; dead = dead };
+    waiting_items = append-nil (without_taken (taken_result (Take asking dead poller given)) kept.waiting_items) i;
+    spawned_ids = append-nil kept.spawned_ids i;
+    killed_ids = append-nil kept.killed_ids i;
+    mark = record { is_idle = is_idle given; asking_ids = asking; dead_ids = dead };
   })
 
   -- what the calls of others leave
   module _ (other : (actor == node) ≡ false) where
-    quiet : record { waiting = kept.waiting ++ []; spawned = kept.spawned ++ []; killed = kept.killed ++ []; mark = kept.mark } ≡ kept
-    quiet = λ i. record { waiting = append-nil kept.waiting i; spawned = append-nil kept.spawned i; killed = append-nil kept.killed i; mark = kept.mark }
+    quiet : record { waiting_items = kept.waiting_items ++ []; spawned_ids = kept.spawned_ids ++ []; killed_ids = kept.killed_ids ++ []; mark = kept.mark } ≡ kept
+    quiet = λ i. record { waiting_items = append-nil kept.waiting_items i; spawned_ids = append-nil kept.spawned_ids i; killed_ids = append-nil kept.killed_ids i; mark = kept.mark }
 
     pub take-other : (asking dead : ℕ) (poller : Option ℕ) (given : TakeResult) → by (Take asking dead poller given) ≡ kept
     take-other asking dead poller given = rw other quiet
@@ -165,7 +165,7 @@ module _ (sub : Subcube) (user actor node : ℕ) (kept : NodeRecord) where
 module _ (user actor : ℕ) (cube : HeldCube) where
   -- how the cube stands once this entry is made
   abbrev pub cube_by : What → HeldCube
-  cube_by what = held_by_entry (entry_of user actor what) cube
+  cube_by what = cube_after_entry (entry_of user actor what) cube
 
   pub note-cube : (pid word : ℕ) → cube_by (Note pid word) ≡ cube
   note-cube pid word = λ i. record cube { parcel_count = none i; mail = stays (actor == HOST) cube.mail i }
@@ -173,8 +173,8 @@ module _ (user actor : ℕ) (cube : HeldCube) where
       none : cube.parcel_count + 0 ≡ cube.parcel_count
       none = omega arith
 
-  pub arm-cube : (count : ℕ) → cube_by (Arm count) ≡ record cube { armed = count; dispatched = 0 }
-  arm-cube count = λ i. let was = note-cube 0 0 i in record was { armed = count; dispatched = 0 }
+  pub arm-cube : (count : ℕ) → cube_by (Arm count) ≡ record cube { allowed_dispatches = count; made_dispatches = 0 }
+  arm-cube count = λ i. let was = note-cube 0 0 i in record was { allowed_dispatches = count; made_dispatches = 0 }
 
   pub look-cube : (found : LookResult) → cube_by (Look found) ≡ cube
   look-cube found = note-cube 0 0
@@ -189,9 +189,9 @@ module _ (user actor : ℕ) (cube : HeldCube) where
   kill-cube pid to Already node = note-cube 0 0
 
   pub take-cube : (asking dead : ℕ) (poller : Option ℕ) (given : TakeResult) → (actor == HOST) ≡ false
-      → cube_by (Take asking dead poller given) ≡ record cube { dispatched = if is_work given then cube.dispatched + 1 else cube.dispatched }
+      → cube_by (Take asking dead poller given) ≡ record cube { made_dispatches = if is_work given then cube.made_dispatches + 1 else cube.made_dispatches }
   take-cube asking dead poller given node =
-      rw node (λ i. record cube { dispatched = if is_work given then cube.dispatched + 1 else cube.dispatched; parcel_count = none i; mail = append-nil cube.mail i })
+      rw node (λ i. record cube { made_dispatches = if is_work given then cube.made_dispatches + 1 else cube.made_dispatches; parcel_count = none i; mail = append-nil cube.mail i })
     where
       none : cube.parcel_count + 0 ≡ cube.parcel_count
       none = omega arith
@@ -214,7 +214,7 @@ module _ (user actor : ℕ) (cube : HeldCube) where
           ∙ ap (λ b. if b then rest else mail parcel ∷ without_first (is_named_by (Mail 0 parcel.number)) rest) (eq-eqb parcel.number parcel.number refl)
 
   pub send-cube : (pid first : ℕ) (to : List (Place × BlockId)) (bytes : List ℕ)
-      → cube_by (Send pid first (targets_renamed (place_outward cube.grant.sub) (λ id. id) to) bytes) ≡ record cube {
+      → cube_by (Send pid first (renamed_targets (place_outward cube.grant.sub) (λ id. id) to) bytes) ≡ record cube {
         parcel_count = cube.parcel_count + length to;
         mail = cube.mail ++ mails_at cube.grant.sub (record { node = actor; pid = pid }) first bytes HOST to;
       }
@@ -223,7 +223,7 @@ module _ (user actor : ℕ) (cube : HeldCube) where
     mail = comes (actor == HOST) cube.mail (mails_at cube.grant.sub (record { node = actor; pid = pid }) first bytes HOST to) i;
   }
     where
-      count : length (parcels_from (record { node = actor; pid = pid }) first bytes (targets_renamed (place_outward cube.grant.sub) (λ id. id) to)) ≡ length to
+      count : length (message_parcels (record { node = actor; pid = pid }) first bytes (renamed_targets (place_outward cube.grant.sub) (λ id. id) to)) ≡ length to
       count = few-parcels (record { node = actor; pid = pid }) first bytes _ ∙ length-map {B = Place × BlockId} to (λ target. (place_outward cube.grant.sub target.0, target.1))
 
 -- ---- each node of the machine
@@ -233,35 +233,35 @@ outside-quiet : (d : ℕ) (grant : CubeGrant) (user actor node : ℕ) (kept : No
     → (actor == node) ≡ false → ((n : ℕ) → IsNumber d n → (number_outward grant.sub n == node) ≡ false)
     → record_by grant.sub (entry_of user actor (answer nodes s actor (with_places_outward grant call))) node kept ≡ kept
 unfolding answer
-outside-quiet d grant user actor node kept nodes s (takes asking dead poller) is other apart = take-other grant.sub user actor node kept other asking dead poller _
-outside-quiet d grant user actor node kept nodes s (sends pid to bytes) is other apart =
+outside-quiet d grant user actor node kept nodes s (take_call asking dead poller) is other apart = take-other grant.sub user actor node kept other asking dead poller _
+outside-quiet d grant user actor node kept nodes s (send_call pid to bytes) is other apart =
     send-record grant.sub user actor node kept pid s.parcel_count to bytes
-    ∙ rw (mails-none grant.sub (record { node = actor; pid = pid }) s.parcel_count bytes node to (away to is), other) (λ i. record kept { waiting = append-nil kept.waiting i })
+    ∙ rw (mails-none grant.sub (record { node = actor; pid = pid }) s.parcel_count bytes node to (away to is), other) (λ i. record kept { waiting_items = append-nil kept.waiting_items i })
   where
     away : (to : List (Place × BlockId)) → AllByRecursion (λ target. IsTarget d target.0) to
         → AllByRecursion (λ target. (number_outward grant.sub target.0.node == node) ≡ false) to
     away [] all = tt
     away (target ∷ to) all = (apart target.0.node (target-number d target.0 all.0), away to all.1)
-outside-quiet d grant user actor node kept nodes s (spawns pid image to) is other apart =
+outside-quiet d grant user actor node kept nodes s (spawn_call pid image to) is other apart =
     spawn-away grant.sub user actor node kept pid image (place_outward grant.sub to) _ (apart to.node (inl (place_parts d to is).0)) ∙ busy-other actor node kept other
-outside-quiet d grant user actor node kept nodes s (kills pid to) is other apart =
+outside-quiet d grant user actor node kept nodes s (kill_call pid to) is other apart =
     kill-away grant.sub user actor node kept pid (place_outward grant.sub to) _ (apart to.node (inl (place_parts d to is).0)) ∙ busy-other actor node kept other
-outside-quiet d grant user actor node kept nodes s (notes pid word) is other apart = note-record grant.sub user actor node kept pid word ∙ busy-other actor node kept other
-outside-quiet d grant user actor node kept nodes s (arms count) is other apart = arm-record grant.sub user actor node kept other count
-outside-quiet d grant user actor node kept nodes s looks is other apart = look-record grant.sub user actor node kept other (found_where (is_quiet nodes s) (is_used_up s))
-outside-quiet d grant user actor node kept nodes s takes_mail is other apart = take_mail-record grant.sub user actor node kept other _
+outside-quiet d grant user actor node kept nodes s (note_call pid word) is other apart = note-record grant.sub user actor node kept pid word ∙ busy-other actor node kept other
+outside-quiet d grant user actor node kept nodes s (arm_call count) is other apart = arm-record grant.sub user actor node kept other count
+outside-quiet d grant user actor node kept nodes s look_call is other apart = look-record grant.sub user actor node kept other (found_where (is_quiet nodes s) (is_used_up s))
+outside-quiet d grant user actor node kept nodes s mail_call is other apart = take_mail-record grant.sub user actor node kept other _
 
-module _ (parts : MachineParts) (machine : IsMachine parts) (h : List Entry) (lawful : IsLawful parts h) (user : ℕ) (cube : HeldCube) (holds : held_by (after h) user ≡ Some cube)
+module _ (parts : MachineParts) (machine : IsMachine parts) (h : List Entry) (lawful : IsLawful parts h) (user : ℕ) (cube : HeldCube) (holds : cube_held_by (after h) user ≡ Some cube)
     (actor : ℕ) (call : Call) (fits : IsCallOf parts h actor call cube) where
   abbrev placed : IsPlaced parts.dim cube.grant
   placed = placed-now parts machine h lawful user cube holds
 
-  module _ (what : What) (answered : answer (nodes_of cube.grant) (standing_of (after h) cube) actor (with_places_outward cube.grant call) ≡ what) where
+  module _ (what : What) (answered : answer (nodes_of cube.grant) (cube_standing (after h) cube) actor (with_places_outward cube.grant call) ≡ what) where
     abbrev entry : Entry
     entry = entry_of user actor what
 
-    is_called : call_of what ≡ Some (with_places_outward cube.grant call)
-    is_called = ap call_of (sym answered) ∙ call_of-answer (nodes_of cube.grant) (standing_of (after h) cube) actor (with_places_outward cube.grant call)
+    is_called : recorded_call what ≡ Some (with_places_outward cube.grant call)
+    is_called = ap recorded_call (sym answered) ∙ call_of-answer (nodes_of cube.grant) (cube_standing (after h) cube) actor (with_places_outward cube.grant call)
 
     -- a call that fits changes what is kept for each node of the machine as it does for one of the cube
     pub call-each : (node : ℕ) → (node == HOST) ≡ false
@@ -272,7 +272,7 @@ module _ (parts : MachineParts) (machine : IsMachine parts) (h : List Entry) (la
           | inr outside ↦
               call-outside h entry (with_places_outward cube.grant call) is_called cube node holds outside
               ∙ sym (ap (λ what. record_by cube.grant.sub (entry_of user actor what) node ((after h).node_record node)) (sym answered)
-              ∙ outside-quiet cube.grant.dim cube.grant user actor node ((after h).node_record node) (nodes_of cube.grant) (standing_of (after h) cube) call
+              ∙ outside-quiet cube.grant.dim cube.grant user actor node ((after h).node_record node) (nodes_of cube.grant) (cube_standing (after h) cube) call
               (call-places parts machine h lawful user cube holds actor call fits) (elsewhere outside) (apart outside))
         ]
       where
@@ -291,41 +291,41 @@ module _ (parts : MachineParts) (machine : IsMachine parts) (h : List Entry) (la
             ne_eqb _ node (λ e. both_ways _ no_host (eq-eqb node HOST (sym e ∙ ap (number_outward cube.grant.sub) host)))
 
     -- and the cube itself
-    pub call-cube : held_by (next h (entry_of user actor what)) user ≡ Some (held_by_entry (entry_of user actor what) cube)
+    pub call-cube : cube_held_by (next h (entry_of user actor what)) user ≡ Some (cube_after_entry (entry_of user actor what) cube)
     call-cube = call-own h entry (with_places_outward cube.grant call) is_called cube holds
 
 -- ---- room for a message
 
-module _ (parts : MachineParts) (machine : IsMachine parts) (h : List Entry) (lawful : IsLawful parts h) (user : ℕ) (cube : HeldCube) (holds : held_by (after h) user ≡ Some cube)
-    (actor pid : ℕ) (to : List (Place × BlockId)) (bytes : List ℕ) (fits : IsCallOf parts h actor (sends pid to bytes) cube) where
+module _ (parts : MachineParts) (machine : IsMachine parts) (h : List Entry) (lawful : IsLawful parts h) (user : ℕ) (cube : HeldCube) (holds : cube_held_by (after h) user ≡ Some cube)
+    (actor pid : ℕ) (to : List (Place × BlockId)) (bytes : List ℕ) (fits : IsCallOf parts h actor (send_call pid to bytes) cube) where
   abbrev sending : What
-  sending = Send pid cube.parcel_count (targets_renamed (place_outward cube.grant.sub) (λ id. id) to) bytes
+  sending = Send pid cube.parcel_count (renamed_targets (place_outward cube.grant.sub) (λ id. id) to) bytes
 
   abbrev arrived : ℕ → List (Place × BlockId) → List Item
   arrived node to = mails_at cube.grant.sub (record { node = actor; pid = pid }) cube.parcel_count bytes node to
 
   -- what a message that fits brings to a node of the machine, and to the host
   pub sent-each : (node : ℕ) → (node == HOST) ≡ false → (next h (entry_of user actor sending)).node_record node
-      ≡ record (with_call_mark actor node ((after h).node_record node)) { waiting = ((after h).node_record node).waiting ++ arrived node to }
+      ≡ record (with_call_mark actor node ((after h).node_record node)) { waiting_items = ((after h).node_record node).waiting_items ++ arrived node to }
   sent-each node no_host =
-      call-each parts machine h lawful user cube holds actor (sends pid to bytes) fits sending (send-answer (after h) cube actor pid to bytes) node no_host
+      call-each parts machine h lawful user cube holds actor (send_call pid to bytes) fits sending (send-answer (after h) cube actor pid to bytes) node no_host
       ∙ send-record cube.grant.sub user actor node ((after h).node_record node) pid cube.parcel_count to bytes
 
-  pub sent-cube : held_by (next h (entry_of user actor sending)) user
+  pub sent-cube : cube_held_by (next h (entry_of user actor sending)) user
       ≡ Some (record cube { parcel_count = cube.parcel_count + length to; mail = cube.mail ++ arrived HOST to })
   sent-cube =
-      call-cube parts machine h lawful user cube holds actor (sends pid to bytes) fits sending (send-answer (after h) cube actor pid to bytes)
+      call-cube parts machine h lawful user cube holds actor (send_call pid to bytes) fits sending (send-answer (after h) cube actor pid to bytes)
       ∙ ap Some (send-cube user actor cube pid cube.parcel_count to bytes)
 
   module _ (lawful' : IsLawful parts (h ++ entry_of user actor sending ∷ [])) where
     -- there is room for all that comes
-    pub sent-room : (node : ℕ) → (node == HOST) ≡ false → length ((after h).node_record node).waiting + length (arrived node to) ≤ queue_room
+    pub sent-room : (node : ℕ) → (node == HOST) ≡ false → length ((after h).node_record node).waiting_items + length (arrived node to) ≤ queue_room
     sent-room node no_host =
         omega (
           arith,
           (node-limits parts (h ++ entry_of user actor sending ∷ []) machine lawful' node).waiting,
-          ap (λ (kept : NodeRecord). length kept.waiting) (sent-each node no_host),
-          length-append ((after h).node_record node).waiting (arrived node to),
+          ap (λ (kept : NodeRecord). length kept.waiting_items) (sent-each node no_host),
+          length-append ((after h).node_record node).waiting_items (arrived node to),
         )
 
     pub sent-mail_room : length cube.mail + length (arrived HOST to) ≤ greatest_blocks

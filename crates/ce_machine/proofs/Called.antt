@@ -8,15 +8,15 @@ use Rattle.ce_model.specs.declared.topology.Place.{Place}
 use Rattle.ce_model.specs.declared.topology.BlockId.{BlockId}
 use Rattle.ce_model.specs.declared.entry.Entry.{Entry}
 use Rattle.ce_model.specs.Limits.{greatest_targets, process_count, process_count_lem}
-use Rattle.ce_model.specs.Node.{Node, Call, sends, spawns, kills, is_place, host_place}
+use Rattle.ce_model.specs.Node.{Node, Call, send_call, spawn_call, kill_call, is_place, host_place}
 use Rattle.ce_model.specs.Kernel.{is_target}
 use Rattle.ce_model.specs.Saying.{says}
-use Rattle.ce_model.specs.Cube.{Cube, CubeState, IsCube, opening, left_by, asked_by, call_by}
+use Rattle.ce_model.specs.Cube.{Cube, CubeState, IsCube, opening, state_after_trace, asked_host_call, actor_call}
 use Rattle.ce_model.specs.Sound.{IsSound}
-use Rattle.ce_model.specs.Subcubes.{relative, is_inside}
-use Rattle.ce_model.specs.Renaming.{targets_renamed, call_with, block_outward}
+use Rattle.ce_model.specs.Subcubes.{relative_number, is_inside}
+use Rattle.ce_model.specs.Renaming.{renamed_targets, renamed_call_blocks, block_outward}
 use Rattle.ce_model.specs.Views.{trace_behind}
-use Rattle.ce_model.specs.Machine.{MachineParts, IsMachine, HeldCube, held_by, cube_of, after, IsCallOf, IsLawful}
+use Rattle.ce_model.specs.Machine.{MachineParts, IsMachine, HeldCube, cube_held_by, cube_of, after, IsCallOf, IsLawful}
 use Rattle.ce_solo.proofs.Lists.{all-weaker}
 use Rattle.ce_solo.proofs.Words as words
 use Rattle.ce_solo.proofs.Sending.{not_host, place_parts}
@@ -45,42 +45,42 @@ target-pid d to (inr host) = omega (arith, ap (λ (place : Place). place.pid) ho
 
 -- the places that a call names are a cube's
 abbrev pub HasPlacesOf : ℕ → Call → Type 0
-HasPlacesOf d (sends pid to bytes) = AllByRecursion (λ target. IsTarget d target.0) to
-HasPlacesOf d (spawns pid image to) = is_place d to ≡ true
-HasPlacesOf d (kills pid to) = is_place d to ≡ true
+HasPlacesOf d (send_call pid to bytes) = AllByRecursion (λ target. IsTarget d target.0) to
+HasPlacesOf d (spawn_call pid image to) = is_place d to ≡ true
+HasPlacesOf d (kill_call pid to) = is_place d to ≡ true
 HasPlacesOf d other = Unit {0}
 
 host-places : (d : ℕ) (call : Call) → IsHostCall d call → HasPlacesOf d call
-host-places d (sends pid to bytes) is = all-weaker (λ (target : Place × BlockId). is_place d target.0 ≡ true) (λ target. IsTarget d target.0) to (λ target place. inl place) is.1
-host-places d (spawns pid image to) is = is
-host-places d (kills pid to) is = is
+host-places d (send_call pid to bytes) is = all-weaker (λ (target : Place × BlockId). is_place d target.0 ≡ true) (λ target. IsTarget d target.0) to (λ target place. inl place) is.1
+host-places d (spawn_call pid image to) is = is
+host-places d (kill_call pid to) is = is
 host-places d other is = tt
 
 node-places : (cube : Cube) (node : Node) (call : Call) → node.dim ≡ cube.dim → words.IsCallOf node call → HasPlacesOf cube.dim call
-node-places cube node (sends pid to bytes) same is =
+node-places cube node (send_call pid to bytes) same is =
     all-weaker (λ (target : Place × BlockId). is_target node target.0 ≡ true) (λ target. IsTarget cube.dim target.0) to (λ target place. target_of cube node target.0 same place) is
-node-places cube node (spawns pid image to) same is = subst (λ d. is_place d to ≡ true) same is.1
-node-places cube node (kills pid to) same is = subst (λ d. is_place d to ≡ true) same is
+node-places cube node (spawn_call pid image to) same is = subst (λ d. is_place d to ≡ true) same is.1
+node-places cube node (kill_call pid to) same is = subst (λ d. is_place d to ≡ true) same is
 node-places cube node other same is = tt
 
 -- a message goes to so many places at most
 abbrev pub HasFewPlaces : Call → Type 0
-HasFewPlaces (sends pid to bytes) = length to ≤ greatest_targets
+HasFewPlaces (send_call pid to bytes) = length to ≤ greatest_targets
 HasFewPlaces other = Unit {0}
 
 few-by_node : (call : Call) → IsNodeCall call → HasFewPlaces call
-few-by_node (sends pid to bytes) is = is
+few-by_node (send_call pid to bytes) is = is
 few-by_node other is = tt
 
 few-by_host : (d : ℕ) (call : Call) → IsHostCall d call → HasFewPlaces call
-few-by_host d (sends pid to bytes) is = is.0
+few-by_host d (send_call pid to bytes) is = is.0
 few-by_host d other is = tt
 
 -- ---- renamed calls
 
 module _ (rename : BlockId → BlockId) where
   abbrev renamed : List (Place × BlockId) → List (Place × BlockId)
-  renamed to = targets_renamed (λ place. place) rename to
+  renamed to = renamed_targets (λ place. place) rename to
 
   renamed-count : (to : List (Place × BlockId)) → length (renamed to) ≡ length to
   renamed-count to = length-map {B = Place × BlockId} to (λ (target : Place × BlockId). (target.0, rename target.1))
@@ -89,16 +89,16 @@ module _ (rename : BlockId → BlockId) where
   all-renamed P [] all = tt
   all-renamed P (target ∷ to) all = (all.0, all-renamed P to all.1)
 
-  has-places : (d : ℕ) (call : Call) → HasPlacesOf d call → HasPlacesOf d (call_with rename call)
-  has-places d (sends pid to bytes) is = all-renamed (IsTarget d) to is
+  has-places : (d : ℕ) (call : Call) → HasPlacesOf d call → HasPlacesOf d (renamed_call_blocks rename call)
+  has-places d (send_call pid to bytes) is = all-renamed (IsTarget d) to is
   has-places d other is = is
 
-  node-renamed : (call : Call) → IsNodeCall call → IsNodeCall (call_with rename call)
-  node-renamed (sends pid to bytes) is = omega (arith, is, renamed-count to)
+  node-renamed : (call : Call) → IsNodeCall call → IsNodeCall (renamed_call_blocks rename call)
+  node-renamed (send_call pid to bytes) is = omega (arith, is, renamed-count to)
   node-renamed other is = is
 
-  host-renamed : (d : ℕ) (call : Call) → IsHostCall d call → IsHostCall d (call_with rename call)
-  host-renamed d (sends pid to bytes) is = (omega (arith, is.0, renamed-count to), all-renamed (λ place. is_place d place ≡ true) to is.1)
+  host-renamed : (d : ℕ) (call : Call) → IsHostCall d call → IsHostCall d (renamed_call_blocks rename call)
+  host-renamed d (send_call pid to bytes) is = (omega (arith, is.0, renamed-count to), all-renamed (λ place. is_place d place ≡ true) to is.1)
   host-renamed d other is = is
 
 -- ---- a cube that is held
@@ -107,7 +107,7 @@ module _ (parts : MachineParts) (machine : IsMachine parts) (h : List Entry) (la
   abbrev before : IsProjected parts (after h) h
   before = projected parts h machine lawful
 
-  module _ (user : ℕ) (cube : HeldCube) (holds : held_by (after h) user ≡ Some cube) where
+  module _ (user : ℕ) (cube : HeldCube) (holds : cube_held_by (after h) user ≡ Some cube) where
     abbrev pub was : IsHeld parts (after h) h cube
     was = before.held user cube holds
 
@@ -120,32 +120,32 @@ module _ (parts : MachineParts) (machine : IsMachine parts) (h : List Entry) (la
 
     -- how a cube that is held stands by its own trace
     abbrev pub left_now : CubeState
-    left_now = left_by own (opening own) (trace_behind cube.grant was.behind)
+    left_now = state_after_trace own (opening own) (trace_behind cube.grant was.behind)
 
     pub own-is : IsCube own
     own-is = own_cube parts cube.grant machine was.placed
 
     -- it is sound up to its drain
-    pub sound-now : cube.drained ≡ false → IsSound own left_now
+    pub sound-now : cube.is_drained ≡ false → IsSound own left_now
     sound-now goes = (stands parts machine (after h) h cube was goes (before.views cube.number cube.grant was.behind was.found).alone).sound
 
     -- ---- a call of it that fits
 
     module _ (actor : ℕ) (call : Call) (fits : IsCallOf parts h actor call cube) where
-      is_made : IsMadeCall own left_now (relative cube.grant.sub actor) (asked_by fits.made) fits.made
+      is_made : IsMadeCall own left_now (relative_number cube.grant.sub actor) (asked_host_call fits.made) fits.made
       is_made =
-          made own left_now (relative cube.grant.sub actor) (asked_by fits.made) fits.made
-          (subst (λ t. call_by own (opening own) t (relative cube.grant.sub actor) (asked_by fits.made) ≡ Some fits.made)
+          made own left_now (relative_number cube.grant.sub actor) (asked_host_call fits.made) fits.made
+          (subst (λ t. actor_call own (opening own) t (relative_number cube.grant.sub actor) (asked_host_call fits.made) ≡ Some fits.made)
           (view-is h cube.number cube.grant was.behind was.found) fits.next)
 
       -- it names places of the cube
       pub call-places : HasPlacesOf cube.grant.dim call
       call-places = subst (HasPlacesOf cube.grant.dim) fits.renamed (has-places (block_outward cube.grant) cube.grant.dim fits.made (by_made is_made))
         where
-          by_made : IsMadeCall own left_now (relative cube.grant.sub actor) (asked_by fits.made) fits.made → HasPlacesOf cube.grant.dim fits.made
-          by_made (by_host is e) = host-places cube.grant.dim fits.made (asked-host_call own left_now.hoststore (asked_by fits.made) fits.made e)
+          by_made : IsMadeCall own left_now (relative_number cube.grant.sub actor) (asked_host_call fits.made) fits.made → HasPlacesOf cube.grant.dim fits.made
+          by_made (by_host is e) = host-places cube.grant.dim fits.made (asked-host_call own left_now.hoststore (asked_host_call fits.made) fits.made e)
           by_made (by_node below e) =
-              let r = relative cube.grant.sub actor in
+              let r = relative_number cube.grant.sub actor in
               let said = made-leaves own left_now r fits.made own-is below (sound-now fits.not_drained) e in
               node-places own (says (left_now.node r)).node fits.made (said.became.dim ∙ ((sound-now fits.not_drained).nodes r below).dim) said.of_node
 
@@ -153,17 +153,17 @@ module _ (parts : MachineParts) (machine : IsMachine parts) (h : List Entry) (la
       pub host-call : (actor == HOST) ≡ true → IsHostCall cube.grant.dim call
       host-call host = subst (IsHostCall cube.grant.dim) fits.renamed (host-renamed (block_outward cube.grant) cube.grant.dim fits.made (by_made is_made))
         where
-          by_made : IsMadeCall own left_now (relative cube.grant.sub actor) (asked_by fits.made) fits.made → IsHostCall cube.grant.dim fits.made
-          by_made (by_host is e) = asked-host_call own left_now.hoststore (asked_by fits.made) fits.made e
+          by_made : IsMadeCall own left_now (relative_number cube.grant.sub actor) (asked_host_call fits.made) fits.made → IsHostCall cube.grant.dim fits.made
+          by_made (by_host is e) = asked-host_call own left_now.hoststore (asked_host_call fits.made) fits.made e
           by_made (by_node below e) =
-              let is : relative cube.grant.sub actor ≡ HOST = ap (relative cube.grant.sub) (eqb-true actor HOST host) ∙ relative_host parts.dim cube.grant was.placed in
+              let is : relative_number cube.grant.sub actor ≡ HOST = ap (relative_number cube.grant.sub) (eqb-true actor HOST host) ∙ relative_host parts.dim cube.grant was.placed in
               absurd (omega (arith, is, not_host own _ own-is below))
 
       -- and of a node one that a node can make
       pub node-call : is_inside cube.grant.sub actor ≡ true → IsNodeCall call
       node-call inside = subst IsNodeCall fits.renamed (node-renamed (block_outward cube.grant) fits.made (by_made is_made))
         where
-          by_made : IsMadeCall own left_now (relative cube.grant.sub actor) (asked_by fits.made) fits.made → IsNodeCall fits.made
+          by_made : IsMadeCall own left_now (relative_number cube.grant.sub actor) (asked_host_call fits.made) fits.made → IsNodeCall fits.made
           by_made (by_host is e) =
               absurd (omega (
                 arith,
@@ -171,7 +171,7 @@ module _ (parts : MachineParts) (machine : IsMachine parts) (h : List Entry) (la
                 relative_inside parts.dim cube.grant was.placed actor inside,
                 not_host own _ own-is (inside_below parts.dim cube.grant was.placed actor inside),
               ))
-          by_made (by_node below e) = subst IsNodeCall e (says-node_call (left_now.node (relative cube.grant.sub actor)))
+          by_made (by_node below e) = subst IsNodeCall e (says-node_call (left_now.node (relative_number cube.grant.sub actor)))
 
       -- it names so many places at most
       pub call-few : HasFewPlaces call

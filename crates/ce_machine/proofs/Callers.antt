@@ -1,7 +1,7 @@
 -- What the code of a call has at hand of its caller: the grant of the cube, and the desks that are its.
 use Rattle.std.proofs.Common.{◌≡◌, ◌⊎◌, ℕ, ◌<◌, ◌≤◌, List, length, Some, IsSome, arith}
 use Rattle.ce_model.specs.declared.topology.TheConstants.{HOST}
-use Rattle.ce_model.specs.Node as node
+use Rattle.ce_model.specs.Node as model
 use Rattle.ce_model.specs.Trace.{NodeRecord}
 use Rattle.ce_model.specs.Machine.{HeldCube, IsCallOf}
 use Rattle.ce_daemon.specs.declared.grant.Grant.{Grant}
@@ -14,13 +14,13 @@ module _ (m : SoundMachine) where
   open m use {parts, history as h, holding, desks}
 
   module _ {user : ℕ} {P : HeldCube → Type 0} (in_cube : IsIn h user P) where
-    pub caller-grant : IsSome (daemon.held_by holding user)
+    pub caller-grant : IsSome (daemon.grant_held_by holding user)
     caller-grant = has-grant m user in_cube.cube in_cube.holds
 
-    pub caller-desks : {grant : Grant} → daemon.held_by holding user ≡ Some grant → IsOnDesks (length desks) grant.dim grant.sub
+    pub caller-desks : {grant : Grant} → daemon.grant_held_by holding user ≡ Some grant → IsOnDesks (length desks) grant.dim grant.sub
     caller-desks {grant} known = on-desks m user in_cube.cube grant in_cube.holds (grant-is m user in_cube.cube grant in_cube.holds known)
 
-  module _ {user actor : ℕ} {call : node.Call} (in_cube : IsIn h user (IsCallOf parts h actor call)) where
+  module _ {user actor : ℕ} {call : model.Call} (in_cube : IsIn h user (IsCallOf parts h actor call)) where
     pub caller-known : (actor ≡ HOST) ⊎ (actor < length desks)
     caller-known = actor-known m user actor call in_cube.cube in_cube.holds in_cube.is
 
@@ -28,5 +28,5 @@ module _ (m : SoundMachine) where
     pub caller-still : {desks' : List NodeRecord} {change : ℕ → NodeRecord → NodeRecord} → AreChanged desks desks' change → (actor ≡ HOST) ⊎ (actor < length desks')
     caller-still {desks'} {change} changed = still-actor desks desks' change actor changed caller-known
 
-  pub few-still : {desks' : List NodeRecord} {change : ℕ → NodeRecord → NodeRecord} → AreChanged desks desks' change → length desks' ≤ 64
+  pub few-still : {desks' : List NodeRecord} {change : ℕ → NodeRecord → NodeRecord} → AreChanged desks desks' change → length desks' ≤ HOST
   few-still changed = omega (arith, changed.count, few-desks m)

@@ -5,9 +5,9 @@ use Rattle.ce_model.specs.declared.entry.Entry.{Entry}
 use Rattle.ce_model.specs.declared.entry.What.TheVariants.{Getcube, Peek, Drain, Freecube}
 use Rattle.ce_model.specs.Node.{Call}
 use Rattle.ce_model.specs.Trace.{NodeRecord, blank_record}
-use Rattle.ce_model.specs.Answers.{call_of}
+use Rattle.ce_model.specs.Answers.{recorded_call}
 use Rattle.ce_model.specs.Subcubes.{is_inside}
-use Rattle.ce_model.specs.Machine.{HeldCube, MachineState, is_held_by, held_by, held_grants, record_by, held_by_entry, with_cube, with_grant, with_drained, without_cube, changed_by_call, after}
+use Rattle.ce_model.specs.Machine.{HeldCube, MachineState, is_held_by, cube_held_by, held_grants, record_by, cube_after_entry, with_cube, with_grant, with_drained, without_cube, state_after_call, after}
 use Rattle.ce_solo.proofs.Projection.Held.{held-own, held-other, record-own, record-other, granted-own, granted-other, left-own, left-other}
 use Rattle.ce_solo.proofs.Projection.Kinds.{entry_of}
 use Rattle.ce_solo.proofs.Projection.Law.{after-more}
@@ -18,39 +18,39 @@ use Rattle.ce_machine.proofs.Changes.{grant_to, next}
 
 -- ---- an entry of a call
 
-module _ (h : List Entry) (entry : Entry) (call : Call) (called : call_of entry.what ≡ Some call) where
+module _ (h : List Entry) (entry : Entry) (call : Call) (called : recorded_call entry.what ≡ Some call) where
   abbrev change : HeldCube → HeldCube
-  change cube = held_by_entry entry cube
+  change cube = cube_after_entry entry cube
 
   abbrev change_record : HeldCube → ℕ → NodeRecord → NodeRecord
   change_record cube = record_by cube.grant.sub entry
 
   pub call-state : next h entry ≡ with_cube entry.user change change_record (after h)
-  call-state = after-more h entry ∙ ap (λ call. changed_by_call call entry (after h)) called
+  call-state = after-more h entry ∙ ap (λ call. state_after_call call entry (after h)) called
 
   pub call-count : (next h entry).grant_count ≡ (after h).grant_count
   call-count = ap (λ (s : MachineState). s.grant_count) call-state
 
   pub call-grants : held_grants (next h entry) ≡ held_grants (after h)
-  call-grants = ap held_grants call-state ∙ grants-kept (is_held_by entry.user) change (after h).held (λ cube. refl)
+  call-grants = ap held_grants call-state ∙ grants-kept (is_held_by entry.user) change (after h).cubes (λ cube. refl)
 
-  pub call-own : (cube : HeldCube) → held_by (after h) entry.user ≡ Some cube → held_by (next h entry) entry.user ≡ Some (held_by_entry entry cube)
-  call-own cube holds = ap (λ s. held_by s entry.user) call-state ∙ held-own entry.user change (λ cube. refl) change_record (after h) cube holds
+  pub call-own : (cube : HeldCube) → cube_held_by (after h) entry.user ≡ Some cube → cube_held_by (next h entry) entry.user ≡ Some (cube_after_entry entry cube)
+  call-own cube holds = ap (λ s. cube_held_by s entry.user) call-state ∙ held-own entry.user change (λ cube. refl) change_record (after h) cube holds
 
-  pub call-other : (user : ℕ) → (entry.user == user) ≡ false → held_by (next h entry) user ≡ held_by (after h) user
-  call-other user other = ap (λ s. held_by s user) call-state ∙ held-other entry.user change (λ cube. refl) change_record (after h) user other
+  pub call-other : (user : ℕ) → (entry.user == user) ≡ false → cube_held_by (next h entry) user ≡ cube_held_by (after h) user
+  call-other user other = ap (λ s. cube_held_by s user) call-state ∙ held-other entry.user change (λ cube. refl) change_record (after h) user other
 
-  pub call-inside : (cube : HeldCube) (node : ℕ) → held_by (after h) entry.user ≡ Some cube → is_inside cube.grant.sub node ≡ true
+  pub call-inside : (cube : HeldCube) (node : ℕ) → cube_held_by (after h) entry.user ≡ Some cube → is_inside cube.grant.sub node ≡ true
       → (next h entry).node_record node ≡ record_by cube.grant.sub entry node ((after h).node_record node)
   call-inside cube node holds inside =
       ap (λ (s : MachineState). s.node_record node) call-state
-      ∙ record-own change_record node ((after h).node_record node) (held_by (after h) entry.user) cube holds inside
+      ∙ record-own change_record node ((after h).node_record node) (cube_held_by (after h) entry.user) cube holds inside
 
-  pub call-outside : (cube : HeldCube) (node : ℕ) → held_by (after h) entry.user ≡ Some cube → is_inside cube.grant.sub node ≡ false
+  pub call-outside : (cube : HeldCube) (node : ℕ) → cube_held_by (after h) entry.user ≡ Some cube → is_inside cube.grant.sub node ≡ false
       → (next h entry).node_record node ≡ (after h).node_record node
   call-outside cube node holds outside =
       ap (λ (s : MachineState). s.node_record node) call-state
-      ∙ record-other change_record node ((after h).node_record node) (held_by (after h) entry.user)
+      ∙ record-other change_record node ((after h).node_record node) (cube_held_by (after h) entry.user)
       (λ other held. let same : Some cube ≡ Some other = sym holds ∙ held in
       let is : cube ≡ other = cc in subst (λ (c : HeldCube). is_inside c.grant.sub node ≡ false) is outside)
 
@@ -72,12 +72,12 @@ module _ (h : List Entry) (user actor : ℕ) where
     pub grant-state : next h getcube ≡ with_grant (grant_to user dim sub) (after h)
     grant-state = after-more h getcube
 
-    pub grant-own : held_by (after h) user ≡ None → held_by (next h getcube) user
-        ≡ Some (record { number = (after h).grant_count; grant = grant_to user dim sub; drained = false; armed = 0; dispatched = 0; parcel_count = 0; mail = [] })
-    grant-own none = ap (λ s. held_by s user) grant-state ∙ granted-own (grant_to user dim sub) (after h) none
+    pub grant-own : cube_held_by (after h) user ≡ None → cube_held_by (next h getcube) user
+        ≡ Some (record { number = (after h).grant_count; grant = grant_to user dim sub; is_drained = false; allowed_dispatches = 0; made_dispatches = 0; parcel_count = 0; mail = [] })
+    grant-own none = ap (λ s. cube_held_by s user) grant-state ∙ granted-own (grant_to user dim sub) (after h) none
 
-    pub grant-other : (other : ℕ) → (user == other) ≡ false → held_by (next h getcube) other ≡ held_by (after h) other
-    grant-other other differ = ap (λ s. held_by s other) grant-state ∙ granted-other (grant_to user dim sub) (after h) other differ
+    pub grant-other : (other : ℕ) → (user == other) ≡ false → cube_held_by (next h getcube) other ≡ cube_held_by (after h) other
+    grant-other other differ = ap (λ s. cube_held_by s other) grant-state ∙ granted-other (grant_to user dim sub) (after h) other differ
 
     pub grant-records : (next h getcube).node_record ≡ (after h).node_record
     grant-records = ap (λ (s : MachineState). s.node_record) grant-state
@@ -87,10 +87,10 @@ module _ (h : List Entry) (user actor : ℕ) where
   draining = entry_of user actor Drain
 
   abbrev drained_cube : HeldCube → HeldCube
-  drained_cube cube = record cube { drained = true; mail = [] }
+  drained_cube cube = record cube { is_drained = true; mail = [] }
 
   abbrev drained_record : HeldCube → ℕ → NodeRecord → NodeRecord
-  drained_record cube node kept = record kept { waiting = [] }
+  drained_record cube node kept = record kept { waiting_items = [] }
 
   pub drain-state : next h draining ≡ with_drained user (after h)
   drain-state = after-more h draining
@@ -99,16 +99,16 @@ module _ (h : List Entry) (user actor : ℕ) where
   drain-count = ap (λ (s : MachineState). s.grant_count) drain-state
 
   pub drain-grants : held_grants (next h draining) ≡ held_grants (after h)
-  drain-grants = ap held_grants drain-state ∙ grants-kept (is_held_by user) drained_cube (after h).held (λ cube. refl)
+  drain-grants = ap held_grants drain-state ∙ grants-kept (is_held_by user) drained_cube (after h).cubes (λ cube. refl)
 
-  pub drain-own : (cube : HeldCube) → held_by (after h) user ≡ Some cube → held_by (next h draining) user ≡ Some (record cube { drained = true; mail = [] })
-  drain-own cube holds = ap (λ s. held_by s user) drain-state ∙ held-own user drained_cube (λ cube. refl) drained_record (after h) cube holds
+  pub drain-own : (cube : HeldCube) → cube_held_by (after h) user ≡ Some cube → cube_held_by (next h draining) user ≡ Some (record cube { is_drained = true; mail = [] })
+  drain-own cube holds = ap (λ s. cube_held_by s user) drain-state ∙ held-own user drained_cube (λ cube. refl) drained_record (after h) cube holds
 
-  pub drain-other : (other : ℕ) → (user == other) ≡ false → held_by (next h draining) other ≡ held_by (after h) other
-  drain-other other differ = ap (λ s. held_by s other) drain-state ∙ held-other user drained_cube (λ cube. refl) drained_record (after h) other differ
+  pub drain-other : (other : ℕ) → (user == other) ≡ false → cube_held_by (next h draining) other ≡ cube_held_by (after h) other
+  drain-other other differ = ap (λ s. cube_held_by s other) drain-state ∙ held-other user drained_cube (λ cube. refl) drained_record (after h) other differ
 
-  pub drain-record : (cube : HeldCube) (node : ℕ) → held_by (after h) user ≡ Some cube
-      → (next h draining).node_record node ≡ (if is_inside cube.grant.sub node then record ((after h).node_record node) { waiting = [] } else (after h).node_record node)
+  pub drain-record : (cube : HeldCube) (node : ℕ) → cube_held_by (after h) user ≡ Some cube
+      → (next h draining).node_record node ≡ (if is_inside cube.grant.sub node then record ((after h).node_record node) { waiting_items = [] } else (after h).node_record node)
   drain-record cube node holds = ap (λ (s : MachineState). s.node_record node) drain-state ∙ rw holds refl
 
   -- a cube is given back
@@ -118,12 +118,12 @@ module _ (h : List Entry) (user actor : ℕ) where
   pub free-state : next h freeing ≡ without_cube user (after h)
   free-state = after-more h freeing
 
-  pub free-own : held_by (next h freeing) user ≡ None
-  free-own = ap (λ s. held_by s user) free-state ∙ left-own user (after h)
+  pub free-own : cube_held_by (next h freeing) user ≡ None
+  free-own = ap (λ s. cube_held_by s user) free-state ∙ left-own user (after h)
 
-  pub free-other : (other : ℕ) → (user == other) ≡ false → held_by (next h freeing) other ≡ held_by (after h) other
-  free-other other differ = ap (λ s. held_by s other) free-state ∙ left-other user other (after h) differ
+  pub free-other : (other : ℕ) → (user == other) ≡ false → cube_held_by (next h freeing) other ≡ cube_held_by (after h) other
+  free-other other differ = ap (λ s. cube_held_by s other) free-state ∙ left-other user other (after h) differ
 
-  pub free-record : (cube : HeldCube) (node : ℕ) → held_by (after h) user ≡ Some cube
+  pub free-record : (cube : HeldCube) (node : ℕ) → cube_held_by (after h) user ≡ Some cube
       → (next h freeing).node_record node ≡ (if is_inside cube.grant.sub node then blank_record else (after h).node_record node)
   free-record cube node holds = ap (λ (s : MachineState). s.node_record node) free-state ∙ rw holds refl

@@ -7,7 +7,7 @@ use Rattle.ce_model.specs.declared.topology.Subcube.{Subcube}
 use Rattle.ce_model.specs.Limits.{greatest_dim}
 use Rattle.ce_model.specs.Subcubes.{node_of, is_inside, IsSubcube}
 use Rattle.ce_model.specs.Renaming.{CubeGrant}
-use Rattle.ce_model.specs.Machine.{HeldCube, MachineState, held_by, is_held_by, held_grants, is_free, with_grant, without_cube}
+use Rattle.ce_model.specs.Machine.{HeldCube, MachineState, cube_held_by, is_held_by, held_grants, is_free, with_grant, without_cube}
 use Rattle.ce_model.proofs.Subcubes.{node_of-within, ones_of-bound}
 use Rattle.ce_solo.proofs.Projection.Numbers.{IsPlaced}
 use Rattle.ce_daemon.specs.declared.grant.Grant.{Grant}
@@ -22,16 +22,16 @@ abbrev pub grants_in : MachineState → List Grant
 grants_in state = map numbered_grant (held_grants state)
 
 -- what the daemon of a machine of this dimension holds
-abbrev pub holding_of : ℕ → MachineState → daemon.Holding
-holding_of dim state = record { dim = dim; count = state.grant_count; held = grants_in state }
+abbrev pub holding_of : ℕ → MachineState → daemon.GrantTable
+holding_of dim state = record { dim = dim; count = state.grant_count; grants = grants_in state }
 
 -- the grant of a cube
 abbrev pub grant_held : HeldCube → Grant
 grant_held cube = numbered_grant (grant_of cube)
 
 -- the daemon has the grant of the cube that a user holds
-pub held-same : (dim : ℕ) (state : MachineState) (user : ℕ) → daemon.held_by (holding_of dim state) user ≡ option_map grant_held (held_by state user)
-held-same dim state user = by_cubes state.held
+pub held-same : (dim : ℕ) (state : MachineState) (user : ℕ) → daemon.grant_held_by (holding_of dim state) user ≡ option_map grant_held (cube_held_by state user)
+held-same dim state user = by_cubes state.cubes
   where
     by_cubes : (cubes : List HeldCube) → find (daemon.is_user user) (map numbered_grant (map grant_of cubes)) ≡ option_map grant_held (find (is_held_by user) cubes)
     by_cubes [] = refl
@@ -39,7 +39,7 @@ held-same dim state user = by_cubes state.held
 
 -- a node is free for the daemon where it is for the machine
 pub free-same : (dim : ℕ) (state : MachineState) → daemon.is_free (holding_of dim state) ≡ is_free state
-free-same dim state = λ i node. not (by_cubes node state.held i)
+free-same dim state = λ i node. not (by_cubes node state.cubes i)
   where
     by_cubes : (node : ℕ) (cubes : List HeldCube) → list_any (daemon.is_granted node) (map numbered_grant (map grant_of cubes)) ≡ list_any (λ (cube : HeldCube). is_inside cube.grant.sub node) cubes
     by_cubes node [] = refl
@@ -48,13 +48,13 @@ free-same dim state = λ i node. not (by_cubes node state.held i)
 -- a cube is granted, and one is given back
 pub grant-holding : (dim : ℕ) (state : MachineState) (user d : ℕ) (sub : Subcube)
     → holding_of dim (with_grant (grant_to user d sub) state) ≡ daemon.with_grant (next_grant state user d sub) (holding_of dim state)
-grant-holding dim state user d sub = λ i. record { dim = dim; count = state.grant_count + 1; held = grants i }
+grant-holding dim state user d sub = λ i. record { dim = dim; count = state.grant_count + 1; grants = grants i }
   where
     grants : grants_in (with_grant (grant_to user d sub) state) ≡ grants_in state ++ next_grant state user d sub ∷ []
-    grants = ap (map numbered_grant) (map-append grant_of state.held _) ∙ map-append numbered_grant (held_grants state) _
+    grants = ap (map numbered_grant) (map-append grant_of state.cubes _) ∙ map-append numbered_grant (held_grants state) _
 
 pub free-holding : (dim : ℕ) (state : MachineState) (user : ℕ) → holding_of dim (without_cube user state) ≡ daemon.without_user user (holding_of dim state)
-free-holding dim state user = λ i. record { dim = dim; count = state.grant_count; held = by_cubes state.held i }
+free-holding dim state user = λ i. record { dim = dim; count = state.grant_count; grants = by_cubes state.cubes i }
   where
     by_cubes : (cubes : List HeldCube) → map numbered_grant (map grant_of (filter (λ cube. not (is_held_by user cube)) cubes))
         ≡ filter (λ grant. not (daemon.is_user user grant)) (map numbered_grant (map grant_of cubes))
@@ -67,7 +67,7 @@ free-holding dim state user = λ i. record { dim = dim; count = state.grant_coun
 
 -- where the grants stay and their count does, the holding stays
 pub same-holding : (dim : ℕ) (state state' : MachineState) → state'.grant_count ≡ state.grant_count → held_grants state' ≡ held_grants state → holding_of dim state' ≡ holding_of dim state
-same-holding dim state state' count grants = λ i. record { dim = dim; count = count i; held = map numbered_grant (grants i) }
+same-holding dim state state' count grants = λ i. record { dim = dim; count = count i; grants = map numbered_grant (grants i) }
 
 -- ---- a grant of a machine of this dimension
 

@@ -10,7 +10,7 @@ use Rattle.ce_model.specs.Parcels.{Item}
 use Rattle.ce_model.specs.Trace.{NodeRecord}
 use Rattle.ce_model.specs.Subcubes.{node_of}
 use Rattle.ce_model.specs.Renaming.{number_outward}
-use Rattle.ce_machine.specs.Rooms.{node_room, mail_room}
+use Rattle.ce_model.specs.Limits.{node_room, mail_room}
 use Rattle.ce_machine.specs.Tables.{HostRecord, desk_at}
 use Rattle.ce_machine.specs.Desks.{AreChanged, at_node, with_items, letter, letters, IsOnDesks, IsInCube, HasMailRoom}
 use Rattle.ce_solo.proofs.Renaming.Grants.{few_nodes}
@@ -20,8 +20,8 @@ pub record IsPosted (sub : Subcube) (from : Place) (number : ℕ) (targets : Lis
     (targets' : List (Place × Block)) (desks' : List NodeRecord) (host' : HostRecord) : Type 0 where
   pub count : length desks' ≡ length desks
   pub each : (node : ℕ) → node < length desks
-      → record (desk_at desks' node) { waiting = (desk_at desks' node).waiting ++ letters sub from number' targets' node }
-      ≡ record (desk_at desks node) { waiting = (desk_at desks node).waiting ++ letters sub from number targets node }
+      → record (desk_at desks' node) { waiting_items = (desk_at desks' node).waiting_items ++ letters sub from number' targets' node }
+      ≡ record (desk_at desks node) { waiting_items = (desk_at desks node).waiting_items ++ letters sub from number targets node }
   pub mail : record host' { mail = host'.mail ++ letters sub from number' targets' HOST } ≡ record host { mail = host.mail ++ letters sub from number targets HOST }
 
 pub posted-none : (sub : Subcube) (from : Place) (number : ℕ) (targets : List (Place × Block)) (desks : List NodeRecord) (host : HostRecord)
@@ -52,7 +52,7 @@ module _ {sub : Subcube} {from : Place} {number : ℕ} {targets : List (Place ×
 
       joined : (b : Bool) (kept : NodeRecord) (behind : List Item)
           → with_items behind (if b then with_items (letter from number' target ∷ []) kept else kept) ≡ with_items ((if b then letter from number' target ∷ [] else []) ++ behind) kept
-      joined true kept behind = λ i. record kept { waiting = append_assoc kept.waiting (letter from number' target ∷ []) behind i }
+      joined true kept behind = λ i. record kept { waiting_items = append_assoc kept.waiting_items (letter from number' target ∷ []) behind i }
       joined false kept behind = refl
 
       host_joined : (host'.mail ++ (if target.0.node == HOST then letter from number' target ∷ [] else [])) ++ letters sub from (number' + 1) rest HOST
@@ -84,16 +84,16 @@ module _ {sub : Subcube} {from : Place} {number : ℕ} {targets : List (Place ×
     {number' : ℕ} {target : Place × Block} {rest : List (Place × Block)} {desks' : List NodeRecord} {host' : HostRecord}
     (posted : IsPosted sub from number targets desks host number' (target ∷ rest) desks' host') where
   -- there is room for the next
-  pub node-left : (node : ℕ) → node < length desks → (number_outward sub target.0.node == node) ≡ true → length (desk_at desks' node).waiting < node_room
+  pub node-left : (node : ℕ) → node < length desks → (number_outward sub target.0.node == node) ≡ true → length (desk_at desks' node).waiting_items < node_room
   node-left node below goes =
       let front : letters sub from number' (target ∷ rest) node ≡ letter from number' target ∷ letters sub from (number' + 1) rest node =
       ap (λ (b : Bool). (if b then letter from number' target ∷ [] else []) ++ letters sub from (number' + 1) rest node) goes in
       omega (
         arith,
         room.nodes node below,
-        ap (λ (kept : NodeRecord). length kept.waiting) (posted.each node below),
-        length-append (desk_at desks' node).waiting (letters sub from number' (target ∷ rest) node),
-        length-append (desk_at desks node).waiting (letters sub from number targets node),
+        ap (λ (kept : NodeRecord). length kept.waiting_items) (posted.each node below),
+        length-append (desk_at desks' node).waiting_items (letters sub from number' (target ∷ rest) node),
+        length-append (desk_at desks node).waiting_items (letters sub from number targets node),
         ap length front,
       )
 

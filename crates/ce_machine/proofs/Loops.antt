@@ -6,7 +6,7 @@ use Rattle.std.proofs.lemmas.List.{get_or-set_same, get_or-set_other, get_or_rea
 use Rattle.ce_model.specs.declared.topology.Subcube.{Subcube}
 use Rattle.ce_model.specs.Limits.{greatest_dim}
 use Rattle.ce_model.specs.Blocks.{Block}
-use Rattle.ce_model.specs.Parcels.{Parcel, Item, start, mail, kill, parcels_among}
+use Rattle.ce_model.specs.Parcels.{Parcel, Item, start, mail, kill, item_parcels}
 use Rattle.ce_model.specs.Trace.{NodeRecord, blank_record}
 use Rattle.ce_model.specs.Subcubes.{node_of, extract, is_inside, IsSubcube}
 use Rattle.ce_model.proofs.Subcubes.{extract-node_of, extract-below, node_of-extract}
@@ -113,19 +113,19 @@ pub few-nodes : (d : ℕ) → d ≤ greatest_dim → 2 ^ d ≤ 64
 few-nodes d small = few_nodes d small
 
 -- there are no more parcels than items
-pub few-among : (items : List Item) → length (parcels_among items) ≤ length items
+pub few-among : (items : List Item) → length (item_parcels items) ≤ length items
 few-among [] = omega arith
 few-among (start pid image ∷ items) = omega (arith, few-among items)
 few-among (mail parcel ∷ items) = omega (arith, few-among items)
 few-among (kill pid ∷ items) = omega (arith, few-among items)
 
-pub few-blocks : (none one : List Block) (items : List Item) → none ≡ [] → one ≡ none ++ map (λ (p : Parcel). p.block) (parcels_among items) → length one ≤ length items
+pub few-blocks : (none one : List Block) (items : List Item) → none ≡ [] → one ≡ none ++ map (λ (p : Parcel). p.block) (item_parcels items) → length one ≤ length items
 few-blocks none one items none_is one_is =
     omega (
       arith,
       ap length one_is,
       ap length none_is,
-      length-append none (map (λ (p : Parcel). p.block) (parcels_among items)),
-      length-map (parcels_among items) (λ (p : Parcel). p.block),
+      length-append none (map (λ (p : Parcel). p.block) (item_parcels items)),
+      length-map (item_parcels items) (λ (p : Parcel). p.block),
       few-among items,
     )

@@ -3,11 +3,11 @@ use Rattle.std.proofs.Common.{◌≡◌, ℕ, ◌^◌, List, [], length, sym, ap
 use Rattle.ce_model.specs.declared.entry.Entry.{Entry}
 use Rattle.ce_model.specs.Trace.{NodeRecord, blank_record}
 use Rattle.ce_model.specs.Machine.{MachineParts, IsMachine, after}
-use Rattle.ce_daemon.specs.Holding.{Holding}
+use Rattle.ce_daemon.specs.Holding.{GrantTable}
 use Rattle.ce_machine.specs.Tables.{HostRecord, blank_host, desk_at, host_at, AreTables, IsSoundMachine}
 
-module _ (parts : MachineParts) (machine : IsMachine parts) (holding : Holding) (desks : List NodeRecord) (hosts : List HostRecord)
-    (nothing : holding ≡ record { dim = parts.dim; count = 0; held = [] })
+module _ (parts : MachineParts) (machine : IsMachine parts) (holding : GrantTable) (desks : List NodeRecord) (hosts : List HostRecord)
+    (nothing : holding ≡ record { dim = parts.dim; count = 0; grants = [] })
     (nodes : length desks ≡ 2 ^ parts.dim) (blank : (node : ℕ) → desk_at desks node ≡ blank_record)
     (users : length hosts ≡ parts.users) (alone : (user : ℕ) → host_at hosts user ≡ blank_host) where
   tables-new : AreTables parts (after []) holding desks hosts
@@ -26,5 +26,5 @@ module _ (parts : MachineParts) (machine : IsMachine parts) (holding : Holding) 
   -- the machine is sound, whose dimension is the daemon's
   pub sound-new : (h : List Entry) → h ≡ [] → IsSoundMachine (record parts { dim = holding.dim }) h holding desks hosts
   sound-new h none =
-      subst (λ dim. IsSoundMachine (record parts { dim = dim }) h holding desks hosts) (sym (ap (λ (held : Holding). held.dim) nothing))
+      subst (λ dim. IsSoundMachine (record parts { dim = dim }) h holding desks hosts) (sym (ap (λ (held : GrantTable). held.dim) nothing))
       (subst (λ h. IsSoundMachine parts h holding desks hosts) (sym none) sound_at)

@@ -8,15 +8,15 @@ use Rattle.ce_model.specs.declared.topology.Place.{Place}
 use Rattle.ce_model.specs.declared.topology.BlockId.{BlockId}
 use Rattle.ce_model.specs.declared.entry.Entry.{Entry}
 use Rattle.ce_model.specs.Limits.{greatest_dim, greatest_count, greatest_targets, greatest_targets_lem, process_count, process_count_lem, home_blocks, home_blocks_lem, greatest_nodes_lem, greatest_blocks, greatest_blocks_lem}
-use Rattle.ce_model.specs.Parcels.{Item, start, mail, kill, item_id, parcels_from}
-use Rattle.ce_model.specs.Node.{Call, sends, arms}
-use Rattle.ce_model.specs.Trace.{Standing, NodeRecord, blank_record, parcels_of, armed_by}
+use Rattle.ce_model.specs.Parcels.{Item, start, mail, kill, item_id, message_parcels}
+use Rattle.ce_model.specs.Node.{Call, send_call, arm_call}
+use Rattle.ce_model.specs.Trace.{Standing, NodeRecord, blank_record, sent_parcels, allowed_dispatches_after}
 use Rattle.ce_model.specs.Answers.{answer, is_among}
 use Rattle.ce_model.specs.Cube.{Cube, CubeState, IsCube}
 use Rattle.ce_model.specs.Sound.{IsItemOf, IsHostItem, AreDistinct, IsSoundRecord, IsSound}
 use Rattle.ce_model.specs.Subcubes.{extract, is_inside}
-use Rattle.ce_model.specs.Renaming.{CubeGrant, block_outward, place_outward, item_with, record_with}
-use Rattle.ce_model.specs.Machine.{MachineParts, IsMachine, HeldCube, MachineState, held_by, nodes_of, standing_of, cube_of, record_by, held_by_entry, changed_record, with_cube, after, with_places_outward, IsWithinLimits, IsCallOf, IsLawfulEntry, IsLawful}
+use Rattle.ce_model.specs.Renaming.{CubeGrant, block_outward, place_outward, renamed_item, renamed_record}
+use Rattle.ce_model.specs.Machine.{MachineParts, IsMachine, HeldCube, MachineState, cube_held_by, nodes_of, cube_standing, cube_of, record_by, cube_after_entry, changed_record, with_cube, after, with_places_outward, IsCallWithinLimits, IsCallOf, IsLawfulEntry, IsLawful}
 use Rattle.ce_model.proofs.Subcubes.{node_of-extract}
 use Rattle.ce_model.proofs.Walked.{kept_by_each, each-more}
 use Rattle.ce_solo.proofs.Lists.{all-map, all-weaker, count_by-cons}
@@ -55,12 +55,12 @@ room-most d small =
 
 -- what is kept for a node has its limits, and so have the ids for which its items are
 pub record IsSmallRecord (kept : NodeRecord) : Type 0 where
-  pub waiting : length kept.waiting ≤ queue_room
-  pub ids : AllByRecursion (λ item. item_id item < process_count) kept.waiting
-  pub spawned : length kept.spawned ≤ process_count
-  pub spawned_ids : AllByRecursion (λ pid. pid < process_count) kept.spawned
-  pub killed : length kept.killed ≤ process_count
-  pub killed_ids : AllByRecursion (λ pid. pid < process_count) kept.killed
+  pub waiting : length kept.waiting_items ≤ queue_room
+  pub ids : AllByRecursion (λ item. item_id item < process_count) kept.waiting_items
+  pub spawned : length kept.spawned_ids ≤ process_count
+  pub spawned_ids : AllByRecursion (λ pid. pid < process_count) kept.spawned_ids
+  pub killed : length kept.killed_ids ≤ process_count
+  pub killed_ids : AllByRecursion (λ pid. pid < process_count) kept.killed_ids
 
 pub blank-small : IsSmallRecord blank_record
 blank-small = record { waiting = omega arith; ids = tt; spawned = omega arith; spawned_ids = tt; killed = omega arith; killed_ids = tt }
@@ -83,34 +83,34 @@ distinct-once k (pid ∷ pids) all =
     ]
 
 -- the ids that are killed were spawned, so they are a node's too
-killed-ids : (cube : Cube) (sent r : ℕ) (kept : NodeRecord) → IsSoundRecord cube sent r kept → AllByRecursion (λ pid. pid < process_count) kept.killed
+killed-ids : (cube : Cube) (sent r : ℕ) (kept : NodeRecord) → IsSoundRecord cube sent r kept → AllByRecursion (λ pid. pid < process_count) kept.killed_ids
 killed-ids cube sent r kept sound =
-    all-weaker (λ pid. is_among pid kept.spawned ≡ true) (λ pid. pid < process_count) kept.killed
-    (λ pid among. among-all (λ q. q < process_count) pid kept.spawned sound.ids among) sound.killed
+    all-weaker (λ pid. is_among pid kept.spawned_ids ≡ true) (λ pid. pid < process_count) kept.killed_ids
+    (λ pid among. among-all (λ q. q < process_count) pid kept.spawned_ids sound.ids among) sound.killed
 
 item-small : (cube : Cube) (sent r : ℕ) (kept : NodeRecord) → IsSoundRecord cube sent r kept → (item : Item) → IsItemOf cube r kept item → item_id item < process_count
-item-small cube sent r kept sound (start pid image) of = among-all (λ q. q < process_count) pid kept.spawned sound.ids of.0
+item-small cube sent r kept sound (start pid image) of = among-all (λ q. q < process_count) pid kept.spawned_ids sound.ids of.0
 item-small cube sent r kept sound (mail parcel) of = of.1
-item-small cube sent r kept sound (kill pid) of = among-all (λ q. q < process_count) pid kept.killed (killed-ids cube sent r kept sound) of
+item-small cube sent r kept sound (kill pid) of = among-all (λ q. q < process_count) pid kept.killed_ids (killed-ids cube sent r kept sound) of
 
-same_id : (rename : BlockId → BlockId) (item : Item) → item_id (item_with rename item) ≡ item_id item
+same_id : (rename : BlockId → BlockId) (item : Item) → item_id (renamed_item rename item) ≡ item_id item
 same_id rename (start pid image) = refl
 same_id rename (mail parcel) = refl
 same_id rename (kill pid) = refl
 
 sound-small : (cube : Cube) (s : CubeState) (r : ℕ) (rename : BlockId → BlockId) → IsCube cube → IsSound cube s → r < 2 ^ cube.dim
-    → IsSmallRecord (record_with rename (s.standing.node_record r))
+    → IsSmallRecord (renamed_record rename (s.standing.node_record r))
 sound-small cube s r rename of sound below =
     let kept = s.standing.node_record r in
     let is = sound.records r below in
     record {
-      waiting = omega (arith, node_room cube s r of sound below, length-map kept.waiting (item_with rename), room-most cube.dim of.dim);
-      ids = all-map (λ item. item_id item < process_count) (item_with rename) kept.waiting
-          (all-weaker (IsItemOf cube r kept) (λ item. item_id (item_with rename item) < process_count) kept.waiting
+      waiting = omega (arith, node_room cube s r of sound below, length-map kept.waiting_items (renamed_item rename), room-most cube.dim of.dim);
+      ids = all-map (λ item. item_id item < process_count) (renamed_item rename) kept.waiting_items
+          (all-weaker (IsItemOf cube r kept) (λ item. item_id (renamed_item rename item) < process_count) kept.waiting_items
           (λ item of. subst (λ n. n < process_count) (sym (same_id rename item)) (item-small cube s.standing.parcel_count r kept is item of)) is.own);
-      spawned = few-distinct kept.spawned process_count is.ids (λ pid. distinct-once pid kept.spawned is.spawned_once);
+      spawned = few-distinct kept.spawned_ids process_count is.ids (λ pid. distinct-once pid kept.spawned_ids is.spawned_once);
       spawned_ids = is.ids;
-      killed = few-distinct kept.killed process_count (killed-ids cube s.standing.parcel_count r kept is) (λ pid. distinct-once pid kept.killed is.killed_once);
+      killed = few-distinct kept.killed_ids process_count (killed-ids cube s.standing.parcel_count r kept is) (λ pid. distinct-once pid kept.killed_ids is.killed_once);
       killed_ids = killed-ids cube s.standing.parcel_count r kept is;
     }
 
@@ -120,17 +120,17 @@ sound-small cube s r rename of sound below =
 pub record IsSmallCube (entries : ℕ) (cube : HeldCube) : Type 0 where
   pub mail : length cube.mail ≤ greatest_blocks
   pub own : AllByRecursion IsHostItem cube.mail
-  pub armed : cube.armed ≤ greatest_count
-  pub dispatched : cube.dispatched ≤ cube.armed
+  pub allowed_dispatches : cube.allowed_dispatches ≤ greatest_count
+  pub made_dispatches : cube.made_dispatches ≤ cube.allowed_dispatches
   pub parcel_count : cube.parcel_count + greatest_targets ≤ greatest_targets * entries
 
-host-own : (rename : BlockId → BlockId) (item : Item) → IsHostItem item → IsHostItem (item_with rename item)
+host-own : (rename : BlockId → BlockId) (item : Item) → IsHostItem item → IsHostItem (renamed_item rename item)
 host-own rename (start pid image) own = absurd own
 host-own rename (mail parcel) own = own
 host-own rename (kill pid) own = absurd own
 
 module _ (parts : MachineParts) (machine : IsMachine parts) (h : List Entry) (lawful : IsLawful parts h) (user : ℕ) (cube : HeldCube)
-    (holds : held_by (after h) user ≡ Some cube) (goes : cube.drained ≡ false) where
+    (holds : cube_held_by (after h) user ≡ Some cube) (goes : cube.is_drained ≡ false) where
   abbrev was : IsHeld parts (after h) h cube
   was = (projected parts h machine lawful).held user cube holds
 
@@ -155,56 +155,56 @@ module _ (parts : MachineParts) (machine : IsMachine parts) (h : List Entry) (la
 
   mail-small : length cube.mail ≤ greatest_blocks
   mail-small =
-      let items = (now.standing.node_record HOST).waiting in
-      omega (arith, ap length (was.kept goes).mail, length-map items (item_with (block_outward cube.grant)), host_room own now own_is sound, room-most own.dim own_is.dim)
+      let items = (now.standing.node_record HOST).waiting_items in
+      omega (arith, ap length (was.kept goes).mail, length-map items (renamed_item (block_outward cube.grant)), host_room own now own_is sound, room-most own.dim own_is.dim)
 
   mail-own : AllByRecursion IsHostItem cube.mail
   mail-own =
-      let items = (now.standing.node_record HOST).waiting in
+      let items = (now.standing.node_record HOST).waiting_items in
       subst (AllByRecursion IsHostItem) (sym (was.kept goes).mail)
-      (all-map IsHostItem (item_with (block_outward cube.grant)) items
-      (all-weaker IsHostItem (λ item. IsHostItem (item_with (block_outward cube.grant) item)) items (host-own (block_outward cube.grant)) sound.host.own))
+      (all-map IsHostItem (renamed_item (block_outward cube.grant)) items
+      (all-weaker IsHostItem (λ item. IsHostItem (renamed_item (block_outward cube.grant) item)) items (host-own (block_outward cube.grant)) sound.host.own))
 
-  few-dispatched : cube.dispatched ≤ cube.armed
-  few-dispatched = omega (arith, sound.dispatches, (was.kept goes).armed, (was.kept goes).dispatched)
+  few-dispatched : cube.made_dispatches ≤ cube.allowed_dispatches
+  few-dispatched = omega (arith, sound.dispatches, (was.kept goes).allowed_dispatches, (was.kept goes).made_dispatches)
 
 -- ---- calls
 
 -- a message has a parcel for each target
-pub few-parcels : (from : Place) (number : ℕ) (bytes : List ℕ) (to : List (Place × BlockId)) → length (parcels_from from number bytes to) ≡ length to
+pub few-parcels : (from : Place) (number : ℕ) (bytes : List ℕ) (to : List (Place × BlockId)) → length (message_parcels from number bytes to) ≡ length to
 few-parcels from number bytes [] = refl
 few-parcels from number bytes (target ∷ to) = ap suc (few-parcels from (number + 1) bytes to)
 
 -- an entry sends one parcel for each place of its call
 few-sent : (nodes : List ℕ) (s : Standing) (actor : ℕ) (grant : CubeGrant) (call : Call) → HasFewPlaces call
-    → length (parcels_of actor (answer nodes s actor (with_places_outward grant call))) ≤ greatest_targets
+    → length (sent_parcels actor (answer nodes s actor (with_places_outward grant call))) ≤ greatest_targets
 unfolding answer
-few-sent nodes s actor grant (sends pid to bytes) few =
+few-sent nodes s actor grant (send_call pid to bytes) few =
     let place : Place × BlockId → Place × BlockId = λ (target : Place × BlockId). (place_outward grant.sub target.0, target.1) in
     omega (arith, few, length-map {B = Place × BlockId} to place, few-parcels (record { node = actor; pid = pid }) s.parcel_count bytes (map place to))
 few-sent nodes s actor grant other few = omega arith
 
 -- what a host allows has its limit
 abbrev IsAllowed : Call → Type 0
-IsAllowed (arms count) = count ≤ greatest_count
+IsAllowed (arm_call count) = count ≤ greatest_count
 IsAllowed other = Unit {0}
 
 allowed-by_node : (call : Call) → IsNodeCall call → IsAllowed call
-allowed-by_node (arms count) is = absurd is
+allowed-by_node (arm_call count) is = absurd is
 allowed-by_node other is = tt
 
-allowed-by_host : (call : Call) → IsWithinLimits call → IsAllowed call
-allowed-by_host (arms count) is = is
+allowed-by_host : (call : Call) → IsCallWithinLimits call → IsAllowed call
+allowed-by_host (arm_call count) is = is
 allowed-by_host other is = tt
 
 armed-few : (nodes : List ℕ) (s : Standing) (actor armed : ℕ) (grant : CubeGrant) (call : Call) → armed ≤ greatest_count → IsAllowed call
-    → armed_by armed (answer nodes s actor (with_places_outward grant call)) ≤ greatest_count
+    → allowed_dispatches_after armed (answer nodes s actor (with_places_outward grant call)) ≤ greatest_count
 unfolding answer
-armed-few nodes s actor armed grant (arms count) few is = is
+armed-few nodes s actor armed grant (arm_call count) few is = is
 armed-few nodes s actor armed grant other few is = few
 
 call-allowed : (parts : MachineParts) (machine : IsMachine parts) (h : List Entry) (lawful : IsLawful parts h) (user actor : ℕ) (call : Call) (cube : HeldCube)
-    → held_by (after h) user ≡ Some cube → IsCallOf parts h actor call cube → IsAllowed call
+    → cube_held_by (after h) user ≡ Some cube → IsCallOf parts h actor call cube → IsAllowed call
 call-allowed parts machine h lawful user actor call cube holds fits =
     elim fits.inside [
       | inl host ↦ allowed-by_host call (fits.within host)
@@ -217,8 +217,8 @@ more_room : (entries : ℕ) (cube : HeldCube) → IsSmallCube entries cube → I
 more_room entries cube small = record {
   mail = small.mail;
   own = small.own;
-  armed = small.armed;
-  dispatched = small.dispatched;
+  allowed_dispatches = small.allowed_dispatches;
+  made_dispatches = small.made_dispatches;
   parcel_count = omega (arith, small.parcel_count, ap (λ n. n * entries) greatest_targets_lem, ap (λ n. n * (entries + 1)) greatest_targets_lem);
 }
 
@@ -226,7 +226,7 @@ more_room entries cube small = record {
 record IsRoomy (parts : MachineParts) (h : List Entry) : Type 0 where
   pub lawful : IsLawful parts h
   pub nodes : (node : ℕ) → IsSmallRecord ((after h).node_record node)
-  pub cubes : (user : ℕ) (cube : HeldCube) → held_by (after h) user ≡ Some cube → IsSmallCube (length h) cube
+  pub cubes : (user : ℕ) (cube : HeldCube) → cube_held_by (after h) user ≡ Some cube → IsSmallCube (length h) cube
 
 changed-small : (P : NodeRecord → Type 0) (change : HeldCube → ℕ → NodeRecord → NodeRecord) (node : ℕ) (kept : NodeRecord) (held : Option HeldCube)
     → P kept → ((cube : HeldCube) → P (change cube node kept)) → P (changed_record change node kept held)
@@ -244,12 +244,12 @@ module _ (parts : MachineParts) (machine : IsMachine parts) (h : List Entry) (en
   step = lawful-step parts machine h (projected parts h machine room.lawful) entry is
 
   -- a cube that makes a call
-  held_next : (cube : HeldCube) → held_by (after h) entry.user ≡ Some cube
-      → next h entry ≡ with_cube entry.user (held_by_entry entry) (λ cube. record_by cube.grant.sub entry) (after h)
-      → held_by (after h') entry.user ≡ Some (held_by_entry entry cube)
+  held_next : (cube : HeldCube) → cube_held_by (after h) entry.user ≡ Some cube
+      → next h entry ≡ with_cube entry.user (cube_after_entry entry) (λ cube. record_by cube.grant.sub entry) (after h)
+      → cube_held_by (after h') entry.user ≡ Some (cube_after_entry entry cube)
   held_next cube holds e =
-      ap (λ state. held_by state entry.user) e
-      ∙ held-own entry.user (held_by_entry entry) (λ cube. refl) (λ cube. record_by cube.grant.sub entry) (after h) cube holds
+      ap (λ state. cube_held_by state entry.user) e
+      ∙ held-own entry.user (cube_after_entry entry) (λ cube. refl) (λ cube. record_by cube.grant.sub entry) (after h) cube holds
 
   node-next : Change parts h entry → (node : ℕ) → IsSmallRecord ((after h').node_record node)
   node-next (nothing e) node = subst (λ (s : MachineState). IsSmallRecord (s.node_record node)) (sym e) (room.nodes node)
@@ -257,69 +257,69 @@ module _ (parts : MachineParts) (machine : IsMachine parts) (h : List Entry) (en
   node-next (drains cube holds e) node =
       let was = room.nodes node in
       subst (λ (s : MachineState). IsSmallRecord (s.node_record node)) (sym e)
-      (changed-small IsSmallRecord (λ cube node kept. record kept { waiting = [] }) node ((after h).node_record node) (held_by (after h) entry.user) was
+      (changed-small IsSmallRecord (λ cube node kept. record kept { waiting_items = [] }) node ((after h).node_record node) (cube_held_by (after h) entry.user) was
       (λ cube. record { waiting = omega arith; ids = tt; spawned = was.spawned; spawned_ids = was.spawned_ids; killed = was.killed; killed_ids = was.killed_ids }))
   node-next (frees cube holds drained e) node =
       subst (λ (s : MachineState). IsSmallRecord (s.node_record node)) (sym e)
-      (changed-small IsSmallRecord (λ cube node kept. blank_record) node ((after h).node_record node) (held_by (after h) entry.user) (room.nodes node) (λ cube. blank-small))
+      (changed-small IsSmallRecord (λ cube node kept. blank_record) node ((after h).node_record node) (cube_held_by (after h) entry.user) (room.nodes node) (λ cube. blank-small))
   node-next (calls call cube holds fits what e) node =
       elim (cases_Bool (is_inside cube.grant.sub node)) [
-        | inl inside ↦ inside-small parts machine h' lawful-next entry.user (held_by_entry entry cube) (held_next cube holds e) fits.not_drained node inside
+        | inl inside ↦ inside-small parts machine h' lawful-next entry.user (cube_after_entry entry cube) (held_next cube holds e) fits.not_drained node inside
         | inr outside ↦
             subst IsSmallRecord (sym (step.records node (λ other held.
             let same = same_cube cube other (sym holds ∙ held) in subst (λ (c : HeldCube). is_inside c.grant.sub node ≡ false) same outside))) (room.nodes node)
       ]
 
-  own-next : Change parts h entry → (cube' : HeldCube) → held_by (after h') entry.user ≡ Some cube' → IsSmallCube (length h + 1) cube'
-  own-next (nothing e) cube' held = more_room (length h) cube' (room.cubes entry.user cube' (ap (λ state. held_by state entry.user) (sym e) ∙ held))
+  own-next : Change parts h entry → (cube' : HeldCube) → cube_held_by (after h') entry.user ≡ Some cube' → IsSmallCube (length h + 1) cube'
+  own-next (nothing e) cube' held = more_room (length h) cube' (room.cubes entry.user cube' (ap (λ state. cube_held_by state entry.user) (sym e) ∙ held))
   own-next (grants dim sub none free e) cube' held =
       let grant = grant_to entry.user dim sub in
-      let now : HeldCube = record { number = (after h).grant_count; grant = grant; drained = false; armed = 0; dispatched = 0; parcel_count = 0; mail = [] } in
-      let same = same_cube now cube' (sym (granted-own grant (after h) none) ∙ ap (λ state. held_by state entry.user) (sym e) ∙ held) in
+      let now : HeldCube = record { number = (after h).grant_count; grant = grant; is_drained = false; allowed_dispatches = 0; made_dispatches = 0; parcel_count = 0; mail = [] } in
+      let same = same_cube now cube' (sym (granted-own grant (after h) none) ∙ ap (λ state. cube_held_by state entry.user) (sym e) ∙ held) in
       subst (IsSmallCube (length h + 1)) same (record {
         mail = omega arith;
         own = tt;
-        armed = omega arith;
-        dispatched = omega arith;
+        allowed_dispatches = omega arith;
+        made_dispatches = omega arith;
         parcel_count = omega (arith, ap (λ n. n * (length h + 1)) greatest_targets_lem, greatest_targets_lem);
       })
   own-next (drains cube holds e) cube' held =
-      let change : HeldCube → HeldCube = λ cube. record cube { drained = true; mail = [] } in
-      let now = held-own entry.user change (λ cube. refl) (λ cube node kept. record kept { waiting = [] }) (after h) cube holds in
-      let same = same_cube (change cube) cube' (sym now ∙ ap (λ state. held_by state entry.user) (sym e) ∙ held) in
+      let change : HeldCube → HeldCube = λ cube. record cube { is_drained = true; mail = [] } in
+      let now = held-own entry.user change (λ cube. refl) (λ cube node kept. record kept { waiting_items = [] }) (after h) cube holds in
+      let same = same_cube (change cube) cube' (sym now ∙ ap (λ state. cube_held_by state entry.user) (sym e) ∙ held) in
       let was = more_room (length h) cube (room.cubes entry.user cube holds) in
-      subst (IsSmallCube (length h + 1)) same (record { mail = omega arith; own = tt; armed = was.armed; dispatched = was.dispatched; parcel_count = was.parcel_count })
+      subst (IsSmallCube (length h + 1)) same (record { mail = omega arith; own = tt; allowed_dispatches = was.allowed_dispatches; made_dispatches = was.made_dispatches; parcel_count = was.parcel_count })
   own-next (frees cube holds drained e) cube' held =
-      let none : None ≡ Some cube' = sym (left-own entry.user (after h)) ∙ ap (λ state. held_by state entry.user) (sym e) ∙ held in absurd (cc)
+      let none : None ≡ Some cube' = sym (left-own entry.user (after h)) ∙ ap (λ state. cube_held_by state entry.user) (sym e) ∙ held in absurd (cc)
   own-next (calls call cube holds fits what e) cube' held =
-      let now = held_by_entry entry cube in
+      let now = cube_after_entry entry cube in
       let holds' = held_next cube holds e in
       let same = same_cube now cube' (sym holds' ∙ held) in
       let was = room.cubes entry.user cube holds in
       let few = call-few parts machine h room.lawful entry.user cube holds entry.actor call fits in
       let allowed = call-allowed parts machine h room.lawful entry.user entry.actor call cube holds fits in
-      let sent = few-sent (nodes_of cube.grant) (standing_of (after h) cube) entry.actor cube.grant call few in
+      let sent = few-sent (nodes_of cube.grant) (cube_standing (after h) cube) entry.actor cube.grant call few in
       subst (IsSmallCube (length h + 1)) same (record {
         mail = mail-small parts machine h' lawful-next entry.user now holds' fits.not_drained;
         own = mail-own parts machine h' lawful-next entry.user now holds' fits.not_drained;
-        armed = subst (λ what. armed_by cube.armed what ≤ greatest_count) what
-            (armed-few (nodes_of cube.grant) (standing_of (after h) cube) entry.actor cube.armed cube.grant call was.armed allowed);
-        dispatched = few-dispatched parts machine h' lawful-next entry.user now holds' fits.not_drained;
+        allowed_dispatches = subst (λ what. allowed_dispatches_after cube.allowed_dispatches what ≤ greatest_count) what
+            (armed-few (nodes_of cube.grant) (cube_standing (after h) cube) entry.actor cube.allowed_dispatches cube.grant call was.allowed_dispatches allowed);
+        made_dispatches = few-dispatched parts machine h' lawful-next entry.user now holds' fits.not_drained;
         parcel_count = omega (
           arith,
           was.parcel_count,
           sent,
-          ap (λ what. length (parcels_of entry.actor what)) what,
+          ap (λ what. length (sent_parcels entry.actor what)) what,
           ap (λ n. n * length h) greatest_targets_lem,
           ap (λ n. n * (length h + 1)) greatest_targets_lem,
           greatest_targets_lem,
         );
       })
 
-  cube-next : (user : ℕ) (cube' : HeldCube) → held_by (after h') user ≡ Some cube' → IsSmallCube (length h + 1) cube'
+  cube-next : (user : ℕ) (cube' : HeldCube) → cube_held_by (after h') user ≡ Some cube' → IsSmallCube (length h + 1) cube'
   cube-next user cube' held =
       elim (cases_Bool (entry.user == user)) [
-        | inl own ↦ own-next (change-of parts h entry is) cube' (ap (held_by (after h')) (eqb-true _ _ own) ∙ held)
+        | inl own ↦ own-next (change-of parts h entry is) cube' (ap (cube_held_by (after h')) (eqb-true _ _ own) ∙ held)
         | inr other ↦ more_room (length h) cube' (room.cubes user cube' (sym (step.others user other) ∙ held))
       ]
 
@@ -346,7 +346,7 @@ node-limits parts history machine lawful node = (roomy parts history machine law
 
 -- so has each cube that is held
 pub cube-limits : (parts : MachineParts) (history : List Entry) → IsMachine parts → IsLawful parts history → (user : ℕ) (cube : HeldCube)
-    → held_by (after history) user ≡ Some cube → IsSmallCube (length history) cube
+    → cube_held_by (after history) user ≡ Some cube → IsSmallCube (length history) cube
 cube-limits parts history machine lawful user cube holds = (roomy parts history machine lawful).cubes user cube holds
 
 -- the parcels of a cube have a number of 64 bits

@@ -10,8 +10,8 @@ use Rattle.ce_model.specs.Parcels.{Parcel, Item, start, mail, kill, is_eligible,
 use Rattle.ce_model.specs.Cube.{parcel_numbered}
 use Rattle.ce_model.specs.Trace.{NodeRecord}
 use Rattle.ce_model.specs.Subcubes.{extract, is_inside}
-use Rattle.ce_model.specs.Renaming.{block_outward, item_with}
-use Rattle.ce_model.specs.Machine.{MachineParts, IsMachine, HeldCube, held_by, after, IsLawful}
+use Rattle.ce_model.specs.Renaming.{block_outward, renamed_item}
+use Rattle.ce_model.specs.Machine.{MachineParts, IsMachine, HeldCube, cube_held_by, after, IsLawful}
 use Rattle.ce_model.proofs.Subcubes.{node_of-extract}
 use Rattle.ce_solo.proofs.Lists.{count_by-cons, find-out, one_if-true}
 use Rattle.ce_solo.proofs.Items.{named-itself}
@@ -55,7 +55,7 @@ same-without test named (y ∷ ys) x found is once =
 
 -- ---- what waits at a node of the machine
 
-same_name : (rename : BlockId → BlockId) (given : TakeResult) (item : Item) → is_named_by given (item_with rename item) ≡ is_named_by given item
+same_name : (rename : BlockId → BlockId) (given : TakeResult) (item : Item) → is_named_by given (renamed_item rename item) ≡ is_named_by given item
 same_name rename given (start pid image) = refl
 same_name rename (Mail pid number) (mail parcel) = refl
 same_name rename (Start pid image) (mail parcel) = refl
@@ -65,47 +65,47 @@ same_name rename Idle (mail parcel) = refl
 same_name rename Spent (mail parcel) = refl
 same_name rename given (kill pid) = refl
 
-count-renamed : (rename : BlockId → BlockId) (given : TakeResult) (items : List Item) → count_by (is_named_by given) (map (item_with rename) items) ≡ count_by (is_named_by given) items
+count-renamed : (rename : BlockId → BlockId) (given : TakeResult) (items : List Item) → count_by (is_named_by given) (map (renamed_item rename) items) ≡ count_by (is_named_by given) items
 count-renamed rename given [] = refl
 count-renamed rename given (item ∷ items) =
     omega (
       arith,
-      count_by-cons (is_named_by given) (item_with rename item) (map (item_with rename) items),
+      count_by-cons (is_named_by given) (renamed_item rename item) (map (renamed_item rename) items),
       count_by-cons (is_named_by given) item items,
       ap {B = ℕ} (λ b. if b then 1 else 0) (same_name rename given item),
       count-renamed rename given items,
     )
 
-module _ (parts : MachineParts) (machine : IsMachine parts) (h : List Entry) (lawful : IsLawful parts h) (user : ℕ) (cube : HeldCube) (holds : held_by (after h) user ≡ Some cube)
-    (goes : cube.drained ≡ false) (node : ℕ) (inside : is_inside cube.grant.sub node ≡ true) where
+module _ (parts : MachineParts) (machine : IsMachine parts) (h : List Entry) (lawful : IsLawful parts h) (user : ℕ) (cube : HeldCube) (holds : cube_held_by (after h) user ≡ Some cube)
+    (goes : cube.is_drained ≡ false) (node : ℕ) (inside : is_inside cube.grant.sub node ≡ true) where
   abbrev items : List Item
-  items = ((after h).node_record node).waiting
+  items = ((after h).node_record node).waiting_items
 
   -- an item's name stands once among those that wait at a node of a cube
-  pub waiting-once : (item : Item) → count_by (is_named_by (given_as item)) ((after h).node_record node).waiting ≤ 1
+  pub waiting-once : (item : Item) → count_by (is_named_by (given_as item)) ((after h).node_record node).waiting_items ≤ 1
   waiting-once item =
       let was = (projected parts h machine lawful).held user cube holds in
       let s = left_now parts machine h lawful user cube holds in
       let r = extract node cube.grant.sub.mask in
       let below = inside_below parts.dim cube.grant was.placed node inside in
       let kept = s.standing.node_record r in
-      let is : items ≡ map (item_with (block_outward cube.grant)) kept.waiting =
-      ap (λ n. ((after h).node_record n).waiting) (sym (node_of-extract cube.grant.sub node inside)) ∙ ap (λ (k : NodeRecord). k.waiting) ((was.kept goes).nodes r below) in
+      let is : items ≡ map (renamed_item (block_outward cube.grant)) kept.waiting_items =
+      ap (λ n. ((after h).node_record n).waiting_items) (sym (node_of-extract cube.grant.sub node inside)) ∙ ap (λ (k : NodeRecord). k.waiting_items) ((was.kept goes).nodes r below) in
       omega (
         arith,
         ap (count_by (is_named_by (given_as item))) is,
-        count-renamed (block_outward cube.grant) (given_as item) kept.waiting,
+        count-renamed (block_outward cube.grant) (given_as item) kept.waiting_items,
         named_once (own parts machine h lawful user cube holds) s.standing.parcel_count r kept item ((sound-now parts machine h lawful user cube holds goes).records r below),
       )
 
   -- the first item that the node can be given is the one that the entry takes out
-  pub taken-first : (asking dead : ℕ) (item : Item) → find (is_eligible asking dead) ((after h).node_record node).waiting ≡ Some item
-      → without_first (is_named_by (given_as item)) ((after h).node_record node).waiting ≡ without_first (is_eligible asking dead) ((after h).node_record node).waiting
+  pub taken-first : (asking dead : ℕ) (item : Item) → find (is_eligible asking dead) ((after h).node_record node).waiting_items ≡ Some item
+      → without_first (is_named_by (given_as item)) ((after h).node_record node).waiting_items ≡ without_first (is_eligible asking dead) ((after h).node_record node).waiting_items
   taken-first asking dead item found = same-without (is_eligible asking dead) (is_named_by (given_as item)) items item found (named-itself item) (waiting-once item)
 
   -- and a parcel among them is the one of its number
-  pub taken-parcel : (asking dead : ℕ) (parcel : Parcel) → find (is_eligible asking dead) ((after h).node_record node).waiting ≡ Some (mail parcel)
-      → parcel_numbered parcel.number ((after h).node_record node).waiting ≡ Some parcel
+  pub taken-parcel : (asking dead : ℕ) (parcel : Parcel) → find (is_eligible asking dead) ((after h).node_record node).waiting_items ≡ Some (mail parcel)
+      → parcel_numbered parcel.number ((after h).node_record node).waiting_items ≡ Some parcel
   taken-parcel asking dead parcel found =
       ap (option_and_then parcel_in) (by_number items
       ∙ (find-out (is_eligible asking dead) (is_named_by (given_as (mail parcel))) items (mail parcel) found (named-itself (mail parcel)) (waiting-once (mail parcel))).found)

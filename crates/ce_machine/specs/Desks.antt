@@ -5,13 +5,12 @@ use Rattle.ce_model.specs.declared.topology.Place.{Place}
 use Rattle.ce_model.specs.declared.topology.Subcube.{Subcube}
 use Rattle.ce_model.specs.declared.entry.KillFound.{KillFound}
 use Rattle.ce_model.specs.declared.entry.KillFound.TheVariants.{Killed}
-use Rattle.ce_model.specs.Limits.{greatest_dim, process_count}
+use Rattle.ce_model.specs.Limits.{greatest_dim, process_count, node_room, mail_room}
 use Rattle.ce_model.specs.Blocks.{Block}
 use Rattle.ce_model.specs.Parcels.{Item, start, mail, kill}
 use Rattle.ce_model.specs.Trace.{NodeRecord}
 use Rattle.ce_model.specs.Renaming.{number_outward}
 use Rattle.ce_model.specs.Subcubes.{node_of, is_inside, IsSubcube}
-use Rattle.ce_machine.specs.Rooms.{node_room, mail_room}
 use Rattle.ce_machine.specs.Tables.{HostRecord, desk_at}
 
 -- each desk changed so, by its number
@@ -29,38 +28,38 @@ at_nodes sub change node kept = if is_inside sub node then change kept else kept
 
 -- a node has made an entry that isn't a Take
 abbrev pub with_busy_mark : NodeRecord → NodeRecord
-with_busy_mark kept = record kept { mark = record kept.mark { idle = false } }
+with_busy_mark kept = record kept { mark = record kept.mark { is_idle = false } }
 
 -- an item waits from now on
 abbrev pub with_items : List Item → NodeRecord → NodeRecord
-with_items items kept = record kept { waiting = kept.waiting ++ items }
+with_items items kept = record kept { waiting_items = kept.waiting_items ++ items }
 
 -- nothing waits any longer
 abbrev pub without_items : NodeRecord → NodeRecord
-without_items kept = record kept { waiting = [] }
+without_items kept = record kept { waiting_items = [] }
 
 -- the start of a process waits from now on, and its id is used
 abbrev pub with_start : (pid image : ℕ) → NodeRecord → NodeRecord
-with_start pid image kept = record kept { waiting = kept.waiting ++ start pid image ∷ []; spawned = kept.spawned ++ pid ∷ [] }
+with_start pid image kept = record kept { waiting_items = kept.waiting_items ++ start pid image ∷ []; spawned_ids = kept.spawned_ids ++ pid ∷ [] }
 
 -- so does the end of a process, where a kill found it
 abbrev pub with_kill : KillFound → ℕ → NodeRecord → NodeRecord
-with_kill Killed pid kept = record kept { waiting = kept.waiting ++ kill pid ∷ []; killed = kept.killed ++ pid ∷ [] }
+with_kill Killed pid kept = record kept { waiting_items = kept.waiting_items ++ kill pid ∷ []; killed_ids = kept.killed_ids ++ pid ∷ [] }
 with_kill other pid kept = kept
 
 -- there is room for the start of a process, and for the end of one
 abbrev pub HasStartRoom : NodeRecord → Type 0
-HasStartRoom kept = (length kept.waiting < node_room) × (length kept.spawned < process_count)
+HasStartRoom kept = (length kept.waiting_items < node_room) × (length kept.spawned_ids < process_count)
 
 abbrev pub HasKillRoom : NodeRecord → Type 0
-HasKillRoom kept = (length kept.waiting < node_room) × (length kept.killed < process_count)
+HasKillRoom kept = (length kept.waiting_items < node_room) × (length kept.killed_ids < process_count)
 
--- a subcube of a machine with so many nodes
+-- a subcube of a machine with so many nodes, none of which has the host's number
 pub record IsOnDesks (count dim : ℕ) (sub : Subcube) : Type 0 where
   pub sub_is : IsSubcube greatest_dim dim sub
   pub small : dim ≤ greatest_dim
   pub within : (r : ℕ) → r < 2 ^ dim → node_of sub r < count
-  pub few : count ≤ 64
+  pub few : count ≤ HOST
 
 -- ---- messages
 
@@ -80,5 +79,5 @@ IsInCube dim to = ((to.node < 2 ^ dim) ⊎ (to.node ≡ HOST)) × (to.pid < proc
 
 -- there is room at the desks and at the host's for a message to these places
 pub record HasMailRoom (sub : Subcube) (from : Place) (number : ℕ) (targets : List (Place × Block)) (desks : List NodeRecord) (host : HostRecord) : Type 0 where
-  pub nodes : (node : ℕ) → node < length desks → length (desk_at desks node).waiting + length (letters sub from number targets node) ≤ node_room
+  pub nodes : (node : ℕ) → node < length desks → length (desk_at desks node).waiting_items + length (letters sub from number targets node) ≤ node_room
   pub mail : length host.mail + length (letters sub from number targets HOST) ≤ mail_room

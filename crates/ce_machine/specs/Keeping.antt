@@ -5,11 +5,11 @@ use Rattle.std.proofs.lemmas.Bool.{ne_eqb, cond_both, false≢true}
 use Rattle.ce_model.specs.declared.entry.Entry.{Entry}
 use Rattle.ce_model.specs.declared.entry.What.{What}
 use Rattle.ce_model.specs.declared.entry.What.TheVariants.{Getcube, Peek, Drain, Freecube}
-use Rattle.ce_model.specs.Node as node
-use Rattle.ce_model.specs.Answers.{answer, call_of}
+use Rattle.ce_model.specs.Node as model
+use Rattle.ce_model.specs.Answers.{answer, recorded_call}
 use Rattle.ce_model.specs.Trace.{Standing}
 use Rattle.ce_model.specs.Renaming.{CubeGrant}
-use Rattle.ce_model.specs.Machine.{MachineParts, IsMachine, HeldCube, MachineState, is_held_by, held_by, held_grants, held_by_entry, changed_by, changed_by_call, after, Request, getcube, peek, drain, freecube, in_cube, is_alone, what_of_request, nodes_of, standing_of, with_places_outward, IsLawfulEntry, IsLawful}
+use Rattle.ce_model.specs.Machine.{MachineParts, IsMachine, HeldCube, MachineState, is_held_by, cube_held_by, held_grants, cube_after_entry, state_after_entry, state_after_call, after, Request, getcube, peek, drain, freecube, in_cube, is_alone, what_of_request, nodes_of, cube_standing, with_places_outward, IsLawfulEntry, IsLawful}
 use Rattle.ce_model.proofs.Walked.{each_of_front, each_behind}
 use Rattle.ce_daemon.specs.Boxes.{AreBoxesOf}
 use Rattle.ce_daemon.specs.Peeks.{numbered_grant}
@@ -20,7 +20,7 @@ use Rattle.ce_solo.proofs.Projection.StillFits as requests
 use Rattle.ce_solo.proofs.Projection.Kinds.{entry_of}
 use Rattle.ce_solo.proofs.Projection.Law.{after-more, projected, lawful-step}
 use Rattle.ce_machine.specs.declared.call.Call.{Call}
-use Rattle.ce_machine.specs.declared.call.Call.TheVariants as asked
+use Rattle.ce_machine.specs.declared.call.Call.TheVariants as calls
 use Rattle.ce_machine.specs.declared.call.Reply.{Reply}
 use Rattle.ce_machine.specs.Requests.{request_of, HasBroughtBoxes, IsFittingCall}
 use Rattle.ce_machine.specs.Meanings.{whose, is_alone_call, is_alone_what, is_alone_entry, IsAnsweredBy}
@@ -70,23 +70,23 @@ grant-found user (cube ∷ cubes) = found_or (is_held_by user cube) cube (find (
 pub grants-stay : (h : List Entry) (entry : Entry) → is_alone_what entry.what ≡ false → held_grants (after (h ++ entry ∷ [])) ≡ held_grants (after h)
 grants-stay h entry beside = by_what entry.what refl beside
   where
-    by_call : (call : node.Call) → call_of entry.what ≡ Some call → held_grants (after (h ++ entry ∷ [])) ≡ held_grants (after h)
+    by_call : (call : model.Call) → recorded_call entry.what ≡ Some call → held_grants (after (h ++ entry ∷ [])) ≡ held_grants (after h)
     by_call call called =
-        ap held_grants (after-more h entry ∙ ap (λ call. changed_by_call call entry (after h)) called)
-        ∙ grants-kept (is_held_by entry.user) (held_by_entry entry) (after h).held (λ cube. refl)
+        ap held_grants (after-more h entry ∙ ap (λ call. state_after_call call entry (after h)) called)
+        ∙ grants-kept (is_held_by entry.user) (cube_after_entry entry) (after h).cubes (λ cube. refl)
 
     by_what : (what : What) → entry.what ≡ what → is_alone_what what ≡ false → held_grants (after (h ++ entry ∷ [])) ≡ held_grants (after h)
     by_what (Getcube dim sub) is e = absurd (false≢true (sym e))
-    by_what Peek is e = ap held_grants (after-more h entry ∙ ap (λ what. changed_by (after h) (entry_of entry.user entry.actor what)) is)
+    by_what Peek is e = ap held_grants (after-more h entry ∙ ap (λ what. state_after_entry (after h) (entry_of entry.user entry.actor what)) is)
     by_what Drain is e = absurd (false≢true (sym e))
     by_what Freecube is e = absurd (false≢true (sym e))
-    by_what other is e = by_call _ (ap call_of is)
+    by_what other is e = by_call _ (ap recorded_call is)
 
 -- ---- whether an entry's call is made alone
 
-alone_answer : (nodes : List ℕ) (standing : Standing) (actor : ℕ) (call : node.Call) → is_alone_what (answer nodes standing actor call) ≡ false
+alone_answer : (nodes : List ℕ) (standing : Standing) (actor : ℕ) (call : model.Call) → is_alone_what (answer nodes standing actor call) ≡ false
 unfolding answer
-alone_answer nodes standing actor (node.takes asking dead poller) = refl
+alone_answer nodes standing actor (model.take_call asking dead poller) = refl
 alone_answer nodes standing actor other = refl
 
 -- an entry tells whether its request is made alone
@@ -100,14 +100,14 @@ alone-answered parts state user actor (getcube d) what e = sym (ap (alone_some t
 alone-answered parts state user actor peek what e = sym (ap (alone_some false) e)
 alone-answered parts state user actor drain what e = sym (ap (alone_some true) e)
 alone-answered parts state user actor freecube what e = sym (ap (alone_some true) e)
-alone-answered parts state user actor (in_cube call) what e = by_held (held_by state user) e
+alone-answered parts state user actor (in_cube call) what e = by_held (cube_held_by state user) e
   where
     by_held : (held : Option HeldCube)
-        → option_map (λ cube. answer (nodes_of cube.grant) (standing_of state cube) actor (with_places_outward cube.grant call)) held ≡ Some what
+        → option_map (λ cube. answer (nodes_of cube.grant) (cube_standing state cube) actor (with_places_outward cube.grant call)) held ≡ Some what
         → is_alone_what what ≡ false
     by_held None e = absurd (no_some what e)
     by_held (Some cube) e =
-        sym (ap (alone_some false) e) ∙ alone_answer (nodes_of cube.grant) (standing_of state cube) actor (with_places_outward cube.grant call)
+        sym (ap (alone_some false) e) ∙ alone_answer (nodes_of cube.grant) (cube_standing state cube) actor (with_places_outward cube.grant call)
 
 -- ---- lawful histories
 
@@ -139,13 +139,13 @@ module _ {N : Type 0} (home : N → ℕ) (clean : N → Type 0) (parts : Machine
 
   -- the user holds the grant that it held
   grant_stays : (before : List Entry) (entry : Entry) (who : Who) → IsMachine parts → IsLawful parts before → IsLawfulEntry parts before entry
-      → IsForeign whose is_alone_entry who entry → option_map grant_of (held_by (after (before ++ entry ∷ [])) who.family) ≡ option_map grant_of (held_by (after before) who.family)
+      → IsForeign whose is_alone_entry who entry → option_map grant_of (cube_held_by (after (before ++ entry ∷ [])) who.family) ≡ option_map grant_of (cube_held_by (after before) who.family)
   grant_stays before entry who machine is lawful (inl family) =
       ap (option_map grant_of) ((lawful-step parts machine before (projected parts before machine is) entry lawful).others who.family (ne_eqb _ _ family))
   grant_stays before entry who machine is lawful (inr beside) =
-      grant-found who.family (after (before ++ entry ∷ [])).held
+      grant-found who.family (after (before ++ entry ∷ [])).cubes
       ∙ ap (find (λ (grant : ℕ × CubeGrant). grant.1.user == who.family)) (grants-stay before entry beside.1)
-      ∙ sym (grant-found who.family (after before).held)
+      ∙ sym (grant-found who.family (after before).cubes)
 
   boxes_held : (held held' : Option HeldCube) (Q : ℕ × CubeGrant → Type 0) → option_map grant_of held' ≡ option_map grant_of held
       → IsSomeAnd held (λ cube. Q (grant_of cube)) → IsSomeAnd held' (λ cube. Q (grant_of cube))
@@ -154,10 +154,10 @@ module _ {N : Type 0} (home : N → ℕ) (clean : N → Type 0) (parts : Machine
   boxes_held (Some cube) (Some cube') Q e some = subst Q (sym (same_some (grant_of cube') (grant_of cube) e)) some
 
   boxes_stay : (before behind : List Entry) (user : ℕ) (call : Call N)
-      → option_map grant_of (held_by (after behind) user) ≡ option_map grant_of (held_by (after before) user)
+      → option_map grant_of (cube_held_by (after behind) user) ≡ option_map grant_of (cube_held_by (after before) user)
       → HasBroughtBoxes home clean before user call → HasBroughtBoxes home clean behind user call
-  boxes_stay before behind user (asked.Freecube boxes) e some =
-      boxes_held (held_by (after before) user) (held_by (after behind) user) (λ grant. AreBoxesOf home clean (numbered_grant grant) boxes.items) e some
+  boxes_stay before behind user (calls.Freecube boxes) e some =
+      boxes_held (cube_held_by (after before) user) (cube_held_by (after behind) user) (λ grant. AreBoxesOf home clean (numbered_grant grant) boxes.items) e some
   boxes_stay before behind user other e some = some
 
   pub still_fits : (before : List Entry) (entry : Entry) (who : Who) (call : Call N) → IsLawful parts (before ++ entry ∷ [])

@@ -1,7 +1,6 @@
 pub mod Requests
 pub mod Replies
 pub mod Meanings
-pub mod Rooms
 pub mod Tables
 pub mod Desks
 pub mod Answering

@@ -2,12 +2,12 @@
 use Rattle.std.specs.Prelude.{◌≡◌, ℕ, List, map, Option, Some, None, IsSomeAnd}
 use Rattle.ce_model.specs.declared.topology.Subcube.{Subcube}
 use Rattle.ce_model.specs.declared.entry.What.{What}
-use Rattle.ce_model.specs.declared.entry.What.TheVariants as entry
+use Rattle.ce_model.specs.declared.entry.What.TheVariants as whats
 use Rattle.ce_model.specs.declared.entry.LookResult.{LookResult}
-use Rattle.ce_model.specs.declared.entry.LookResult.TheVariants as found
+use Rattle.ce_model.specs.declared.entry.LookResult.TheVariants as look_result
 use Rattle.ce_model.specs.Parcels.{Item, Parcel}
 use Rattle.ce_model.specs.Cube.{parcel_numbered}
-use Rattle.ce_model.specs.Machine.{MachineParts, MachineState, HeldCube, held_by, standing_of, all_parcels}
+use Rattle.ce_model.specs.Machine.{MachineParts, MachineState, HeldCube, cube_held_by, cube_standing, all_parcels}
 use Rattle.ce_daemon.specs.declared.grant.Grant.{Grant}
 use Rattle.ce_daemon.specs.Boxes.{AreBoxesOf}
 use Rattle.ce_daemon.specs.Peeks.{peek_result}
@@ -37,9 +37,9 @@ IsDrained parcels other = ⊥
 
 -- the answer to a look by what it found
 abbrev pub found_reply : {N : Type 0} → LookResult → Reply N
-found_reply found.Quiet = Quiet
-found_reply found.Spent = Spent
-found_reply found.Busy = Busy
+found_reply look_result.Quiet = Quiet
+found_reply look_result.Spent = Spent
+found_reply look_result.Busy = Busy
 
 -- the answer to a host that takes its message of this number, of those that wait
 abbrev pub IsMail : {N : Type 0} → ℕ → List Item → Reply N → Type 0
@@ -52,21 +52,21 @@ IsHeard items what (Heard heard) = IsHeardIn items what heard
 IsHeard items what other = ⊥
 
 -- what waits for an actor of a cube
-abbrev pub items_for : MachineState → HeldCube → ℕ → List Item
-items_for state cube actor = ((standing_of state cube).node_record actor).waiting
+abbrev pub actor_items : MachineState → HeldCube → ℕ → List Item
+actor_items state cube actor = ((cube_standing state cube).node_record actor).waiting_items
 
 -- the user holds a cube, of which this holds
 abbrev pub OfHeldCube : MachineState → ℕ → (HeldCube → Type 0) → Type 0
-OfHeldCube state user P = IsSomeAnd (held_by state user) P
+OfHeldCube state user P = IsSomeAnd (cube_held_by state user) P
 
 -- the reply that a call gets in this state whose entry, of this user and this actor, is this
 abbrev pub IsReplyTo : {N : Type 0} → (N → ℕ) → (N → Type 0) → MachineParts → MachineState → (user actor : ℕ) → What → Reply N → Type 0
-IsReplyTo home clean parts state user actor (entry.Getcube dim sub) reply = IsGrantReply home clean state user dim sub reply
-IsReplyTo home clean parts state user actor entry.Peek reply = reply ≡ Peeked (peek_result parts state)
-IsReplyTo home clean parts state user actor entry.Drain reply = OfHeldCube state user (λ cube. IsDrained (all_parcels state cube) reply)
-IsReplyTo home clean parts state user actor entry.Freecube reply = reply ≡ Freed
-IsReplyTo home clean parts state user actor (entry.Arm count) reply = reply ≡ Armed
-IsReplyTo home clean parts state user actor (entry.Look found) reply = reply ≡ found_reply found
-IsReplyTo home clean parts state user actor (entry.HostTake None) reply = reply ≡ NoMail
-IsReplyTo home clean parts state user actor (entry.HostTake (Some number)) reply = OfHeldCube state user (λ cube. IsMail number cube.mail reply)
-IsReplyTo home clean parts state user actor what reply = OfHeldCube state user (λ cube. IsHeard (items_for state cube actor) what reply)
+IsReplyTo home clean parts state user actor (whats.Getcube dim sub) reply = IsGrantReply home clean state user dim sub reply
+IsReplyTo home clean parts state user actor whats.Peek reply = reply ≡ Peeked (peek_result parts state)
+IsReplyTo home clean parts state user actor whats.Drain reply = OfHeldCube state user (λ cube. IsDrained (all_parcels state cube) reply)
+IsReplyTo home clean parts state user actor whats.Freecube reply = reply ≡ Freed
+IsReplyTo home clean parts state user actor (whats.Arm count) reply = reply ≡ Armed
+IsReplyTo home clean parts state user actor (whats.Look found) reply = reply ≡ found_reply found
+IsReplyTo home clean parts state user actor (whats.HostTake None) reply = reply ≡ NoMail
+IsReplyTo home clean parts state user actor (whats.HostTake (Some number)) reply = OfHeldCube state user (λ cube. IsMail number cube.mail reply)
+IsReplyTo home clean parts state user actor what reply = OfHeldCube state user (λ cube. IsHeard (actor_items state cube actor) what reply)

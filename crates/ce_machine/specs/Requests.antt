@@ -1,7 +1,7 @@
 -- What a call of the machine asks for, and when it fits.
 use Rattle.std.specs.Prelude.{ℕ, List}
 use Rattle.ce_model.specs.declared.entry.Entry.{Entry}
-use Rattle.ce_model.specs.Node.{arms, looks, takes_mail}
+use Rattle.ce_model.specs.Node.{arm_call, look_call, mail_call}
 use Rattle.ce_model.specs.Machine.{MachineParts, IsMachine, Request, getcube, peek, drain, freecube, in_cube, IsFitting, HasHeldCube}
 use Rattle.ce_daemon.specs.Boxes.{AreBoxesOf}
 use Rattle.ce_daemon.specs.Peeks.{numbered_grant}
@@ -16,9 +16,9 @@ request_of (Getcube dim) = getcube dim
 request_of Peek = peek
 request_of Drain = drain
 request_of (Freecube boxes) = freecube
-request_of (Arm count) = in_cube (arms count)
-request_of Look = in_cube looks
-request_of HostTake = in_cube takes_mail
+request_of (Arm count) = in_cube (arm_call count)
+request_of Look = in_cube look_call
+request_of HostTake = in_cube mail_call
 request_of (Say said) = in_cube (call_said said)
 
 -- who gives a cube back brings the clean boxes of its nodes

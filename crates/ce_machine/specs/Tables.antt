@@ -3,29 +3,29 @@ use Rattle.std.specs.Prelude.{◌≡◌, ℕ, ◌^◌, ◌<◌, Bool, false, Lis
 use Rattle.ce_model.specs.declared.entry.Entry.{Entry}
 use Rattle.ce_model.specs.Parcels.{Item}
 use Rattle.ce_model.specs.Trace.{NodeRecord, blank_record}
-use Rattle.ce_model.specs.Machine.{MachineParts, MachineState, HeldCube, IsMachine, IsLawful, held_by, held_grants, after}
-use Rattle.ce_daemon.specs.Holding.{Holding}
+use Rattle.ce_model.specs.Machine.{MachineParts, MachineState, HeldCube, IsMachine, IsLawful, cube_held_by, held_grants, after}
+use Rattle.ce_daemon.specs.Holding.{GrantTable}
 use Rattle.ce_daemon.specs.Peeks.{numbered_grant}
 
 -- what the machine keeps for a user's host: whether the user's cube is drained, its counts, and what waits for the host
 pub record HostRecord : Type 0 where
-  pub drained : Bool
-  pub armed : ℕ
-  pub dispatched : ℕ
+  pub is_drained : Bool
+  pub allowed_dispatches : ℕ
+  pub made_dispatches : ℕ
   pub parcel_count : ℕ
   pub mail : List Item
 
 -- what it keeps for the host of a user without a cube
 abbrev pub blank_host : HostRecord
-blank_host = record { drained = false; armed = 0; dispatched = 0; parcel_count = 0; mail = [] }
+blank_host = record { is_drained = false; allowed_dispatches = 0; made_dispatches = 0; parcel_count = 0; mail = [] }
 
 -- what it keeps for the host of the user of this cube, if any
-abbrev pub host_of : Option HeldCube → HostRecord
-host_of None = blank_host
-host_of (Some cube) = record {
-  drained = cube.drained;
-  armed = cube.armed;
-  dispatched = cube.dispatched;
+abbrev pub cube_host : Option HeldCube → HostRecord
+cube_host None = blank_host
+cube_host (Some cube) = record {
+  is_drained = cube.is_drained;
+  allowed_dispatches = cube.allowed_dispatches;
+  made_dispatches = cube.made_dispatches;
   parcel_count = cube.parcel_count;
   mail = cube.mail;
 }
@@ -38,19 +38,19 @@ abbrev pub host_at : List HostRecord → ℕ → HostRecord
 host_at hosts user = slice_index_or hosts user blank_host
 
 -- what the daemon of a machine in this state has granted
-abbrev pub holding_of : MachineParts → MachineState → Holding
-holding_of parts state = record { dim = parts.dim; count = state.grant_count; held = map numbered_grant (held_grants state) }
+abbrev pub holding_of : MachineParts → MachineState → GrantTable
+holding_of parts state = record { dim = parts.dim; count = state.grant_count; grants = map numbered_grant (held_grants state) }
 
 -- the tables of a machine show this state
-pub record AreTables (parts : MachineParts) (state : MachineState) (holding : Holding) (desks : List NodeRecord) (hosts : List HostRecord) : Type 0 where
+pub record AreTables (parts : MachineParts) (state : MachineState) (holding : GrantTable) (desks : List NodeRecord) (hosts : List HostRecord) : Type 0 where
   pub holding_is : holding ≡ holding_of parts state
   pub desk_count : length desks ≡ 2 ^ parts.dim
   pub desk_is : (node : ℕ) → node < 2 ^ parts.dim → desk_at desks node ≡ state.node_record node
   pub host_count : length hosts ≡ parts.users
-  pub host_is : (user : ℕ) → user < parts.users → host_at hosts user ≡ host_of (held_by state user)
+  pub host_is : (user : ℕ) → user < parts.users → host_at hosts user ≡ cube_host (cube_held_by state user)
 
 -- a machine is within its limits, its history is lawful, and its tables show what the history leaves
-pub record IsSoundMachine (parts : MachineParts) (history : List Entry) (holding : Holding) (desks : List NodeRecord) (hosts : List HostRecord) : Type 0 where
+pub record IsSoundMachine (parts : MachineParts) (history : List Entry) (holding : GrantTable) (desks : List NodeRecord) (hosts : List HostRecord) : Type 0 where
   pub machine : IsMachine parts
   pub lawful : IsLawful parts history
   pub tables : AreTables parts (after history) holding desks hosts

@@ -1,16 +1,14 @@
 ghost use Rattle.std.specs.List.{list_any};
 ghost use Rattle.std.specs.Prelude.{◌≡◌, ℕ, ◌+◌, ◌<◌, ◌≤◌, Bool, false, List, [], ◌∷◌, ◌++◌, length, find, map, Some, None, IfOk, IfSome, IfNone, option_map, vec_capacity};
-ghost use Rattle.ce_model.specs.Limits.{process_count};
+ghost use Rattle.ce_model.specs.Limits.{process_count, node_room};
 ghost use Rattle.ce_model.specs.Lists.{without_first};
-ghost use Rattle.ce_model.specs.Parcels.{start, mail, kill, is_eligible, parcels_among};
+ghost use Rattle.ce_model.specs.Parcels.{start, mail, kill, is_eligible, item_parcels};
 ghost use Rattle.ce_model.specs.Trace.{NodeRecord, blank_record};
 ghost use Rattle.ce_model.specs.Answers.{is_among, kill_found, is_quiet_node};
 ghost use Rattle.rk_mail.specs.Items.{item_of, parcel_of};
-ghost use Rattle.ce_machine.specs.Rooms.{node_room};
 
 use crate::mail::take_blocks;
-use crate::room::NODE_ROOM;
-use ce_model::{KillFound, NoMemory, PROCESS_COUNT};
+use ce_model::{KillFound, NODE_ROOM, NoMemory, PROCESS_COUNT};
 use rk_mail::{Item, Mailbox, Parcel};
 use std::alloc::Global;
 use std::marker::Model;
@@ -22,55 +20,58 @@ use xm_block::Block;
 #[derive(Drop)]
 pub(crate) struct Desk {
     mailbox: Mailbox,
-    spawned: Vec<u32>,
-    killed: Vec<u32>,
-    idle: bool,
-    asking: u32,
-    dead: u32,
+    spawned_ids: Vec<u32>,
+    killed_ids: Vec<u32>,
+    is_idle: bool,
+    asking_ids: u32,
+    dead_ids: u32,
 }
 
 impl Model for Desk {
     ghost use Rattle.std.specs.Prelude.{◌≡◌, ◌+◌, ◌≤◌, length, vec_capacity};
-    ghost use Rattle.ce_model.specs.Limits.{process_count};
+    ghost use Rattle.ce_model.specs.Limits.{process_count, node_room};
     ghost use Rattle.ce_model.specs.Trace.{NodeRecord};
-    ghost use Rattle.ce_machine.specs.Rooms.{node_room};
 
     ghost Value = { NodeRecord };
 
     ghost view = { λ desk. record {
-      waiting = desk.mailbox.items;
-      spawned = desk.spawned.items;
-      killed = desk.killed.items;
-      mark = record { idle = desk.idle; asking = desk.asking; dead = desk.dead };
+      waiting_items = desk.mailbox.items;
+      spawned_ids = desk.spawned_ids.items;
+      killed_ids = desk.killed_ids.items;
+      mark = record {
+        is_idle = desk.is_idle;
+        asking_ids = desk.asking_ids;
+        dead_ids = desk.dead_ids;
+      };
     } };
 
     ghost invariant = { λ desk. (length desk.mailbox.items + desk.mailbox.spare ≡ node_room)
-        × (process_count ≤ vec_capacity desk.spawned)
-        × (process_count ≤ vec_capacity desk.killed) };
+        × (process_count ≤ vec_capacity desk.spawned_ids)
+        × (process_count ≤ vec_capacity desk.killed_ids) };
 }
 
 impl Desk {
     /// The desk of a node of which nothing is known.
-    #[tactic(auto, using(crate::specs::Rooms::node_room_lem, ce_model::specs::Limits::process_count_lem))]
+    #[tactic(auto, using(ce_model::specs::Limits::node_room_lem, ce_model::specs::Limits::process_count_lem))]
     pub(crate) fn new(alloc: Global) -> Result<Desk, NoMemory>
         ensures { IfOk result (λ desk. desk ≡ blank_record) }
     {
         let mailbox = Mailbox::new(alloc, NODE_ROOM)?;
-        let spawned = Vec::with_capacity(alloc, PROCESS_COUNT as usize)?;
-        let killed = Vec::with_capacity(alloc, PROCESS_COUNT as usize)?;
+        let spawned_ids = Vec::with_capacity(alloc, PROCESS_COUNT as usize)?;
+        let killed_ids = Vec::with_capacity(alloc, PROCESS_COUNT as usize)?;
         Ok(Desk {
             mailbox,
-            spawned,
-            killed,
-            idle: true,
-            asking: 0,
-            dead: 0,
+            spawned_ids,
+            killed_ids,
+            is_idle: true,
+            asking_ids: 0,
+            dead_ids: 0,
         })
     }
 
     /// How many items wait.
     pub(crate) fn count(&self) -> u32
-        ensures value { result ≡ length self.now.waiting }
+        ensures value { result ≡ length self.now.waiting_items }
         ensures within { result ≤ node_room }
     {
         self.mailbox.count()
@@ -78,56 +79,57 @@ impl Desk {
 
     /// A message waits from now on.
     pub(crate) fn post(&mut self, parcel: Parcel)
-        requires room { length self.old.waiting < node_room }
+        requires room { length self.old.waiting_items < node_room }
         requires process { parcel.to.pid < process_count }
-        ensures { self.new
-            ≡ record self.old { waiting = self.old.waiting ++ mail (parcel_of parcel) ∷ [] } }
+        ensures { self.new ≡ record self.old {
+          waiting_items = self.old.waiting_items ++ mail (parcel_of parcel) ∷ [];
+        } }
     {
         self.mailbox.post(Item::Mail(parcel));
     }
 
     /// The start of a process waits from now on; its id is used.
     pub(crate) fn start(&mut self, pid: u32, image: u32)
-        requires room { length self.old.waiting < node_room }
-        requires ids { length self.old.spawned < process_count }
+        requires room { length self.old.waiting_items < node_room }
+        requires ids { length self.old.spawned_ids < process_count }
         requires process { pid < process_count }
         ensures { self.new ≡ record self.old {
-          waiting = self.old.waiting ++ start pid image ∷ [];
-          spawned = self.old.spawned ++ pid ∷ [];
+          waiting_items = self.old.waiting_items ++ start pid image ∷ [];
+          spawned_ids = self.old.spawned_ids ++ pid ∷ [];
         } }
     {
         self.mailbox.post(Item::Start { pid, image });
-        self.spawned.push_reserved(pid);
+        self.spawned_ids.push_reserved(pid);
     }
 
     /// The end of a process waits from now on.
     pub(crate) fn kill(&mut self, pid: u32)
-        requires room { length self.old.waiting < node_room }
-        requires ids { length self.old.killed < process_count }
+        requires room { length self.old.waiting_items < node_room }
+        requires ids { length self.old.killed_ids < process_count }
         requires process { pid < process_count }
         ensures { self.new ≡ record self.old {
-          waiting = self.old.waiting ++ kill pid ∷ [];
-          killed = self.old.killed ++ pid ∷ [];
+          waiting_items = self.old.waiting_items ++ kill pid ∷ [];
+          killed_ids = self.old.killed_ids ++ pid ∷ [];
         } }
     {
         self.mailbox.post(Item::Kill { pid });
-        self.killed.push_reserved(pid);
+        self.killed_ids.push_reserved(pid);
     }
 
     /// Whether the id was spawned.
     pub(crate) fn was_spawned(&self, pid: u32) -> bool
-        ensures { result ≡ is_among pid self.now.spawned }
+        ensures { result ≡ is_among pid self.now.spawned_ids }
     {
-        contains(&self.spawned, pid)
+        contains(&self.spawned_ids, pid)
     }
 
     /// What a kill of the id finds.
     pub(crate) fn kill_found(&self, pid: u32) -> KillFound
         ensures { result ≡ kill_found self.now pid }
     {
-        if !contains(&self.spawned, pid) {
+        if !contains(&self.spawned_ids, pid) {
             KillFound::Unused
-        } else if contains(&self.killed, pid) {
+        } else if contains(&self.killed_ids, pid) {
             KillFound::Already
         } else {
             KillFound::Killed
@@ -137,10 +139,10 @@ impl Desk {
     /// Takes out the first item that the node can be given.
     pub(crate) fn next(&mut self, asking: u32, dead: u32) -> Option<Item>
         ensures first { option_map item_of result
-            ≡ find (is_eligible asking dead) self.old.waiting }
+            ≡ find (is_eligible asking dead) self.old.waiting_items }
         ensures rest { self.new
             ≡ record self.old {
-              waiting = without_first (is_eligible asking dead) self.old.waiting;
+              waiting_items = without_first (is_eligible asking dead) self.old.waiting_items;
             } }
     {
         self.mailbox.next(asking, dead)
@@ -148,41 +150,43 @@ impl Desk {
 
     /// Whether an item waits that the node can be given.
     pub(crate) fn has(&self, asking: u32, dead: u32) -> bool
-        ensures { result ≡ list_any (is_eligible asking dead) self.now.waiting }
+        ensures { result ≡ list_any (is_eligible asking dead) self.now.waiting_items }
     {
         self.mailbox.has(asking, dead)
     }
 
     /// The node has asked for work with these sets; whether it was answered that there is nothing to do.
-    pub(crate) fn mark_take(&mut self, asking: u32, dead: u32, idle: bool)
-        ensures { self.new
-            ≡ record self.old { mark = record { idle = idle; asking = asking; dead = dead } } }
+    pub(crate) fn mark_take(&mut self, asking: u32, dead: u32, is_idle: bool)
+        ensures { self.new ≡ record self.old {
+          mark = record { is_idle = is_idle; asking_ids = asking; dead_ids = dead };
+        } }
     {
-        self.idle = idle;
-        self.asking = asking;
-        self.dead = dead;
+        self.is_idle = is_idle;
+        self.asking_ids = asking;
+        self.dead_ids = dead;
     }
 
     /// The node has made another entry.
     pub(crate) fn mark_busy(&mut self)
-        ensures { self.new ≡ record self.old { mark = record self.old.mark { idle = false } } }
+        ensures { self.new ≡ record self.old { mark = record self.old.mark { is_idle = false } } }
     {
-        self.idle = false;
+        self.is_idle = false;
     }
 
     /// Whether the node is quiet.
     pub(crate) fn is_quiet(&self) -> bool
         ensures { result ≡ is_quiet_node self.now }
     {
-        self.idle && !self.mailbox.has(self.asking, self.dead)
+        self.is_idle && !self.mailbox.has(self.asking_ids, self.dead_ids)
     }
 
     /// Takes all that waits out, and puts the blocks of the messages behind those that were taken before.
     pub(crate) fn drain(&mut self, blocks: &mut Vec<Block>)
-        requires { length blocks.old.items + length self.old.waiting ≤ vec_capacity blocks.old }
-        ensures desk { self.new ≡ record self.old { waiting = [] } }
+        requires { length blocks.old.items + length self.old.waiting_items
+            ≤ vec_capacity blocks.old }
+        ensures desk { self.new ≡ record self.old { waiting_items = [] } }
         ensures blocks { blocks.new.items ≡ blocks.old.items
-            ++ map (λ parcel. parcel.block) (parcels_among self.old.waiting) }
+            ++ map (λ parcel. parcel.block) (item_parcels self.old.waiting_items) }
         ensures capacity { vec_capacity blocks.new ≡ vec_capacity blocks.old }
     {
         take_blocks(&mut self.mailbox, blocks);
@@ -190,14 +194,14 @@ impl Desk {
 
     /// Makes it the desk of a node of which nothing is known. Nothing waits.
     pub(crate) fn clear(&mut self)
-        requires { self.old.waiting ≡ [] }
+        requires { self.old.waiting_items ≡ [] }
         ensures { self.new ≡ blank_record }
     {
-        self.spawned.clear();
-        self.killed.clear();
-        self.idle = true;
-        self.asking = 0;
-        self.dead = 0;
+        self.spawned_ids.clear();
+        self.killed_ids.clear();
+        self.is_idle = true;
+        self.asking_ids = 0;
+        self.dead_ids = 0;
     }
 }
 

@@ -1,15 +1,14 @@
 ghost use Rattle.std.specs.Prelude.{◌≡◌, ◌⊎◌, ℕ, ◌+◌, ◌^◌, ◌<◌, ◌≤◌, ◌==◌, if◌then◌else◌, Bool, true, false, not, List, [], ◌∷◌, ◌++◌, length, map, flat_map, vec_capacity, IfOk};
 ghost use Rattle.std.specs.List.{list_all, AllByRecursion, range_with_len};
 ghost use Rattle.ce_model.specs.declared.topology.TheConstants.{HOST};
-ghost use Rattle.ce_model.specs.Limits.{greatest_dim, process_count};
-ghost use Rattle.ce_model.specs.Parcels.{mail, parcels_among};
+ghost use Rattle.ce_model.specs.Limits.{greatest_dim, process_count, node_room, mail_room};
+ghost use Rattle.ce_model.specs.Parcels.{mail, item_parcels};
 ghost use Rattle.ce_model.specs.Trace.{NodeRecord, blank_record};
 ghost use Rattle.ce_model.specs.Answers.{is_quiet_node, is_among, kill_found};
-ghost use Rattle.ce_model.specs.Renaming.{number_outward, place_outward, targets_renamed};
-ghost use Rattle.ce_model.specs.Subcubes.{node_of, relative, IsSubcube};
+ghost use Rattle.ce_model.specs.Renaming.{number_outward, place_outward, renamed_targets};
+ghost use Rattle.ce_model.specs.Subcubes.{node_of, relative_number, IsSubcube};
 ghost use Rattle.rk_mail.specs.Items.{parcel_of};
 ghost use Rattle.rk_mail.specs.Targets.{targets_of};
-ghost use Rattle.ce_machine.specs.Rooms.{node_room, mail_room};
 ghost use Rattle.ce_machine.specs.Tables.{HostRecord, blank_host, desk_at, host_at};
 ghost use Rattle.ce_machine.specs.Desks.{AreChanged, at_node, at_nodes, with_busy_mark, with_items, without_items, IsOnDesks, letters, IsInCube, HasMailRoom, HasStartRoom, HasKillRoom, with_start, with_kill};
 
@@ -49,7 +48,7 @@ pub(crate) fn blank_hosts(alloc: Global, count: u32) -> Result<Vec<HostDesk>, No
 // A node has made an entry that isn't a Take; a host is no node.
 pub(crate) fn mark_busy(desks: &mut Vec<Desk>, actor: u32)
     requires actor { (actor ≡ HOST) ⊎ (actor < length desks.old.items) }
-    requires few { length desks.old.items ≤ 64 }
+    requires few { length desks.old.items ≤ HOST }
     ensures { AreChanged desks.old.items desks.new.items (at_node actor with_busy_mark) }
 {
     if actor != HOST {
@@ -62,9 +61,9 @@ pub(crate) fn mark_busy(desks: &mut Vec<Desk>, actor: u32)
 pub(crate) fn start(desks: &mut Vec<Desk>, at: Place, image: u32) -> bool
     requires node { at.node < length desks.old.items }
     requires process { at.pid < process_count }
-    requires room { not (is_among at.pid (desk_at desks.old.items at.node).spawned) ≡ true
+    requires room { not (is_among at.pid (desk_at desks.old.items at.node).spawned_ids) ≡ true
         → HasStartRoom (desk_at desks.old.items at.node) }
-    ensures fresh { result ≡ not (is_among at.pid (desk_at desks.old.items at.node).spawned) }
+    ensures fresh { result ≡ not (is_among at.pid (desk_at desks.old.items at.node).spawned_ids) }
     ensures desks { AreChanged desks.old.items desks.new.items
         (at_node at.node (λ kept. if result then with_start at.pid image kept else kept)) }
 {
@@ -112,7 +111,7 @@ pub(crate) fn is_quiet(desks: &Vec<Desk>, grant: &Grant) -> bool
 // How many items wait at the nodes of a cube.
 pub(crate) fn waiting_count(desks: &Vec<Desk>, grant: &Grant) -> usize
     requires { IsOnDesks (length desks.now.items) grant.now.dim grant.now.sub }
-    ensures count { result ≡ length (flat_map (λ node. (desk_at desks.now.items node).waiting)
+    ensures count { result ≡ length (flat_map (λ node. (desk_at desks.now.items node).waiting_items)
         (map (node_of grant.now.sub) (range_with_len 0 (2 ^ grant.now.dim)))) }
     ensures within { result < 2 ^ 32 }
 {
@@ -127,13 +126,13 @@ pub(crate) fn waiting_count(desks: &Vec<Desk>, grant: &Grant) -> usize
 pub(crate) fn drain_nodes(desks: &mut Vec<Desk>, grant: &Grant, blocks: &mut Vec<Block>)
     requires sub { IsOnDesks (length desks.old.items) grant.now.dim grant.now.sub }
     requires room { length blocks.old.items
-        + length (flat_map (λ node. (desk_at desks.old.items node).waiting)
+        + length (flat_map (λ node. (desk_at desks.old.items node).waiting_items)
         (map (node_of grant.now.sub) (range_with_len 0 (2 ^ grant.now.dim))))
         ≤ vec_capacity blocks.old }
     ensures desks { AreChanged desks.old.items desks.new.items
         (at_nodes grant.now.sub without_items) }
     ensures blocks { blocks.new.items ≡ blocks.old.items ++ map (λ parcel. parcel.block)
-        (parcels_among (flat_map (λ node. (desk_at desks.old.items node).waiting)
+        (item_parcels (flat_map (λ node. (desk_at desks.old.items node).waiting_items)
         (map (node_of grant.now.sub) (range_with_len 0 (2 ^ grant.now.dim))))) }
     ensures capacity { vec_capacity blocks.new ≡ vec_capacity blocks.old }
 {
@@ -147,7 +146,7 @@ pub(crate) fn drain_nodes(desks: &mut Vec<Desk>, grant: &Grant, blocks: &mut Vec
 pub(crate) fn clear_nodes(desks: &mut Vec<Desk>, grant: &Grant)
     requires sub { IsOnDesks (length desks.old.items) grant.now.dim grant.now.sub }
     requires empty { (r : ℕ) → r < 2 ^ grant.now.dim
-        → (desk_at desks.old.items (node_of grant.now.sub r)).waiting ≡ [] }
+        → (desk_at desks.old.items (node_of grant.now.sub r)).waiting_items ≡ [] }
     ensures { AreChanged desks.old.items desks.new.items
         (at_nodes grant.now.sub (λ kept. blank_record)) }
 {
@@ -162,7 +161,7 @@ fn post(desks: &mut Vec<Desk>, host: &mut HostDesk, grant: &Grant, parcel: Parce
     requires sub { IsOnDesks (length desks.old.items) grant.now.dim grant.now.sub }
     requires place { IsInCube grant.now.dim parcel.to }
     requires at_node { parcel.to.node < 2 ^ grant.now.dim
-        → length (desk_at desks.old.items (node_of grant.now.sub parcel.to.node)).waiting
+        → length (desk_at desks.old.items (node_of grant.now.sub parcel.to.node)).waiting_items
         < node_room }
     requires at_host { parcel.to.node ≡ HOST → length host.old.mail < mail_room }
     ensures desks { AreChanged desks.old.items desks.new.items
@@ -203,12 +202,12 @@ pub(crate) fn post_all(
         ≡ record host.old { mail = host.old.mail ++ letters grant.now.sub from first batch HOST } }
     ensures targets { targets.new.items
         ≡ targets.old.items
-        ++ targets_renamed (place_outward grant.now.sub) (λ id. id) (targets_of batch) }
+        ++ renamed_targets (place_outward grant.now.sub) (λ id. id) (targets_of batch) }
     ensures empty { result ≡ [] }
 {
     let mut number = first;
     while let Some((to, block)) = batch.take_first() {
-        targets.push_reserved((outward(grant, to), block.id()));
+        targets.push_reserved((place_outward(grant, to), block.id()));
         let parcel = Parcel {
             from,
             to,
@@ -222,7 +221,7 @@ pub(crate) fn post_all(
 }
 
 // A place of the cube, by the machine's number for its node.
-pub(crate) fn outward(grant: &Grant, to: Place) -> Place
+pub(crate) fn place_outward(grant: &Grant, to: Place) -> Place
     requires sub { IsSubcube greatest_dim grant.now.dim grant.now.sub }
     requires place { (to.node < 2 ^ grant.now.dim) ⊎ (to.node ≡ HOST) }
     ensures { result ≡ place_outward grant.now.sub to }
@@ -237,10 +236,10 @@ pub(crate) fn outward(grant: &Grant, to: Place) -> Place
 }
 
 // The number by which a cube knows an actor.
-#[tactic(auto, unfolding(ce_model::specs::Subcubes::relative))]
-pub(crate) fn relative(sub: &Subcube, actor: u32) -> u32
+#[tactic(auto, unfolding(ce_model::specs::Subcubes::relative_number))]
+pub(crate) fn relative_number(sub: &Subcube, actor: u32) -> u32
     requires { sub.now.mask < 2 ^ greatest_dim }
-    ensures { result ≡ relative sub.now actor }
+    ensures { result ≡ relative_number sub.now actor }
 {
     if actor == HOST {
         HOST

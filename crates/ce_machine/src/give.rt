@@ -3,7 +3,7 @@ ghost use Rattle.rk_mail.specs.Talk.{is_of_take};
 ghost use Rattle.ce_model.specs.Parcels.{is_eligible};
 ghost use Rattle.ce_model.specs.Trace.{is_work, is_idle};
 ghost use Rattle.ce_model.specs.Answers.{offer_of};
-ghost use Rattle.ce_machine.specs.Gives.{item_in, given_in, item_for, items_left};
+ghost use Rattle.ce_machine.specs.Gives.{heard_item, given_in, chosen_item, items_left};
 
 use crate::desk::Desk;
 use ce_model::TakeResult;
@@ -20,11 +20,13 @@ pub(crate) fn offer(
     is_used_up: bool,
 ) -> Hearing
     ensures given { given_in result
-        ≡ offer_of (find (is_eligible asking dead) desk.old.waiting) poller is_used_up }
-    ensures item { item_in result ≡ item_for is_used_up asking dead desk.old.waiting }
+        ≡ offer_of (find (is_eligible asking dead) desk.old.waiting_items) poller is_used_up }
+    ensures item { heard_item result ≡ chosen_item is_used_up asking dead desk.old.waiting_items }
     ensures kind { IsTrue (is_of_take result) }
     ensures desk { desk.new
-        ≡ record desk.old { waiting = items_left is_used_up asking dead desk.old.waiting } }
+        ≡ record desk.old {
+          waiting_items = items_left is_used_up asking dead desk.old.waiting_items;
+        } }
 {
     if is_used_up {
         return match poller {

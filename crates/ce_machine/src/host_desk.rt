@@ -1,13 +1,11 @@
 ghost use Rattle.std.specs.Prelude.{◌≡◌, ℕ, ◌+◌, ◌<◌, ◌≤◌, ◌^◌, ◌==◌, if◌then◌else◌, false, true, List, [], ◌∷◌, ◌++◌, length, map, IfOk, IfSome, IfNone, option_to_list, vec_capacity};
-ghost use Rattle.ce_model.specs.Limits.{process_count};
-ghost use Rattle.ce_model.specs.Parcels.{mail, parcels_among};
+ghost use Rattle.ce_model.specs.Limits.{process_count, mail_room};
+ghost use Rattle.ce_model.specs.Parcels.{mail, item_parcels};
 ghost use Rattle.rk_mail.specs.Items.{item_of, parcel_of};
-ghost use Rattle.ce_machine.specs.Rooms.{mail_room};
 ghost use Rattle.ce_machine.specs.Tables.{blank_host};
 
 use crate::mail::take_blocks;
-use crate::room::MAIL_ROOM;
-use ce_model::NoMemory;
+use ce_model::{MAIL_ROOM, NoMemory};
 use rk_mail::{Item, Mailbox, Parcel};
 use std::alloc::Global;
 use std::marker::Model;
@@ -17,43 +15,43 @@ use xm_block::Block;
 /// many of them were made, how many parcels were sent in the cube, and what waits for the host, with room for all that can.
 #[derive(Drop)]
 pub(crate) struct HostDesk {
-    drained: bool,
-    armed: u32,
-    dispatched: u32,
+    is_drained: bool,
+    allowed_dispatches: u32,
+    made_dispatches: u32,
     parcel_count: u64,
     mailbox: Mailbox,
 }
 
 impl Model for HostDesk {
     ghost use Rattle.std.specs.Prelude.{◌≡◌, ◌+◌, ◌≤◌, length};
-    ghost use Rattle.ce_machine.specs.Rooms.{mail_room};
+    ghost use Rattle.ce_model.specs.Limits.{mail_room};
     ghost use Rattle.ce_machine.specs.Tables.{HostRecord};
 
     ghost Value = { HostRecord };
 
     ghost view = { λ host. record {
-      drained = host.drained;
-      armed = host.armed;
-      dispatched = host.dispatched;
+      is_drained = host.is_drained;
+      allowed_dispatches = host.allowed_dispatches;
+      made_dispatches = host.made_dispatches;
       parcel_count = host.parcel_count;
       mail = host.mailbox.items;
     } };
 
     ghost invariant = { λ host. (length host.mailbox.items + host.mailbox.spare ≡ mail_room)
-        × (host.dispatched ≤ host.armed) };
+        × (host.made_dispatches ≤ host.allowed_dispatches) };
 }
 
 impl HostDesk {
     /// The desk of the host of a user without a cube.
-    #[tactic(auto, using(crate::specs::Rooms::mail_room_lem))]
+    #[tactic(auto, using(ce_model::specs::Limits::mail_room_lem))]
     pub(crate) fn new(alloc: Global) -> Result<HostDesk, NoMemory>
         ensures { IfOk result (λ host. host ≡ blank_host) }
     {
         let mailbox = Mailbox::new(alloc, MAIL_ROOM)?;
         Ok(HostDesk {
-            drained: false,
-            armed: 0,
-            dispatched: 0,
+            is_drained: false,
+            allowed_dispatches: 0,
+            made_dispatches: 0,
             parcel_count: 0,
             mailbox,
         })
@@ -69,28 +67,30 @@ impl HostDesk {
 
     /// So many dispatches are allowed; none of them was made yet.
     pub(crate) fn arm(&mut self, count: u32)
-        ensures { self.new ≡ record self.old { armed = count; dispatched = 0 } }
+        ensures { self.new ≡ record self.old { allowed_dispatches = count; made_dispatches = 0 } }
     {
-        self.armed = count;
-        self.dispatched = 0;
+        self.allowed_dispatches = count;
+        self.made_dispatches = 0;
     }
 
     /// Whether the dispatches that are allowed are used up.
     pub(crate) fn is_used_up(&self) -> bool
-        ensures value { result ≡ (self.now.dispatched == self.now.armed) }
+        ensures value { result ≡ (self.now.made_dispatches == self.now.allowed_dispatches) }
     {
-        self.dispatched == self.armed
+        self.made_dispatches == self.allowed_dispatches
     }
 
     /// A node was answered, with work or not; an answer with work is a dispatch.
     pub(crate) fn dispatch(&mut self, is_work: bool)
-        requires { is_work ≡ true → (self.old.dispatched == self.old.armed) ≡ false }
+        requires { is_work ≡ true
+            → (self.old.made_dispatches == self.old.allowed_dispatches) ≡ false }
         ensures { self.new ≡ record self.old {
-          dispatched = if is_work then self.old.dispatched + 1 else self.old.dispatched;
+          made_dispatches = if is_work then self.old.made_dispatches + 1
+              else self.old.made_dispatches;
         } }
     {
         if is_work {
-            self.dispatched += 1;
+            self.made_dispatches += 1;
         }
     }
 
@@ -127,12 +127,12 @@ impl HostDesk {
     /// Takes all that waits out, and puts the blocks of the messages behind those that were taken before. The cube is drained.
     pub(crate) fn drain(&mut self, blocks: &mut Vec<Block>)
         requires { length blocks.old.items + length self.old.mail ≤ vec_capacity blocks.old }
-        ensures host { self.new ≡ record self.old { drained = true; mail = [] } }
+        ensures host { self.new ≡ record self.old { is_drained = true; mail = [] } }
         ensures blocks { blocks.new.items ≡ blocks.old.items
-            ++ map (λ parcel. parcel.block) (parcels_among self.old.mail) }
+            ++ map (λ parcel. parcel.block) (item_parcels self.old.mail) }
     {
         take_blocks(&mut self.mailbox, blocks);
-        self.drained = true;
+        self.is_drained = true;
     }
 
     /// Makes it the desk of the host of a user without a cube. Nothing waits.
@@ -140,9 +140,9 @@ impl HostDesk {
         requires { self.old.mail ≡ [] }
         ensures { self.new ≡ blank_host }
     {
-        self.drained = false;
-        self.armed = 0;
-        self.dispatched = 0;
+        self.is_drained = false;
+        self.allowed_dispatches = 0;
+        self.made_dispatches = 0;
         self.parcel_count = 0;
     }
 }

@@ -10,7 +10,6 @@ mod heads;
 mod host_desk;
 mod machine;
 mod mail;
-mod room;
 mod says;
 
 pub use call::{Call, Reply};

@@ -2,16 +2,15 @@
 ghost use Rattle.std.specs.Prelude.{◌≡◌, ℕ, ◌+◌, ◌^◌, ◌<◌, ◌≤◌, List, [], ◌∷◌, ◌++◌, length, vec_len, vec_capacity, IfOk, OnErr, OnOk, IsSome, Some};
 ghost use Rattle.ce_model.specs.Machine.{IsMachine, IsLawful};
 ghost use Rattle.ce_daemon.specs.Boxes.{AreBoxes};
-ghost use Rattle.ce_daemon.specs.Holding.{held_by};
-ghost use Rattle.ce_machine.specs.Rooms.{greatest_history};
+ghost use Rattle.ce_daemon.specs.Holding.{grant_held_by};
+ghost use Rattle.ce_model.specs.Limits.{greatest_history};
 
 use crate::desk::Desk;
 use crate::desks::{blank_desks, blank_hosts};
 use crate::host_desk::HostDesk;
-use crate::room::GREATEST_HISTORY;
 use ce_daemon::{Daemon, Grant, Homed};
 use ce_lock::Who;
-use ce_model::{Entry, NoMemory, What};
+use ce_model::{Entry, GREATEST_HISTORY, NoMemory, What};
 use rv_image::Image;
 use std::alloc::Global;
 use std::marker::Model;
@@ -100,7 +99,7 @@ impl<N: Homed> Machine<N> {
 }
 
 // Takes the memory of one entry more, unless the history is as long as it can be.
-#[tactic(auto, using(crate::specs::Rooms::greatest_history_lem))]
+#[tactic(auto, using(ce_model::specs::Limits::greatest_history_lem))]
 pub(crate) fn make_room(history: &mut Vec<Entry>) -> Result<(), NoMemory>
     ensures same { history.new.items ≡ history.old.items }
     ensures room { OnOk result (vec_len history.new < vec_capacity history.new) }
@@ -128,8 +127,8 @@ pub(crate) fn add_entry(history: &mut Vec<Entry>, who: Who, what: What)
 
 // The grant that a user holds.
 pub(crate) fn grant_of<N: Homed>(daemon: &Daemon<N>, user: u32) -> Grant
-    requires { IsSome (held_by daemon.now user) }
-    ensures { held_by daemon.now user ≡ Some result }
+    requires { IsSome (grant_held_by daemon.now user) }
+    ensures { grant_held_by daemon.now user ≡ Some result }
 {
     match daemon.grant_of(user) {
         Some(grant) => grant,

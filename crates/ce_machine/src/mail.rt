@@ -1,5 +1,5 @@
 ghost use Rattle.std.specs.Prelude.{◌≡◌, ◌+◌, ◌≤◌, [], ◌++◌, length, map, vec_capacity};
-ghost use Rattle.ce_model.specs.Parcels.{parcels_among};
+ghost use Rattle.ce_model.specs.Parcels.{item_parcels};
 
 use rk_mail::{Item, Mailbox};
 use xm_block::Block;
@@ -10,7 +10,7 @@ pub(crate) fn take_blocks(mailbox: &mut Mailbox, blocks: &mut Vec<Block>)
     ensures none { mailbox.new.items ≡ [] }
     ensures spare { mailbox.new.spare ≡ mailbox.old.spare + length mailbox.old.items }
     ensures blocks { blocks.new.items
-        ≡ blocks.old.items ++ map (λ parcel. parcel.block) (parcels_among mailbox.old.items) }
+        ≡ blocks.old.items ++ map (λ parcel. parcel.block) (item_parcels mailbox.old.items) }
     ensures capacity { vec_capacity blocks.new ≡ vec_capacity blocks.old }
 {
     while let Some(item) = mailbox.take_first() {

@@ -2,18 +2,17 @@
 ghost use Rattle.std.specs.Prelude.{◌≡◌, ◌≤◌, [], if◌then◌else◌, length, vec_capacity, IfOk, IfErr, OnErr};
 ghost use Rattle.rk_mail.specs.Targets.{bytes_of, HasEqualBytes};
 ghost use Rattle.ce_model.specs.Limits.{greatest_targets};
-ghost use Rattle.rk_mail.specs.Talk.{heard_of_kill};
 ghost use Rattle.ce_machine.specs.Requests.{IsFittingCall};
 ghost use Rattle.ce_machine.specs.Answering.{HasAnswered};
 
-use crate::desks::{kill, mark_busy, outward, post_all, relative, start};
+use crate::desks::{kill, mark_busy, place_outward, post_all, relative_number, start};
 use crate::give::{given_of, is_idle, is_work, offer};
 use crate::machine::{add_entry, grant_of, make_room};
 use crate::{Call, Machine, Reply};
 use ce_daemon::Homed;
 use ce_lock::Who;
-use ce_model::{BlockId, Bytes, KillFound, NoMemory, Place, Targets, What};
-use rk_mail::{Batch, Hearing, Say};
+use ce_model::{BlockId, Bytes, NoMemory, Place, Targets, What};
+use rk_mail::{Batch, Hearing, Say, heard_of_kill, heard_of_spawn};
 use std::alloc::Global;
 
 impl<N: Homed> Machine<N> {
@@ -122,7 +121,7 @@ impl<N: Homed> Machine<N> {
         };
         let grant = grant_of(&self.daemon, who.family);
         let from = Place {
-            node: relative(&grant.sub, who.actor),
+            node: relative_number(&grant.sub, who.actor),
             pid,
         };
         let host = &mut self.hosts[who.family as usize];
@@ -153,7 +152,7 @@ impl<N: Homed> Machine<N> {
     {
         make_room(&mut self.history)?;
         let grant = grant_of(&self.daemon, who.family);
-        let place = outward(&grant, to);
+        let place = place_outward(&grant, to);
         let fresh = start(&mut self.desks, place, image);
         mark_busy(&mut self.desks, who.actor);
         let heard = heard_of_spawn(fresh);
@@ -180,7 +179,7 @@ impl<N: Homed> Machine<N> {
     {
         make_room(&mut self.history)?;
         let grant = grant_of(&self.daemon, who.family);
-        let place = outward(&grant, to);
+        let place = place_outward(&grant, to);
         let found = kill(&mut self.desks, place);
         mark_busy(&mut self.desks, who.actor);
         let heard = heard_of_kill(found);
@@ -228,26 +227,4 @@ fn room_for(alloc: Global, batch: &Batch) -> Result<(Vec<(Place, BlockId)>, Byte
         batch.bytes().to_vec(alloc)?
     };
     Ok((to, Bytes::from_vec(bytes)))
-}
-
-// What a process hears of its spawn.
-fn heard_of_spawn(fresh: bool) -> Hearing
-    ensures { result ≡ (if fresh then Hearing.Spawned else Hearing.Used) }
-{
-    if fresh {
-        Hearing::Spawned
-    } else {
-        Hearing::Used
-    }
-}
-
-// What a process hears of its kill.
-fn heard_of_kill(found: KillFound) -> Hearing
-    ensures { result ≡ heard_of_kill found }
-{
-    match found {
-        KillFound::Killed => Hearing::Killed,
-        KillFound::Unused => Hearing::Unused,
-        KillFound::Already => Hearing::Already,
-    }
 }

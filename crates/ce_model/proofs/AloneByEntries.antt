@@ -5,48 +5,48 @@ use Rattle.ce_model.specs.declared.topology.Place.{Place}
 use Rattle.ce_model.specs.declared.topology.BlockId.{BlockId}
 use Rattle.ce_model.specs.declared.entry.Entry.{Entry}
 use Rattle.ce_model.specs.Lists.{EachAfter}
-use Rattle.ce_model.specs.Node.{Call, takes, sends, spawns, kills, notes, arms, looks, takes_mail, is_place}
+use Rattle.ce_model.specs.Node.{Call, take_call, send_call, spawn_call, kill_call, note_call, arm_call, look_call, mail_call, is_place}
 use Rattle.ce_model.specs.Trace.{Standing, standing}
-use Rattle.ce_model.specs.Answers.{answer, call_of}
-use Rattle.ce_model.specs.Cube.{Cube, CubeState, HostCall, send_bytes, start_image, end_process, allow, look_round, take_message, host_call, asked_by, call_by, entry_by, next_entry, Solo, acts, solo_from, whole_trace, solo, asked_in, host_calls, actors, hoststore, is_node, next_call, node_numbers, IsNext, IsAloneFrom}
+use Rattle.ce_model.specs.Answers.{answer, recorded_call}
+use Rattle.ce_model.specs.Cube.{Cube, CubeState, HostCall, send_bytes, start_image, end_process, allow, look_round, take_message, host_call, asked_host_call, actor_call, actor_entry, next_entry, Solo, next_solo, continued_solo, whole_trace, solo, entry_host_call, host_calls, actors, hoststore, is_node, next_call, node_numbers, IsNext, IsAloneFrom}
 use Rattle.ce_model.proofs.Walked.{one_further}
 
 -- ---- what an entry tells of its call
 
 -- an entry is of the call that made it
-pub call_of-answer : (nodes : List ℕ) (s : Standing) (actor : ℕ) (call : Call) → call_of (answer nodes s actor call) ≡ Some call
+pub call_of-answer : (nodes : List ℕ) (s : Standing) (actor : ℕ) (call : Call) → recorded_call (answer nodes s actor call) ≡ Some call
 unfolding answer
-call_of-answer nodes s actor (takes asking dead poller) = refl
-call_of-answer nodes s actor (sends pid to bytes) = refl
-call_of-answer nodes s actor (spawns pid image to) = refl
-call_of-answer nodes s actor (kills pid to) = refl
-call_of-answer nodes s actor (notes pid word) = refl
-call_of-answer nodes s actor (arms count) = refl
-call_of-answer nodes s actor looks = refl
-call_of-answer nodes s actor takes_mail = refl
+call_of-answer nodes s actor (take_call asking dead poller) = refl
+call_of-answer nodes s actor (send_call pid to bytes) = refl
+call_of-answer nodes s actor (spawn_call pid image to) = refl
+call_of-answer nodes s actor (kill_call pid to) = refl
+call_of-answer nodes s actor (note_call pid word) = refl
+call_of-answer nodes s actor (arm_call count) = refl
+call_of-answer nodes s actor look_call = refl
+call_of-answer nodes s actor mail_call = refl
 
 chosen : {X : Type 0} (b : Bool) (x : Option X) (y : X) → (if b then x else None) ≡ Some y → x ≡ Some y
 chosen true x y e = e
 chosen false x y e = cc
 
 sent_back : (to : Place) (bytes : List ℕ) (least : Option BlockId) (call : Call)
-    → option_map (λ id. sends 0 ((to, id) ∷ []) bytes) least ≡ Some call → asked_by call ≡ Some (send_bytes to bytes)
+    → option_map (λ id. send_call 0 ((to, id) ∷ []) bytes) least ≡ Some call → asked_host_call call ≡ Some (send_bytes to bytes)
 sent_back to bytes None call e = cc
-sent_back to bytes (Some id) call e = ap (option_and_then asked_by) (sym e)
+sent_back to bytes (Some id) call e = ap (option_and_then asked_host_call) (sym e)
 
 -- a host's call tells what its user asked for
-pub asked_by-host_call : (cube : Cube) (store : List BlockId) (asked : HostCall) (call : Call)
-    → host_call cube store asked ≡ Some call → asked_by call ≡ Some asked
-asked_by-host_call cube store (send_bytes to bytes) call e =
+pub asked_host_call-host_call : (cube : Cube) (store : List BlockId) (asked : HostCall) (call : Call)
+    → host_call cube store asked ≡ Some call → asked_host_call call ≡ Some asked
+asked_host_call-host_call cube store (send_bytes to bytes) call e =
     sent_back to bytes (slice_get store 0) call
-    (chosen (is_place cube.dim to) (option_map (λ id. sends 0 ((to, id) ∷ []) bytes) (slice_get store 0)) call e)
-asked_by-host_call cube store (start_image image to) call e =
-    ap (option_and_then asked_by) (sym (chosen (is_place cube.dim to && nat_lt image (length cube.images)) (Some (spawns 0 image to)) call e))
-asked_by-host_call cube store (end_process to) call e =
-    ap (option_and_then asked_by) (sym (chosen (is_place cube.dim to) (Some (kills 0 to)) call e))
-asked_by-host_call cube store (allow count) call e = ap (option_and_then asked_by) (sym e)
-asked_by-host_call cube store look_round call e = ap (option_and_then asked_by) (sym e)
-asked_by-host_call cube store take_message call e = ap (option_and_then asked_by) (sym e)
+    (chosen (is_place cube.dim to) (option_map (λ id. send_call 0 ((to, id) ∷ []) bytes) (slice_get store 0)) call e)
+asked_host_call-host_call cube store (start_image image to) call e =
+    ap (option_and_then asked_host_call) (sym (chosen (is_place cube.dim to && nat_lt image (length cube.images)) (Some (spawn_call 0 image to)) call e))
+asked_host_call-host_call cube store (end_process to) call e =
+    ap (option_and_then asked_host_call) (sym (chosen (is_place cube.dim to) (Some (kill_call 0 to)) call e))
+asked_host_call-host_call cube store (allow count) call e = ap (option_and_then asked_host_call) (sym e)
+asked_host_call-host_call cube store look_round call e = ap (option_and_then asked_host_call) (sym e)
+asked_host_call-host_call cube store take_message call e = ap (option_and_then asked_host_call) (sym e)
 
 -- ---- the next entry
 
@@ -63,27 +63,27 @@ none_of_host cube o t actor a = rw a refl
 -- what is known of an entry that is its actor's next one: the call that made it
 pub record IsMade (cube : Cube) (o : CubeState) (t : List Entry) (actor : ℕ) (asked : Option HostCall) (entry : Entry) : Type 0 where
   pub call : Call
-  pub made : call_by cube o t actor asked ≡ Some call
-  pub is : entry ≡ entry_by cube o t actor call
+  pub made : actor_call cube o t actor asked ≡ Some call
+  pub is : entry ≡ actor_entry cube o t actor call
 
 made_by : (cube : Cube) (o : CubeState) (t : List Entry) (actor : ℕ) (asked : Option HostCall) (entry : Entry) (call : Option Call)
-    → call_by cube o t actor asked ≡ call → option_map (entry_by cube o t actor) call ≡ Some entry → IsMade cube o t actor asked entry
+    → actor_call cube o t actor asked ≡ call → option_map (actor_entry cube o t actor) call ≡ Some entry → IsMade cube o t actor asked entry
 made_by cube o t actor asked entry None m e = cc
 made_by cube o t actor asked entry (Some call) m e = record { call = call; made = m; is = ap (λ made. elim made [ None ↦ entry | Some x ↦ x ]) (sym e) }
 
 pub is_made : (cube : Cube) (o : CubeState) (t : List Entry) (actor : ℕ) (asked : Option HostCall) (entry : Entry)
     → next_entry cube o t actor asked ≡ Some entry → IsMade cube o t actor asked entry
 unfolding next_entry
-is_made cube o t actor asked entry e = made_by cube o t actor asked entry (call_by cube o t actor asked) refl e
+is_made cube o t actor asked entry e = made_by cube o t actor asked entry (actor_call cube o t actor asked) refl e
 
 -- the call that a host makes is the one of what is asked of it
 host_asked : (cube : Cube) (store : List BlockId) (asked : Option HostCall) (call : Call)
-    → option_and_then (host_call cube store) asked ≡ Some call → asked_by call ≡ asked
+    → option_and_then (host_call cube store) asked ≡ Some call → asked_host_call call ≡ asked
 host_asked cube store None call e = cc
-host_asked cube store (Some asked) call e = asked_by-host_call cube store asked call e
+host_asked cube store (Some asked) call e = asked_host_call-host_call cube store asked call e
 
 asked_in_made : (cube : Cube) (o : CubeState) (t : List Entry) (actor : ℕ) (asked : Option HostCall) (call : Call)
-    → (actor == HOST) ≡ true → call_by cube o t actor asked ≡ Some call → asked_in (entry_by cube o t actor call) ≡ asked
+    → (actor == HOST) ≡ true → actor_call cube o t actor asked ≡ Some call → entry_host_call (actor_entry cube o t actor call) ≡ asked
 asked_in_made cube o t actor asked call a m =
     rw (a, call_of-answer (node_numbers cube.dim) (standing o.standing t) actor call)
     (host_asked cube (hoststore o t) asked call (subst (λ b. (if b then option_and_then (host_call cube (hoststore o t)) asked else
@@ -93,61 +93,61 @@ asked_in_made cube o t actor asked call a m =
 
 -- the trace of the end, where nothing more is asked of the host
 abbrev end_trace : Solo → Option (List Entry)
-end_trace end = whole_trace end.trace end.asked
+end_trace end = whole_trace end.trace end.calls_left
 
 -- the cube with this trace, of whose host this is still asked
 abbrev pub solo_at : List Entry → List HostCall → Solo
-solo_at t asked = record { trace = t; asked = asked }
+solo_at t asked = record { trace = t; calls_left = asked }
 
 -- one actor more acts
 abbrev pub acts_more : Cube → CubeState → Option Solo → ℕ → Option Solo
-acts_more cube o now actor = option_and_then (λ solo. acts cube o solo actor) now
+acts_more cube o now actor = option_and_then (λ solo. next_solo cube o solo actor) now
 
 host_acts : (cube : Cube) (o : CubeState) (t : List Entry) (entry : Entry) (asked : Option HostCall) (others : List HostCall)
     → (entry.actor == HOST) ≡ true → next_entry cube o t entry.actor asked ≡ Some entry
-    → acts cube o (solo_at t (filter_map (λ (x : Option HostCall). x) (asked ∷ []) ++ others)) entry.actor ≡ Some (solo_at (t ++ entry ∷ []) others)
+    → next_solo cube o (solo_at t (filter_map (λ (x : Option HostCall). x) (asked ∷ []) ++ others)) entry.actor ≡ Some (solo_at (t ++ entry ∷ []) others)
 host_acts cube o t entry None others a e = let n = none_of_host cube o t entry.actor a in cc
 host_acts cube o t entry (Some call) others a e = rw (e, a) refl
 
 node_acts : (cube : Cube) (o : CubeState) (t : List Entry) (entry : Entry) (asked : Option HostCall) (others : List HostCall)
     → (entry.actor == HOST) ≡ false → next_entry cube o t entry.actor asked ≡ Some entry
-    → acts cube o (solo_at t others) entry.actor ≡ Some (solo_at (t ++ entry ∷ []) others)
+    → next_solo cube o (solo_at t others) entry.actor ≡ Some (solo_at (t ++ entry ∷ []) others)
 node_acts cube o t entry asked others a e =
     rw (next_of_node cube o t entry.actor (slice_get others 0) asked a, e, a) refl
 
 -- what is asked of the host in the first entry stands before what is asked later
 asked_first : (entry : Entry) (behind : List Entry) (more : List HostCall)
-    → host_calls (entry ∷ behind) ++ more ≡ filter_map (λ (x : Option HostCall). x) (asked_in entry ∷ []) ++ (host_calls behind ++ more)
-asked_first entry behind more = first_option (asked_in entry) (host_calls behind) more
+    → host_calls (entry ∷ behind) ++ more ≡ filter_map (λ (x : Option HostCall). x) (entry_host_call entry ∷ []) ++ (host_calls behind ++ more)
+asked_first entry behind more = first_option (entry_host_call entry) (host_calls behind) more
   where
     first_option : (x : Option HostCall) (calls more : List HostCall)
         → Rattle.std.specs.List.cons_option x calls ++ more ≡ filter_map (λ (y : Option HostCall). y) (x ∷ []) ++ (calls ++ more)
     first_option None calls more = refl
     first_option (Some call) calls more = refl
 
-not_asked : (entry : Entry) → (entry.actor == HOST) ≡ false → asked_in entry ≡ None
+not_asked : (entry : Entry) → (entry.actor == HOST) ≡ false → entry_host_call entry ≡ None
 not_asked entry a = rw a refl
 
 one_acts : (cube : Cube) (o : CubeState) (t : List Entry) (entry : Entry) (others : List HostCall) (b : Bool) → (entry.actor == HOST) ≡ b
     → IsNext cube o t entry
-    → acts cube o (solo_at t (filter_map (λ (x : Option HostCall). x) (asked_in entry ∷ []) ++ others)) entry.actor ≡ Some (solo_at (t ++ entry ∷ []) others)
-one_acts cube o t entry others true a e = host_acts cube o t entry (asked_in entry) others a e
+    → next_solo cube o (solo_at t (filter_map (λ (x : Option HostCall). x) (entry_host_call entry ∷ []) ++ others)) entry.actor ≡ Some (solo_at (t ++ entry ∷ []) others)
+one_acts cube o t entry others true a e = host_acts cube o t entry (entry_host_call entry) others a e
 one_acts cube o t entry others false a e =
-    ap (λ x. acts cube o (solo_at t (filter_map (λ (y : Option HostCall). y) (x ∷ []) ++ others)) entry.actor) (not_asked entry a)
-    ∙ node_acts cube o t entry (asked_in entry) others a e
+    ap (λ x. next_solo cube o (solo_at t (filter_map (λ (y : Option HostCall). y) (x ∷ []) ++ others)) entry.actor) (not_asked entry a)
+    ∙ node_acts cube o t entry (entry_host_call entry) others a e
 
 entries_act : (cube : Cube) (o : CubeState) (more : List HostCall) (before behind : List Entry) → EachAfter (IsNext cube o) before behind
     → fold (acts_more cube o) (Some (solo_at before (host_calls behind ++ more))) (actors behind) ≡ Some (solo_at (before ++ behind) more)
 entries_act cube o more before [] each = ap (λ t. Some (solo_at t more)) (sym (append-nil before))
 entries_act cube o more before (entry ∷ behind) each =
-    ap (λ asked. fold (acts_more cube o) (acts cube o (solo_at before asked) entry.actor) (actors behind)) (asked_first entry behind more)
+    ap (λ asked. fold (acts_more cube o) (next_solo cube o (solo_at before asked) entry.actor) (actors behind)) (asked_first entry behind more)
     ∙ ap (λ now. fold (acts_more cube o) now (actors behind))
     (one_acts cube o before entry (host_calls behind ++ more) (entry.actor == HOST) refl each.0)
     ∙ entries_act cube o more (before ++ entry ∷ []) behind each.1
     ∙ ap (λ t. Some (solo_at t more)) (one_further before entry behind)
 
 pub alone_by_entries : (cube : Cube) (o : CubeState) (t : List Entry) → EachAfter (IsNext cube o) [] t → IsAloneFrom cube o t
-unfolding solo solo_from
+unfolding solo continued_solo
 alone_by_entries cube o t each =
     ap (λ calls. option_and_then end_trace (fold (acts_more cube o) (Some (solo_at [] calls)) (actors t))) (sym (append-nil (host_calls t)))
     ∙ ap (option_and_then end_trace) (entries_act cube o [] [] t each)
@@ -160,7 +160,7 @@ pub record AreAdded (cube : Cube) (o : CubeState) (before : List Entry) (asked :
   pub whole : before ++ behind ≡ end.trace
   pub order : actors behind ≡ schedule
   pub each : EachAfter (IsNext cube o) before behind
-  pub calls : host_calls behind ++ end.asked ≡ asked
+  pub calls : host_calls behind ++ end.calls_left ≡ asked
 
 nothing_acts : (cube : Cube) (o : CubeState) (schedule : List ℕ) (end : Solo) → fold (acts_more cube o) None schedule ≡ Some end → ⊥
 nothing_acts cube o [] end e = cc
@@ -177,20 +177,20 @@ asked_of_host cube o t actor (call ∷ asked) entry a e = refl
 pub record IsOwnNext (cube : Cube) (o : CubeState) (t : List Entry) (actor : ℕ) (asked : List HostCall) (entry : Entry) : Type 0 where
   pub actor_is : entry.actor ≡ actor
   pub next : IsNext cube o t entry
-  pub calls : filter_map (λ (x : Option HostCall). x) (asked_in entry ∷ []) ++ (if actor == HOST then drop 1 asked else asked) ≡ asked
+  pub calls : filter_map (λ (x : Option HostCall). x) (entry_host_call entry ∷ []) ++ (if actor == HOST then drop 1 asked else asked) ≡ asked
 
 own_next : (cube : Cube) (o : CubeState) (t : List Entry) (actor : ℕ) (asked : List HostCall) (call : Call) (b : Bool) → (actor == HOST) ≡ b
-    → call_by cube o t actor (slice_get asked 0) ≡ Some call
-    → next_entry cube o t actor (slice_get asked 0) ≡ Some (entry_by cube o t actor call)
-    → IsOwnNext cube o t actor asked (entry_by cube o t actor call)
+    → actor_call cube o t actor (slice_get asked 0) ≡ Some call
+    → next_entry cube o t actor (slice_get asked 0) ≡ Some (actor_entry cube o t actor call)
+    → IsOwnNext cube o t actor asked (actor_entry cube o t actor call)
 own_next cube o t actor asked call true a m e = record {
   actor_is = refl;
   next = rw (asked_in_made cube o t actor (slice_get asked 0) call a m) e;
-  calls = rw (asked_in_made cube o t actor (slice_get asked 0) call a m, a) (asked_of_host cube o t actor asked (entry_by cube o t actor call) a e);
+  calls = rw (asked_in_made cube o t actor (slice_get asked 0) call a m, a) (asked_of_host cube o t actor asked (actor_entry cube o t actor call) a e);
 }
 own_next cube o t actor asked call false a m e = record {
   actor_is = refl;
-  next = next_of_node cube o t actor (asked_in (entry_by cube o t actor call)) (slice_get asked 0) a ∙ e;
+  next = next_of_node cube o t actor (entry_host_call (actor_entry cube o t actor call)) (slice_get asked 0) a ∙ e;
   calls = rw (a) refl;
 }
 
@@ -210,8 +210,8 @@ add_first cube o before actor asked schedule end entry own added = record {
   whole = sym (one_further before entry added.behind) ∙ added.whole;
   order = rw (own.actor_is, added.order) refl;
   each = (own.next, added.each);
-  calls = asked_first entry added.behind end.asked
-      ∙ ap (λ rest. filter_map (λ (x : Option HostCall). x) (asked_in entry ∷ []) ++ rest) added.calls ∙ own.calls;
+  calls = asked_first entry added.behind end.calls_left
+      ∙ ap (λ rest. filter_map (λ (x : Option HostCall). x) (entry_host_call entry ∷ []) ++ rest) added.calls ∙ own.calls;
 }
 
 -- the first actor of a schedule adds its entry, and the others add theirs
@@ -232,7 +232,7 @@ schedule_adds cube o [] before asked end e = record {
   whole = append-nil before ∙ ap (λ now. elim now [ None ↦ before | Some solo ↦ solo.trace ]) e;
   order = refl;
   each = tt;
-  calls = sym (ap (λ now. elim now [ None ↦ asked | Some solo ↦ solo.asked ]) e);
+  calls = sym (ap (λ now. elim now [ None ↦ asked | Some solo ↦ solo.calls_left ]) e);
 }
 schedule_adds cube o (actor ∷ schedule) before asked end e =
     first_adds cube o before actor asked schedule end
@@ -243,7 +243,7 @@ ended_with : (cube : Cube) (o : CubeState) (asked : List HostCall) (schedule : L
     → fold (acts_more cube o) (Some (solo_at [] asked)) schedule ≡ now → option_and_then end_trace now ≡ Some t
     → AreAdded cube o [] asked schedule (solo_at t [])
 ended_with cube o asked schedule t None f e = cc
-ended_with cube o asked schedule t (Some now) f e = ended_at now.asked f e
+ended_with cube o asked schedule t (Some now) f e = ended_at now.calls_left f e
   where
     ended_at : (left : List HostCall) → fold (acts_more cube o) (Some (solo_at [] asked)) schedule ≡ Some (solo_at now.trace left)
         → option_and_then end_trace (Some (solo_at now.trace left)) ≡ Some t → AreAdded cube o [] asked schedule (solo_at t [])
@@ -251,7 +251,7 @@ ended_with cube o asked schedule t (Some now) f e = ended_at now.asked f e
     ended_at (call ∷ calls) f e = cc
 
 pub entries_of_alone : (cube : Cube) (o : CubeState) (t : List Entry) → IsAloneFrom cube o t → EachAfter (IsNext cube o) [] t
-unfolding solo solo_from
+unfolding solo continued_solo
 entries_of_alone cube o t e =
     let added = ended_with cube o (host_calls t) (actors t) t (fold (acts_more cube o) (Some (solo_at [] (host_calls t))) (actors t)) refl e in
     subst (EachAfter (IsNext cube o) []) added.whole added.each

@@ -7,7 +7,7 @@ use Rattle.std.proofs.lemmas.List.Elements.{All-append, All-nil, All-cons, All-h
 use Rattle.std.proofs.lemmas.Nat.Bits.{bit_at_lowest, bit_at-suc, bit_at-zero}
 use Rattle.ce_model.specs.declared.topology.Subcube.{Subcube}
 use Rattle.ce_model.specs.Limits.{greatest_dim}
-use Rattle.ce_model.specs.Subcubes.{extracted_bits, extract, deposited_bits, deposit, node_of, is_inside, ones_of, IsPart, all_nodes, IsSubcube, is_base, subcube_at, with_mask, subcubes, first_free}
+use Rattle.ce_model.specs.Subcubes.{extracted_bits, extract, deposited_bits, deposit, node_of, is_inside, ones_of, IsPart, all_nodes, IsSubcube, is_base, masked_subcube, with_mask, subcubes, first_free}
 
 -- ---- one bit of the mask after the other
 
@@ -339,7 +339,7 @@ unfolding subcubes
 all_subcubes dim d =
     all_images (λ sub. IsSubcube dim d sub) (with_mask (2 ^ dim)) (λ mask. ones_of greatest_dim mask == d) 0 (2 ^ dim)
     (λ mask mask_in ones.
-    all_picked (λ sub. IsSubcube dim d sub) (subcube_at mask) (is_base mask) 0 (2 ^ dim)
+    all_picked (λ sub. IsSubcube dim d sub) (masked_subcube mask) (is_base mask) 0 (2 ^ dim)
     (λ base base_in is_apart. record {
       mask_within = omega arith;
       base_within = omega arith;

@@ -1,21 +1,21 @@
 -- Lists that are walked from the front: one member more at the end, and properties that each member keeps.
 use Rattle.std.proofs.Common.{◌≡◌, List, [], ◌∷◌, ◌++◌, refl, ap, sym, ◌∙◌, subst, append_assoc, append-nil}
-use Rattle.ce_model.specs.Lists.{walk_on, walk, EachAfter}
+use Rattle.ce_model.specs.Lists.{fold_behind, fold_with_front, EachAfter}
 
 -- a list with a member in its midst: the member may stand at the end of the first part
 pub one_further : {X : Type 0} (before : List X) (x : X) (behind : List X) → (before ++ x ∷ []) ++ behind ≡ before ++ x ∷ behind
 one_further before x behind = append_assoc before (x ∷ []) behind
 
 pub walked_on-more : {S X : Type 0} (step : List X → S → X → S) (before : List X) (state : S) (xs : List X) (x : X)
-    → walk_on step before state (xs ++ x ∷ []) ≡ step (before ++ xs) (walk_on step before state xs) x
+    → fold_behind step before state (xs ++ x ∷ []) ≡ step (before ++ xs) (fold_behind step before state xs) x
 walked_on-more step before state [] x = rw (append-nil before) refl
 walked_on-more step before state (y ∷ ys) x =
     walked_on-more step (before ++ y ∷ []) (step before state y) ys x
-    ∙ ap (λ b. step b (walk_on step (before ++ y ∷ []) (step before state y) ys) x) (one_further before y ys)
+    ∙ ap (λ b. step b (fold_behind step (before ++ y ∷ []) (step before state y) ys) x) (one_further before y ys)
 
 -- the last step sees all members before its own
 pub walked-more : {S X : Type 0} (step : List X → S → X → S) (state : S) (xs : List X) (x : X)
-    → walk step state (xs ++ x ∷ []) ≡ step xs (walk step state xs) x
+    → fold_with_front step state (xs ++ x ∷ []) ≡ step xs (fold_with_front step state xs) x
 walked-more step state xs x = walked_on-more step [] state xs x
 
 -- what each member keeps, of all before it and itself, holds of the whole

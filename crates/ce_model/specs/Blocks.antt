@@ -11,13 +11,13 @@ pub record Block : Type 0 where
   pub bytes : List ℕ
 
 -- names are ordered by home, and those of one home by index
-abbrev pub precedes : BlockId → BlockId → Bool
-precedes a b = nat_lt a.home b.home || (a.home == b.home && nat_lt a.index b.index)
+abbrev pub is_lower : BlockId → BlockId → Bool
+is_lower a b = nat_lt a.home b.home || (a.home == b.home && nat_lt a.index b.index)
 
 -- a list of names that rises, with one name more in its place
 abbrev pub put : BlockId → List BlockId → List BlockId
 put id [] = id ∷ []
-put id (other ∷ ids) = if precedes id other then id ∷ other ∷ ids else other ∷ put id ids
+put id (other ∷ ids) = if is_lower id other then id ∷ other ∷ ids else other ∷ put id ids
 
 -- several names more
 abbrev pub put_all : List BlockId → List BlockId → List BlockId

@@ -11,16 +11,16 @@ use Rattle.ce_model.specs.declared.entry.What.TheVariants.{HostTake, Send, Spawn
 use Rattle.ce_model.specs.declared.entry.KillFound.{KillFound}
 use Rattle.ce_model.specs.declared.entry.KillFound.TheVariants.{Killed, Unused, Already}
 use Rattle.ce_model.specs.declared.entry.TakeResult.{TakeResult}
-use Rattle.ce_model.specs.declared.entry.TakeResult.TheVariants.{Start as GivenStart, Mail as GivenMail, Kill as GivenKill, Poll as GivenPoll, Idle, Spent}
+use Rattle.ce_model.specs.declared.entry.TakeResult.TheVariants as take_result
 use Rattle.ce_model.specs.Limits.{greatest_dim, greatest_users, greatest_images, host_home}
-use Rattle.ce_model.specs.Lists.{walk}
+use Rattle.ce_model.specs.Lists.{fold_with_front}
 use Rattle.ce_model.specs.Blocks.{put, without_id, blocks_of_home}
 use Rattle.ce_model.specs.Parcels.{Parcel, Item, is_named_by, parcel_in}
-use Rattle.ce_model.specs.Node.{Node, fresh, is_place, Call, sends, spawns, kills, arms, looks, takes_mail, takes, notes}
+use Rattle.ce_model.specs.Node.{Node, opening_node, is_place, Call, send_call, spawn_call, kill_call, arm_call, look_call, mail_call, take_call, note_call}
 use Rattle.ce_model.specs.Saying.{says}
-use Rattle.ce_model.specs.Hearing.{Hearing, start_of, mail_of, kill_of, poll_of, told, nothing, hears}
+use Rattle.ce_model.specs.Hearing.{Hearing, start_of, mail_of, kill_of, poll_of, answer_of, nothing, node_after_hearing}
 use Rattle.ce_model.specs.Trace.{Standing, blank_record, waiting_items, standing}
-use Rattle.ce_model.specs.Answers.{answer, call_of}
+use Rattle.ce_model.specs.Answers.{answer, recorded_call}
 
 -- a cube: whose it is, its dimension, and the images that its processes start from
 pub record Cube : Type 0 where
@@ -52,11 +52,11 @@ pub record CubeState : Type 0 where
 -- a cube that has just been granted: nothing was spawned, sent or allowed, and each block is at home
 abbrev pub opening : Cube → CubeState
 opening cube = record {
-  node = λ r. fresh r cube.dim (length cube.images);
+  node = λ r. opening_node r cube.dim (length cube.images);
   standing = record {
     node_record = λ r. blank_record;
-    armed = 0;
-    dispatched = 0;
+    allowed_dispatches = 0;
+    made_dispatches = 0;
     parcel_count = 0;
   };
   hoststore = blocks_of_home host_home;
@@ -66,21 +66,21 @@ opening cube = record {
 
 -- the parcel of this number among those that wait
 abbrev pub parcel_numbered : ℕ → List Item → Option Parcel
-parcel_numbered number items = option_and_then parcel_in (find (is_named_by (GivenMail 0 number)) items)
+parcel_numbered number items = option_and_then parcel_in (find (is_named_by (take_result.Mail 0 number)) items)
 
 -- a parcel is handed to the node, if there is one
-abbrev pub heard_parcel : Option Parcel → Hearing
-heard_parcel None = nothing
-heard_parcel (Some parcel) = mail_of parcel
+abbrev pub hearing_of_parcel : Option Parcel → Hearing
+hearing_of_parcel None = nothing
+hearing_of_parcel (Some parcel) = mail_of parcel
 
 -- what a node hears that is given this; of a parcel the entry has the number alone
-abbrev pub heard_given : List Item → TakeResult → Hearing
-heard_given items (GivenStart pid image) = start_of pid image
-heard_given items (GivenMail pid number) = heard_parcel (parcel_numbered number items)
-heard_given items (GivenKill pid) = kill_of pid
-heard_given items (GivenPoll pid) = poll_of pid
-heard_given items Idle = nothing
-heard_given items Spent = nothing
+abbrev pub hearing_of_result : List Item → TakeResult → Hearing
+hearing_of_result items (take_result.Start pid image) = start_of pid image
+hearing_of_result items (take_result.Mail pid number) = hearing_of_parcel (parcel_numbered number items)
+hearing_of_result items (take_result.Kill pid) = kill_of pid
+hearing_of_result items (take_result.Poll pid) = poll_of pid
+hearing_of_result items take_result.Idle = nothing
+hearing_of_result items take_result.Spent = nothing
 
 -- the number by which a process is told what its kill found
 abbrev pub kill_answer : KillFound → ℕ
@@ -89,21 +89,21 @@ kill_answer Unused = 2
 kill_answer Already = 3
 
 -- what the node hears that made this entry, with these items waiting for it
-abbrev pub heard_in : List Item → What → Hearing
-heard_in items (Take asking dead poller given) = heard_given items given
-heard_in items (Send pid first to bytes) = told 0
-heard_in items (Spawn pid image to fresh) = told (if fresh then 0 else 2)
-heard_in items (Kill pid to found) = told (kill_answer found)
-heard_in items other = nothing
+abbrev pub hearing_of_entry : List Item → What → Hearing
+hearing_of_entry items (Take asking dead poller given) = hearing_of_result items given
+hearing_of_entry items (Send pid first to bytes) = answer_of 0
+hearing_of_entry items (Spawn pid image to fresh) = answer_of (if fresh then 0 else 2)
+hearing_of_entry items (Kill pid to found) = answer_of (kill_answer found)
+hearing_of_entry items other = nothing
 
 -- node r, once the cube has made an entry behind these: by one of its own it says its call and hears the answer
 abbrev pub after_entry : Cube → CubeState → ℕ → List Entry → Node → Entry → Node
 after_entry cube o r before node entry =
-    if entry.actor == r then hears cube.images (says node).node (heard_in (waiting_items o.standing r before) entry.what) else node
+    if entry.actor == r then node_after_hearing cube.images (says node).node (hearing_of_entry (waiting_items o.standing r before) entry.what) else node
 
 -- node r after a trace
 unfoldable pub state : Cube → CubeState → ℕ → List Entry → Node
-state cube o r t = walk (after_entry cube o r) (o.node r) t
+state cube o r t = fold_with_front (after_entry cube o r) (o.node r) t
 
 -- node r after a trace and after its turn was run up to its next call that leaves it, and that call
 abbrev pub rest : Cube → CubeState → ℕ → List Entry → Node
@@ -119,19 +119,19 @@ with_parcel store (Some parcel) = put parcel.block.id store
 
 -- the store of the host, once its host has made an entry: the block that it sends is out of it, and the block of a parcel that
 -- it takes is in it
-abbrev pub stored_by : List Item → List BlockId → What → List BlockId
-stored_by items store (Send pid first to bytes) = fold (λ ids target. without_id target.1 ids) store to
-stored_by items store (HostTake (Some number)) = with_parcel store (parcel_numbered number items)
-stored_by items store other = store
+abbrev pub store_after : List Item → List BlockId → What → List BlockId
+store_after items store (Send pid first to bytes) = fold (λ ids target. without_id target.1 ids) store to
+store_after items store (HostTake (Some number)) = with_parcel store (parcel_numbered number items)
+store_after items store other = store
 
 -- the blocks in the host's store after a trace
 unfoldable pub hoststore : CubeState → List Entry → List BlockId
 hoststore o t =
-    walk (λ before store entry. if entry.actor == HOST then stored_by (waiting_items o.standing HOST before) store entry.what else store) o.hoststore t
+    fold_with_front (λ before store entry. if entry.actor == HOST then store_after (waiting_items o.standing HOST before) store entry.what else store) o.hoststore t
 
 -- all that the cube is after a trace
-abbrev pub left_by : Cube → CubeState → List Entry → CubeState
-left_by cube o t = record { node = λ r. state cube o r t; standing = standing o.standing t; hoststore = hoststore o t }
+abbrev pub state_after_trace : Cube → CubeState → List Entry → CubeState
+state_after_trace cube o t = record { node = λ r. state cube o r t; standing = standing o.standing t; hoststore = hoststore o t }
 
 -- ---- what its actors do next
 
@@ -154,57 +154,57 @@ pub data HostCall : Type 0 where
 -- store
 abbrev pub host_call : Cube → List BlockId → HostCall → Option Call
 host_call cube store (send_bytes to bytes) =
-    if is_place cube.dim to then option_map (λ id. sends 0 ((to, id) ∷ []) bytes) (slice_get store 0) else None
+    if is_place cube.dim to then option_map (λ id. send_call 0 ((to, id) ∷ []) bytes) (slice_get store 0) else None
 host_call cube store (start_image image to) =
-    if is_place cube.dim to && nat_lt image (length cube.images) then Some (spawns 0 image to) else None
-host_call cube store (end_process to) = if is_place cube.dim to then Some (kills 0 to) else None
-host_call cube store (allow count) = Some (arms count)
-host_call cube store look_round = Some looks
-host_call cube store take_message = Some takes_mail
+    if is_place cube.dim to && nat_lt image (length cube.images) then Some (spawn_call 0 image to) else None
+host_call cube store (end_process to) = if is_place cube.dim to then Some (kill_call 0 to) else None
+host_call cube store (allow count) = Some (arm_call count)
+host_call cube store look_round = Some look_call
+host_call cube store take_message = Some mail_call
 
 -- what a user had its host do that made this call
-abbrev pub asked_by : Call → Option HostCall
-asked_by (sends pid to bytes) = option_map (λ target. send_bytes target.0 bytes) (slice_get to 0)
-asked_by (spawns pid image to) = Some (start_image image to)
-asked_by (kills pid to) = Some (end_process to)
-asked_by (arms count) = Some (allow count)
-asked_by looks = Some look_round
-asked_by takes_mail = Some take_message
-asked_by (takes asking dead poller) = None
-asked_by (notes pid word) = None
+abbrev pub asked_host_call : Call → Option HostCall
+asked_host_call (send_call pid to bytes) = option_map (λ target. send_bytes target.0 bytes) (slice_get to 0)
+asked_host_call (spawn_call pid image to) = Some (start_image image to)
+asked_host_call (kill_call pid to) = Some (end_process to)
+asked_host_call (arm_call count) = Some (allow count)
+asked_host_call look_call = Some look_round
+asked_host_call mail_call = Some take_message
+asked_host_call (take_call asking dead poller) = None
+asked_host_call (note_call pid word) = None
 
 -- the call that an actor makes next: a host the one that its user asks for, a node the one that it says
-abbrev pub call_by : Cube → CubeState → List Entry → ℕ → Option HostCall → Option Call
-call_by cube o t actor asked =
+abbrev pub actor_call : Cube → CubeState → List Entry → ℕ → Option HostCall → Option Call
+actor_call cube o t actor asked =
     if actor == HOST then option_and_then (host_call cube (hoststore o t)) asked
     else (if is_node cube actor then Some (next_call cube o actor t) else None)
 
 -- the entry that a call makes after a trace
-abbrev pub entry_by : Cube → CubeState → List Entry → ℕ → Call → Entry
-entry_by cube o t actor call =
+abbrev pub actor_entry : Cube → CubeState → List Entry → ℕ → Call → Entry
+actor_entry cube o t actor call =
     record { user = cube.user; actor = actor; what = answer (node_numbers cube.dim) (standing o.standing t) actor call }
 
 -- the entry that an actor makes next
 unfoldable pub next_entry : Cube → CubeState → List Entry → ℕ → Option HostCall → Option Entry
-next_entry cube o t actor asked = option_map (entry_by cube o t actor) (call_by cube o t actor asked)
+next_entry cube o t actor asked = option_map (actor_entry cube o t actor) (actor_call cube o t actor asked)
 
 -- ---- the cube on a machine of its own
 
 -- the cube in the middle of its run: its trace, and what its user still asks of its host
 pub record Solo : Type 0 where
   pub trace : List Entry
-  pub asked : List HostCall
+  pub calls_left : List HostCall
 
 -- the cube once the next actor has made its entry
-abbrev pub acts : Cube → CubeState → Solo → ℕ → Option Solo
-acts cube o now actor =
-    option_map (λ entry. record { trace = now.trace ++ entry ∷ []; asked = if actor == HOST then drop 1 now.asked else now.asked })
-    (next_entry cube o now.trace actor (slice_get now.asked 0))
+abbrev pub next_solo : Cube → CubeState → Solo → ℕ → Option Solo
+next_solo cube o now actor =
+    option_map (λ entry. record { trace = now.trace ++ entry ∷ []; calls_left = if actor == HOST then drop 1 now.calls_left else now.calls_left })
+    (next_entry cube o now.trace actor (slice_get now.calls_left 0))
 
 -- the actors of a schedule act one after another
-unfoldable pub solo_from : Cube → CubeState → List HostCall → List ℕ → Option Solo
-solo_from cube o asked schedule =
-    fold (λ now actor. option_and_then (λ solo. acts cube o solo actor) now) (Some (record { trace = []; asked = asked })) schedule
+unfoldable pub continued_solo : Cube → CubeState → List HostCall → List ℕ → Option Solo
+continued_solo cube o asked schedule =
+    fold (λ now actor. option_and_then (λ solo. next_solo cube o solo actor) now) (Some (record { trace = []; calls_left = asked })) schedule
 
 -- the trace, where nothing more is asked of the host
 abbrev pub whole_trace : List Entry → List HostCall → Option (List Entry)
@@ -214,14 +214,14 @@ whole_trace t (call ∷ calls) = None
 -- the trace of the cube alone, by what its user asks of its host and by the order in which its actors act; none where that is too
 -- little or too much, or can't be done
 unfoldable pub solo : Cube → CubeState → List HostCall → List ℕ → Option (List Entry)
-solo cube o asked schedule = option_and_then (λ end. whole_trace end.trace end.asked) (solo_from cube o asked schedule)
+solo cube o asked schedule = option_and_then (λ end. whole_trace end.trace end.calls_left) (continued_solo cube o asked schedule)
 
 -- what was asked of the host in a trace
-abbrev pub asked_in : Entry → Option HostCall
-asked_in entry = if entry.actor == HOST then option_and_then asked_by (call_of entry.what) else None
+abbrev pub entry_host_call : Entry → Option HostCall
+entry_host_call entry = if entry.actor == HOST then option_and_then asked_host_call (recorded_call entry.what) else None
 
 abbrev pub host_calls : List Entry → List HostCall
-host_calls t = filter_map asked_in t
+host_calls t = filter_map entry_host_call t
 
 -- the order in which its actors acted
 abbrev pub actors : List Entry → List ℕ
@@ -238,4 +238,4 @@ IsAlone cube t = IsAloneFrom cube (opening cube) t
 
 -- the same, told by entries: each is the one that its actor makes next
 abbrev pub IsNext : Cube → CubeState → List Entry → Entry → Type 0
-IsNext cube o before entry = next_entry cube o before entry.actor (asked_in entry) ≡ Some entry
+IsNext cube o before entry = next_entry cube o before entry.actor (entry_host_call entry) ≡ Some entry

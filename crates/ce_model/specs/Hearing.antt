@@ -21,7 +21,7 @@ pub data Hearing : Type 0 where
   -- a process that polls is told that nothing is here
   poll_of : ℕ → Hearing
   -- the call of the turn's process is answered by this number
-  told : ℕ → Hearing
+  answer_of : ℕ → Hearing
   -- there is nothing to do, or the word was noted
   nothing : Hearing
 
@@ -30,16 +30,16 @@ abbrev pub image_at : List ImageParts → ℕ → ImageParts
 image_at images number = slice_index_or images number (record { entry = image_start; loaded = []; zero = 0 })
 
 -- a turn of this process begins
-abbrev pub begins : Node → ℕ → Process → Node
-begins node pid p = record node {
+abbrev pub with_turn : Node → ℕ → Process → Node
+with_turn node pid p = record node {
   processes = slice_set node.processes pid (record p { status = Running });
-  polling = without_poller pid node.polling;
-  turn = Some (record { pid = pid; left = turn_instructions; calls = 0 });
+  polling_ids = without_poller pid node.polling_ids;
+  turn = Some (record { pid = pid; instructions_left = turn_instructions; calls = 0 });
 }
 
 -- a turn begins of a process that is answered by this number
-abbrev pub begins_with : Node → ℕ → Process → ℕ → Node
-begins_with node pid p value = begins node pid (with_answer value p)
+abbrev pub with_answered_turn : Node → ℕ → Process → ℕ → Node
+with_answered_turn node pid p value = with_turn node pid (with_answer value p)
 
 -- the parcel's block goes to the store
 abbrev pub with_stored : Node → Parcel → Node
@@ -47,24 +47,24 @@ with_stored node parcel = record node { store = put parcel.block.id node.store }
 
 -- a process that waits for a message gets the parcel: its block is mapped at the next window, and its turn begins; where no
 -- window is left it stops, and this block and all its others are in the store
-abbrev pub gets : Node → Parcel → Process → Node
-gets node parcel p =
+abbrev pub with_received : Node → Parcel → Process → Node
+with_received node parcel p =
     if has_unused_window p.space
-    then begins_with node parcel.to.pid (record p { space = mapped_space parcel.block p.space }) (window_start (length p.space.windows))
+    then with_answered_turn node parcel.to.pid (record p { space = mapped_space parcel.block p.space }) (window_start (length p.space.windows))
     else with_stopped (with_stored node parcel) parcel.to.pid p WindowsSpent
 
 -- the call of the turn's process is answered, where there is a turn
-abbrev pub tells : ℕ → Node → Option Turn → Node
-tells value node None = node
-tells value node (Some turn) = with_process node turn.pid (with_answer value (process_at node turn.pid))
+abbrev pub with_answered_call : ℕ → Node → Option Turn → Node
+with_answered_call value node None = node
+with_answered_call value node (Some turn) = with_process node turn.pid (with_answer value (process_at node turn.pid))
 
 -- what a node that made a call becomes by the answer; mail for a process that doesn't wait for a message goes to the store
-unfoldable pub hears : List ImageParts → Node → Hearing → Node
-hears images node (start_of pid image) = begins node pid (started_process (image_at images image))
-hears images node (mail_of parcel) =
-    if is_receiving (process_at node parcel.to.pid).status then gets node parcel (process_at node parcel.to.pid) else with_stored node parcel
-hears images node (kill_of pid) =
+unfoldable pub node_after_hearing : List ImageParts → Node → Hearing → Node
+node_after_hearing images node (start_of pid image) = with_turn node pid (started_process (image_at images image))
+node_after_hearing images node (mail_of parcel) =
+    if is_receiving (process_at node parcel.to.pid).status then with_received node parcel (process_at node parcel.to.pid) else with_stored node parcel
+node_after_hearing images node (kill_of pid) =
     if is_stopped (process_at node pid).status then node else with_stopped node pid (process_at node pid) Killed
-hears images node (poll_of pid) = begins_with node pid (process_at node pid) 0
-hears images node (told value) = tells value node node.turn
-hears images node nothing = node
+node_after_hearing images node (poll_of pid) = with_answered_turn node pid (process_at node pid) 0
+node_after_hearing images node (answer_of value) = with_answered_call value node node.turn
+node_after_hearing images node nothing = node

@@ -11,48 +11,48 @@ use Rattle.ce_model.specs.Limits.{block_room, greatest_targets, turn_calls}
 use Rattle.ce_model.specs.Blocks.{Block, put}
 use Rattle.ce_model.specs.Space.{Space, window_start, has_unused_window, mapped_space, unmapped_space, block_named, places_at}
 use Rattle.ce_model.specs.Process.{Process, argument, call_number, with_answer}
-use Rattle.ce_model.specs.Node.{Turn, Node, is_place, is_host_place, with_process, with_stopped, Call, sends, spawns, kills, notes}
+use Rattle.ce_model.specs.Node.{Turn, Node, is_place, is_host_place, with_process, with_stopped, Call, send_call, spawn_call, kill_call, note_call}
 
 -- what a kernel call comes to: the turn goes on, or the node makes a call that leaves it, or the turn is over
 pub data CallOutcome : Type 0 where
-  goes_on : Node → Turn → CallOutcome
-  leaves : Node → Call → CallOutcome
-  turn_ends : Node → CallOutcome
+  continuation : Node → Turn → CallOutcome
+  departure : Node → Call → CallOutcome
+  turn_conclusion : Node → CallOutcome
 
 -- ---- the ways in which a call comes out
 
 -- the process of the turn is as given, and goes on
-abbrev pub proceeds : Node → Turn → Process → CallOutcome
-proceeds node turn p = goes_on (with_process node turn.pid p) turn
+abbrev pub proceed_outcome : Node → Turn → Process → CallOutcome
+proceed_outcome node turn p = continuation (with_process node turn.pid p) turn
 
 -- the call returns at once
-abbrev pub returns : Node → Turn → Process → ℕ → CallOutcome
-returns node turn p value = proceeds node turn (with_answer value p)
+abbrev pub return_outcome : Node → Turn → Process → ℕ → CallOutcome
+return_outcome node turn p value = proceed_outcome node turn (with_answer value p)
 
 -- the process of the turn stops
-abbrev pub stops : Node → Turn → Process → Stop → CallOutcome
-stops node turn p cause = turn_ends (with_stopped node turn.pid p cause)
+abbrev pub stop_outcome : Node → Turn → Process → Stop → CallOutcome
+stop_outcome node turn p cause = turn_conclusion (with_stopped node turn.pid p cause)
 
 -- the process of the turn is as given, and its call leaves the node
-abbrev pub says_call : Node → Turn → Process → Call → CallOutcome
-says_call node turn p call = leaves (record (with_process node turn.pid p) { turn = Some turn }) call
+abbrev pub leave_outcome : Node → Turn → Process → Call → CallOutcome
+leave_outcome node turn p call = departure (record (with_process node turn.pid p) { turn = Some turn }) call
 
 -- the process stops where what the call reads stops it, and else the call goes on with it
-abbrev pub read_or_stop : {X : Type 0} → Node → Turn → Process → Result X Stop → (X → CallOutcome) → CallOutcome
-read_or_stop node turn p (Ok x) onward = onward x
-read_or_stop node turn p (Err cause) onward = stops node turn p cause
+abbrev pub read_outcome : {X : Type 0} → Node → Turn → Process → Result X Stop → (X → CallOutcome) → CallOutcome
+read_outcome node turn p (Ok x) onward = onward x
+read_outcome node turn p (Err cause) onward = stop_outcome node turn p cause
 
 -- the process waits in this state, and its turn is over
-abbrev pub waits : Node → Turn → Process → Status → List ℕ → CallOutcome
-waits node turn p status polling = turn_ends (record (with_process node turn.pid (record p { status = status })) { polling = polling; turn = None })
+abbrev pub wait_outcome : Node → Turn → Process → Status → List ℕ → CallOutcome
+wait_outcome node turn p status polling = turn_conclusion (record (with_process node turn.pid (record p { status = status })) { polling_ids = polling; turn = None })
 
 -- the memory of a process changes
 abbrev pub with_space : Process → Space → Process
 with_space p space = record p { space = space }
 
 -- the block at this window leaves the process
-abbrev pub gives_up : ℕ → Process → Process
-gives_up window p = with_space p (unmapped_space window p.space)
+abbrev pub process_left_behind : ℕ → Process → Process
+process_left_behind window p = with_space p (unmapped_space window p.space)
 
 -- the node's store is as given
 abbrev pub with_store : List BlockId → Node → Node
@@ -61,26 +61,26 @@ with_store store node = record node { store = store }
 -- ---- blocks
 
 -- xmalloc: the store's least block is mapped at the next window, with this many zero bytes
-abbrev pub maps_least : Node → Turn → Process → ℕ → List BlockId → CallOutcome
-maps_least node turn p len [] = returns node turn p 0
-maps_least node turn p len (id ∷ store) =
-    returns (with_store store node) turn (with_space p (mapped_space (record { id = id; bytes = replicate len 0 }) p.space))
+abbrev pub map_outcome : Node → Turn → Process → ℕ → List BlockId → CallOutcome
+map_outcome node turn p len [] = return_outcome node turn p 0
+map_outcome node turn p len (id ∷ store) =
+    return_outcome (with_store store node) turn (with_space p (mapped_space (record { id = id; bytes = replicate len 0 }) p.space))
     (window_start (length p.space.windows))
 
 abbrev pub xmalloc : Node → Turn → Process → CallOutcome
 xmalloc node turn p =
-    if nat_lt block_room (argument p 0) || not (has_unused_window p.space) then returns node turn p 0
-    else maps_least node turn p (argument p 0) node.store
+    if nat_lt block_room (argument p 0) || not (has_unused_window p.space) then return_outcome node turn p 0
+    else map_outcome node turn p (argument p 0) node.store
 
 -- the block that the call names goes to the store, and the answer is 0
-abbrev pub frees : Node → Turn → Process → ℕ × Block → CallOutcome
-frees node turn p found = returns (with_store (put found.1.id node.store) node) turn (gives_up found.0 p) 0
+abbrev pub free_outcome : Node → Turn → Process → ℕ × Block → CallOutcome
+free_outcome node turn p found = return_outcome (with_store (put found.1.id node.store) node) turn (process_left_behind found.0 p) 0
 
 abbrev pub xfree : Node → Turn → Process → CallOutcome
-xfree node turn p = read_or_stop node turn p (block_named p.space (argument p 0)) (frees node turn p)
+xfree node turn p = read_outcome node turn p (block_named p.space (argument p 0)) (free_outcome node turn p)
 
 abbrev pub xlength : Node → Turn → Process → CallOutcome
-xlength node turn p = read_or_stop node turn p (block_named p.space (argument p 0)) (λ found. returns node turn p (length found.1.bytes))
+xlength node turn p = read_outcome node turn p (block_named p.space (argument p 0)) (λ found. return_outcome node turn p (length found.1.bytes))
 
 -- ---- messages
 
@@ -93,63 +93,63 @@ abbrev pub place_named : Process → ℕ → Place
 place_named p k = record { node = argument p k; pid = argument p (k + 1) }
 
 -- xsend: the block leaves the process, for one place
-abbrev pub sends_block : Node → Turn → Process → ℕ × Block → CallOutcome
-sends_block node turn p found =
+abbrev pub send_outcome : Node → Turn → Process → ℕ × Block → CallOutcome
+send_outcome node turn p found =
     if is_target node (place_named p 1)
-    then says_call node turn (gives_up found.0 p) (sends turn.pid ((place_named p 1, found.1.id) ∷ []) found.1.bytes)
-    else returns node turn p 1
+    then leave_outcome node turn (process_left_behind found.0 p) (send_call turn.pid ((place_named p 1, found.1.id) ∷ []) found.1.bytes)
+    else return_outcome node turn p 1
 
 abbrev pub xsend : Node → Turn → Process → CallOutcome
-xsend node turn p = read_or_stop node turn p (block_named p.space (argument p 0)) (sends_block node turn p)
+xsend node turn p = read_outcome node turn p (block_named p.space (argument p 0)) (send_outcome node turn p)
 
 -- xmsend to these places: the first gets the block, each further one a copy in the store's least block, in order
-abbrev pub sends_copies : Node → Turn → Process → ℕ × Block → List Place → CallOutcome
-sends_copies node turn p found [] = frees node turn p found
-sends_copies node turn p found (to ∷ others) =
-    if not (list_all (is_target node) (to ∷ others)) then returns node turn p 1
-    else (if nat_lt (length node.store) (length others) then returns node turn p 2
-    else says_call (with_store (drop (length others) node.store) node) turn (gives_up found.0 p)
-    (sends turn.pid (zip (to ∷ others) (found.1.id ∷ take (length others) node.store)) found.1.bytes))
+abbrev pub copies_outcome : Node → Turn → Process → ℕ × Block → List Place → CallOutcome
+copies_outcome node turn p found [] = free_outcome node turn p found
+copies_outcome node turn p found (to ∷ others) =
+    if not (list_all (is_target node) (to ∷ others)) then return_outcome node turn p 1
+    else (if nat_lt (length node.store) (length others) then return_outcome node turn p 2
+    else leave_outcome (with_store (drop (length others) node.store) node) turn (process_left_behind found.0 p)
+    (send_call turn.pid (zip (to ∷ others) (found.1.id ∷ take (length others) node.store)) found.1.bytes))
 
 abbrev pub xmsend_block : Node → Turn → Process → ℕ × Block → CallOutcome
 xmsend_block node turn p found =
-    if nat_lt greatest_targets (argument p 1) then returns node turn p 3
-    else read_or_stop node turn p (places_at p.space (argument p 2) (argument p 1)) (sends_copies node turn p found)
+    if nat_lt greatest_targets (argument p 1) then return_outcome node turn p 3
+    else read_outcome node turn p (places_at p.space (argument p 2) (argument p 1)) (copies_outcome node turn p found)
 
 abbrev pub xmsend : Node → Turn → Process → CallOutcome
-xmsend node turn p = read_or_stop node turn p (block_named p.space (argument p 0)) (xmsend_block node turn p)
+xmsend node turn p = read_outcome node turn p (block_named p.space (argument p 0)) (xmsend_block node turn p)
 
 -- xrecv and xrecvb end the turn; who polls goes behind those that poll already
 abbrev pub xrecv : Node → Turn → Process → CallOutcome
-xrecv node turn p = waits node turn p Polling (node.polling ++ turn.pid ∷ [])
+xrecv node turn p = wait_outcome node turn p Polling (node.polling_ids ++ turn.pid ∷ [])
 
 abbrev pub xrecvb : Node → Turn → Process → CallOutcome
-xrecvb node turn p = waits node turn p Asking node.polling
+xrecvb node turn p = wait_outcome node turn p Asking node.polling_ids
 
 -- ---- processes
 
 abbrev pub spawn : Node → Turn → Process → CallOutcome
 spawn node turn p =
-    if not (is_place node.dim (place_named p 1)) then returns node turn p 1
-    else (if nat_lt (argument p 0) node.images then says_call node turn p (spawns turn.pid (argument p 0) (place_named p 1))
-    else returns node turn p 3)
+    if not (is_place node.dim (place_named p 1)) then return_outcome node turn p 1
+    else (if nat_lt (argument p 0) node.images then leave_outcome node turn p (spawn_call turn.pid (argument p 0) (place_named p 1))
+    else return_outcome node turn p 3)
 
 abbrev pub ckill : Node → Turn → Process → CallOutcome
 ckill node turn p =
-    if is_place node.dim (place_named p 0) then says_call node turn p (kills turn.pid (place_named p 0)) else returns node turn p 1
+    if is_place node.dim (place_named p 0) then leave_outcome node turn p (kill_call turn.pid (place_named p 0)) else return_outcome node turn p 1
 
 -- ---- all calls
 
 -- a kernel call: whether a turn's limit counts it, and what it does
 pub record KernelCall : Type 0 where
   pub is_counted : Bool
-  pub does : Node → Turn → Process → CallOutcome
+  pub outcome : Node → Turn → Process → CallOutcome
 
 abbrev pub counted_call : (Node → Turn → Process → CallOutcome) → KernelCall
-counted_call does = record { is_counted = true; does = does }
+counted_call outcome = record { is_counted = true; outcome = outcome }
 
 abbrev pub uncounted_call : (Node → Turn → Process → CallOutcome) → KernelCall
-uncounted_call does = record { is_counted = false; does = does }
+uncounted_call outcome = record { is_counted = false; outcome = outcome }
 
 -- the kernel calls, by their numbers from 1 on
 unfoldable pub kernel_calls : List KernelCall
@@ -163,26 +163,26 @@ kernel_calls =
     ∷ uncounted_call xrecvb
     ∷ counted_call spawn
     ∷ counted_call ckill
-    ∷ uncounted_call (λ node turn p. returns node turn p node.number)
-    ∷ uncounted_call (λ node turn p. returns node turn p turn.pid)
-    ∷ uncounted_call (λ node turn p. returns node turn p (2 ^ node.dim))
-    ∷ uncounted_call (λ node turn p. stops node turn p (Exited (argument p 0)))
-    ∷ counted_call (λ node turn p. says_call node turn p (notes turn.pid (argument p 0)))
+    ∷ uncounted_call (λ node turn p. return_outcome node turn p node.number)
+    ∷ uncounted_call (λ node turn p. return_outcome node turn p turn.pid)
+    ∷ uncounted_call (λ node turn p. return_outcome node turn p (2 ^ node.dim))
+    ∷ uncounted_call (λ node turn p. stop_outcome node turn p (Exited (argument p 0)))
+    ∷ counted_call (λ node turn p. leave_outcome node turn p (note_call turn.pid (argument p 0)))
     ∷ []
 
 abbrev pub kernel_call : ℕ → Option KernelCall
 kernel_call number = if number == 0 then None else slice_get kernel_calls (number - 1)
 
 -- a counted call counts whatever it returns, and the one past the turn's limit isn't made
-abbrev pub counted_does : KernelCall → Node → Turn → Process → CallOutcome
-counted_does call node turn p =
-    if nat_lt turn.calls turn_calls then call.does node (record turn { calls = turn.calls + 1 }) p else stops node turn p TurnSpent
+abbrev pub counted_outcome : KernelCall → Node → Turn → Process → CallOutcome
+counted_outcome call node turn p =
+    if nat_lt turn.calls turn_calls then call.outcome node (record turn { calls = turn.calls + 1 }) p else stop_outcome node turn p TurnSpent
 
 -- a call that exists is made
-abbrev pub kernel_does : Option KernelCall → Node → Turn → Process → CallOutcome
-kernel_does None node turn p = stops node turn p (NoCall (call_number p))
-kernel_does (Some call) node turn p = if call.is_counted then counted_does call node turn p else call.does node turn p
+abbrev pub call_outcome : Option KernelCall → Node → Turn → Process → CallOutcome
+call_outcome None node turn p = stop_outcome node turn p (NoCall (call_number p))
+call_outcome (Some call) node turn p = if call.is_counted then counted_outcome call node turn p else call.outcome node turn p
 
 -- what the call comes to that a process of the turn has made, whose pc is past it
 unfoldable pub kernel : Node → Turn → Process → CallOutcome
-kernel node turn p = kernel_does (kernel_call (call_number p)) node turn p
+kernel node turn p = call_outcome (kernel_call (call_number p)) node turn p

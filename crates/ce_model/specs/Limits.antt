@@ -1,6 +1,6 @@
 -- The machine's limits: a name for each, behind which no proof computes unless it asks, and a lemma of its value.
 use Rattle.std.specs.Prelude.{◌≡◌, ℕ, ◌^◌, refl}
-use Rattle.ce_model.specs.declared.limits.TheConstants.{GREATEST_DIMENSION, PROCESS_COUNT, HOME_BLOCKS, GREATEST_BLOCKS, BLOCK_ROOM, WINDOW_COUNT, WINDOW_BASE, WINDOW_SIZE, GREATEST_TARGETS, TURN_INSTRUCTIONS, TURN_CALLS, GREATEST_COUNT, GREATEST_USERS, GREATEST_IMAGES, HOST_HOME}
+use Rattle.ce_model.specs.declared.limits.TheConstants.{GREATEST_DIMENSION, PROCESS_COUNT, HOME_BLOCKS, GREATEST_BLOCKS, BLOCK_ROOM, WINDOW_COUNT, WINDOW_BASE, WINDOW_SIZE, GREATEST_TARGETS, TURN_INSTRUCTIONS, TURN_CALLS, GREATEST_COUNT, GREATEST_USERS, GREATEST_IMAGES, MAIL_ROOM, NODE_ROOM, GREATEST_HISTORY, HOST_HOME}
 
 -- the greatest dimension of a machine or a cube
 unfoldable pub greatest_dim : ℕ
@@ -113,6 +113,30 @@ greatest_images = GREATEST_IMAGES
 pub greatest_images_lem : greatest_images ≡ 64
 unfolding greatest_images
 greatest_images_lem = refl
+
+-- how many messages can wait for a host
+unfoldable pub mail_room : ℕ
+mail_room = MAIL_ROOM
+
+pub mail_room_lem : mail_room ≡ 2_080
+unfolding mail_room
+mail_room_lem = refl
+
+-- how many items can wait at a node
+unfoldable pub node_room : ℕ
+node_room = NODE_ROOM
+
+pub node_room_lem : node_room ≡ 2_096
+unfolding node_room
+node_room_lem = refl
+
+-- how many entries a history can have
+unfoldable pub greatest_history : ℕ
+greatest_history = GREATEST_HISTORY
+
+pub greatest_history_lem : greatest_history ≡ 2 ^ 57
+unfolding greatest_history
+greatest_history_lem = refl
 
 -- the home of the blocks of a cube's host
 unfoldable pub host_home : ℕ

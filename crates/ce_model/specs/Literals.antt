@@ -14,14 +14,14 @@ abbrev pub machine : ℕ → ℕ → ImageParts → MachineParts
 machine dim users image = record { dim = dim; users = users; images = image ∷ [] }
 
 -- an entry of an actor of a user, and of the user's host
-abbrev pub of_actor : ℕ → ℕ → What → Entry
-of_actor user actor what = record { user = user; actor = actor; what = what }
+abbrev pub entry_of : ℕ → ℕ → What → Entry
+entry_of user actor what = record { user = user; actor = actor; what = what }
 
 abbrev pub of_host : ℕ → What → Entry
-of_host user what = of_actor user HOST what
+of_host user what = entry_of user HOST what
 
-abbrev pub sub_at : ℕ → ℕ → Subcube
-sub_at mask base = record { mask = mask; base = base }
+abbrev pub subcube : ℕ → ℕ → Subcube
+subcube mask base = record { mask = mask; base = base }
 
 abbrev pub place : ℕ → ℕ → Place
 place node pid = record { node = node; pid = pid }
@@ -30,11 +30,11 @@ abbrev pub block : ℕ → ℕ → BlockId
 block home index = record { home = home; index = index }
 
 -- the bytes of messages
-abbrev pub aa : List ℕ
-aa = 0xAA ∷ []
+abbrev pub first_bytes : List ℕ
+first_bytes = 0xAA ∷ []
 
-abbrev pub bb : List ℕ
-bb = 0xBB ∷ []
+abbrev pub second_bytes : List ℕ
+second_bytes = 0xBB ∷ []
 
-abbrev pub cc_ : List ℕ
-cc_ = 0xCC ∷ []
+abbrev pub third_bytes : List ℕ
+third_bytes = 0xCC ∷ []

@@ -11,13 +11,13 @@ use Rattle.ce_model.specs.declared.entry.What.TheVariants.{Getcube, Peek, Drain,
 use Rattle.ce_model.specs.declared.entry.TakeResult.{TakeResult}
 use Rattle.ce_model.specs.Limits.{greatest_dim, greatest_users, greatest_images, greatest_count, block_room}
 use Rattle.ce_model.specs.Lists.{without_first, EachAfter}
-use Rattle.ce_model.specs.Parcels.{Parcel, Item, mail, parcels_among, is_named_by}
-use Rattle.ce_model.specs.Node.{Call, sends, arms}
-use Rattle.ce_model.specs.Trace.{NodeRecord, Standing, blank_record, items_to, taken_in, parcels_of, spawned_in, killed_in, marked_by, armed_by, dispatched_by}
-use Rattle.ce_model.specs.Answers.{answer, call_of}
-use Rattle.ce_model.specs.Cube.{Cube, opening, asked_by, call_by, node_numbers}
-use Rattle.ce_model.specs.Subcubes.{relative, node_of, is_inside, first_free}
-use Rattle.ce_model.specs.Renaming.{CubeGrant, place_inward, place_outward, block_outward, call_renamed, call_with}
+use Rattle.ce_model.specs.Parcels.{Parcel, Item, mail, item_parcels, is_named_by}
+use Rattle.ce_model.specs.Node.{Call, send_call, arm_call}
+use Rattle.ce_model.specs.Trace.{NodeRecord, Standing, blank_record, items_to, taken_result, sent_parcels, start_ids_in, kill_ids_in, mark_after, allowed_dispatches_after, made_dispatches_after}
+use Rattle.ce_model.specs.Answers.{answer, recorded_call}
+use Rattle.ce_model.specs.Cube.{Cube, opening, asked_host_call, actor_call, node_numbers}
+use Rattle.ce_model.specs.Subcubes.{relative_number, node_of, is_inside, first_free}
+use Rattle.ce_model.specs.Renaming.{CubeGrant, place_inward, place_outward, block_outward, renamed_call, renamed_call_blocks}
 use Rattle.ce_model.specs.Views.{view}
 
 -- a machine: its dimension, how many users it has, and its images
@@ -38,9 +38,9 @@ pub record IsMachine (parts : MachineParts) : Type 0 where
 pub record HeldCube : Type 0 where
   pub number : ℕ
   pub grant : CubeGrant
-  pub drained : Bool
-  pub armed : ℕ
-  pub dispatched : ℕ
+  pub is_drained : Bool
+  pub allowed_dispatches : ℕ
+  pub made_dispatches : ℕ
   pub parcel_count : ℕ
   pub mail : List Item
 
@@ -48,12 +48,12 @@ pub record HeldCube : Type 0 where
 -- that wait have the cube's numbers for places, and the machine's names for blocks
 pub record MachineState : Type 0 where
   pub grant_count : ℕ
-  pub held : List HeldCube
+  pub cubes : List HeldCube
   pub node_record : ℕ → NodeRecord
 
 -- a machine on which nothing is held
 abbrev pub machine_opening : MachineState
-machine_opening = record { grant_count = 0; held = []; node_record = λ node. blank_record }
+machine_opening = record { grant_count = 0; cubes = []; node_record = λ node. blank_record }
 
 -- ---- what a state says
 
@@ -61,12 +61,12 @@ abbrev pub is_held_by : ℕ → HeldCube → Bool
 is_held_by user cube = cube.grant.user == user
 
 -- the cube that a user holds
-abbrev pub held_by : MachineState → ℕ → Option HeldCube
-held_by state user = find (is_held_by user) state.held
+abbrev pub cube_held_by : MachineState → ℕ → Option HeldCube
+cube_held_by state user = find (is_held_by user) state.cubes
 
 -- a node is free where it is in no cube that is held
 abbrev pub is_free : MachineState → ℕ → Bool
-is_free state node = not (list_any (λ cube. is_inside cube.grant.sub node) state.held)
+is_free state node = not (list_any (λ cube. is_inside cube.grant.sub node) state.cubes)
 
 -- the nodes of a cube, in relative order
 abbrev pub nodes_of : CubeGrant → List ℕ
@@ -74,14 +74,14 @@ nodes_of grant = map (node_of grant.sub) (node_numbers grant.dim)
 
 -- what is kept for a cube's host: what waits for it
 abbrev pub host_record : HeldCube → NodeRecord
-host_record cube = record blank_record { waiting = cube.mail }
+host_record cube = record blank_record { waiting_items = cube.mail }
 
 -- how a cube stands, by the machine's numbers for its nodes
-abbrev pub standing_of : MachineState → HeldCube → Standing
-standing_of state cube = record {
+abbrev pub cube_standing : MachineState → HeldCube → Standing
+cube_standing state cube = record {
   node_record = λ node. if node == HOST then host_record cube else state.node_record node;
-  armed = cube.armed;
-  dispatched = cube.dispatched;
+  allowed_dispatches = cube.allowed_dispatches;
+  made_dispatches = cube.made_dispatches;
   parcel_count = cube.parcel_count;
 }
 
@@ -90,11 +90,11 @@ abbrev pub free_count : MachineParts → MachineState → ℕ
 free_count parts state = count_by (is_free state) (range_with_len 0 (2 ^ parts.dim))
 
 abbrev pub held_grants : MachineState → List (ℕ × CubeGrant)
-held_grants state = map (λ cube. (cube.number, cube.grant)) state.held
+held_grants state = map (λ cube. (cube.number, cube.grant)) state.cubes
 
 -- the answer to a drain: all parcels that wait in a cube, at its nodes in relative order and then for its host
 abbrev pub all_parcels : MachineState → HeldCube → List Parcel
-all_parcels state cube = parcels_among (flat_map (λ node. (state.node_record node).waiting) (nodes_of cube.grant) ++ cube.mail)
+all_parcels state cube = item_parcels (flat_map (λ node. (state.node_record node).waiting_items) (nodes_of cube.grant) ++ cube.mail)
 
 -- ---- what an entry changes
 
@@ -109,26 +109,26 @@ without_taken None items = items
 without_taken (Some given) items = without_first (is_named_by given) items
 
 -- what waits at a number, which may be the host's, once an entry of the cube is made
-abbrev pub waiting_by : Subcube → Entry → ℕ → List Item → List Item
-waiting_by sub entry node items =
-    (if entry.actor == node then without_taken (taken_in entry.what) items else items) ++ map (item_inward sub) (items_to node entry)
+abbrev pub waiting_items_after : Subcube → Entry → ℕ → List Item → List Item
+waiting_items_after sub entry node items =
+    (if entry.actor == node then without_taken (taken_result entry.what) items else items) ++ map (item_inward sub) (items_to node entry)
 
 -- what is kept for a node, once an entry of its cube is made
 abbrev pub record_by : Subcube → Entry → ℕ → NodeRecord → NodeRecord
 record_by sub entry node node_record = record {
-  waiting = waiting_by sub entry node node_record.waiting;
-  spawned = node_record.spawned ++ spawned_in node entry.what;
-  killed = node_record.killed ++ killed_in node entry.what;
-  mark = if entry.actor == node then marked_by node_record.mark entry.what else node_record.mark;
+  waiting_items = waiting_items_after sub entry node node_record.waiting_items;
+  spawned_ids = node_record.spawned_ids ++ start_ids_in node entry.what;
+  killed_ids = node_record.killed_ids ++ kill_ids_in node entry.what;
+  mark = if entry.actor == node then mark_after node_record.mark entry.what else node_record.mark;
 }
 
 -- a cube that is held, once an entry of it is made
-abbrev pub held_by_entry : Entry → HeldCube → HeldCube
-held_by_entry entry cube = record cube {
-  armed = armed_by cube.armed entry.what;
-  dispatched = dispatched_by cube.dispatched entry.what;
-  parcel_count = cube.parcel_count + length (parcels_of entry.actor entry.what);
-  mail = waiting_by cube.grant.sub entry HOST cube.mail;
+abbrev pub cube_after_entry : Entry → HeldCube → HeldCube
+cube_after_entry entry cube = record cube {
+  allowed_dispatches = allowed_dispatches_after cube.allowed_dispatches entry.what;
+  made_dispatches = made_dispatches_after cube.made_dispatches entry.what;
+  parcel_count = cube.parcel_count + length (sent_parcels entry.actor entry.what);
+  mail = waiting_items_after cube.grant.sub entry HOST cube.mail;
 }
 
 -- what is kept for a node changes where it is one of this cube, if any
@@ -139,46 +139,46 @@ changed_record change node kept (Some cube) = if is_inside cube.grant.sub node t
 -- the cube that a user holds changes, and so does what is kept for its nodes; the others stay
 abbrev pub with_cube : ℕ → (HeldCube → HeldCube) → (HeldCube → ℕ → NodeRecord → NodeRecord) → MachineState → MachineState
 with_cube user change change_record state = record state {
-  held = map (λ cube. if is_held_by user cube then change cube else cube) state.held;
-  node_record = λ node. changed_record change_record node (state.node_record node) (held_by state user);
+  cubes = map (λ cube. if is_held_by user cube then change cube else cube) state.cubes;
+  node_record = λ node. changed_record change_record node (state.node_record node) (cube_held_by state user);
 }
 
 -- a cube is granted
 abbrev pub with_grant : CubeGrant → MachineState → MachineState
 with_grant grant state = record state {
   grant_count = state.grant_count + 1;
-  held = state.held ++ record { number = state.grant_count; grant = grant; drained = false; armed = 0; dispatched = 0; parcel_count = 0; mail = [] } ∷ [];
+  cubes = state.cubes ++ record { number = state.grant_count; grant = grant; is_drained = false; allowed_dispatches = 0; made_dispatches = 0; parcel_count = 0; mail = [] } ∷ [];
 }
 
 -- a user's cube is drained: nothing waits in it any longer
 abbrev pub with_drained : ℕ → MachineState → MachineState
 with_drained user state =
-    with_cube user (λ cube. record cube { drained = true; mail = [] }) (λ cube node kept. record kept { waiting = [] }) state
+    with_cube user (λ cube. record cube { is_drained = true; mail = [] }) (λ cube node kept. record kept { waiting_items = [] }) state
 
 -- a user holds its cube no longer, and its nodes are free
 abbrev pub without_cube : ℕ → MachineState → MachineState
 without_cube user state =
-    record (with_cube user (λ cube. cube) (λ cube node kept. blank_record) state) { held = filter (λ cube. not (is_held_by user cube)) state.held }
+    record (with_cube user (λ cube. cube) (λ cube node kept. blank_record) state) { cubes = filter (λ cube. not (is_held_by user cube)) state.cubes }
 
 -- the state once a host has asked for a cube, or given its own back
-abbrev pub changed_by_host : ℕ → What → MachineState → MachineState
-changed_by_host user (Getcube dim (Some sub)) state = with_grant (record { user = user; dim = dim; sub = sub }) state
-changed_by_host user Drain state = with_drained user state
-changed_by_host user Freecube state = without_cube user state
-changed_by_host user other state = state
+abbrev pub state_after_host : ℕ → What → MachineState → MachineState
+state_after_host user (Getcube dim (Some sub)) state = with_grant (record { user = user; dim = dim; sub = sub }) state
+state_after_host user Drain state = with_drained user state
+state_after_host user Freecube state = without_cube user state
+state_after_host user other state = state
 
 -- the state once a call of a cube is made, or another request
-abbrev pub changed_by_call : Option Call → Entry → MachineState → MachineState
-changed_by_call (Some call) entry state = with_cube entry.user (held_by_entry entry) (λ cube. record_by cube.grant.sub entry) state
-changed_by_call None entry state = changed_by_host entry.user entry.what state
+abbrev pub state_after_call : Option Call → Entry → MachineState → MachineState
+state_after_call (Some call) entry state = with_cube entry.user (cube_after_entry entry) (λ cube. record_by cube.grant.sub entry) state
+state_after_call None entry state = state_after_host entry.user entry.what state
 
 -- the state once an entry is made
-abbrev pub changed_by : MachineState → Entry → MachineState
-changed_by state entry = changed_by_call (call_of entry.what) entry state
+abbrev pub state_after_entry : MachineState → Entry → MachineState
+state_after_entry state entry = state_after_call (recorded_call entry.what) entry state
 
 -- the state that a history leaves
 unfoldable pub after : List Entry → MachineState
-after history = fold changed_by machine_opening history
+after history = fold state_after_entry machine_opening history
 
 -- ---- requests and answers
 
@@ -204,7 +204,7 @@ is_alone other = false
 
 -- a call of a cube, with the machine's numbers for places
 abbrev pub with_places_outward : CubeGrant → Call → Call
-with_places_outward grant call = call_renamed (place_outward grant.sub) (λ id. id) call
+with_places_outward grant call = renamed_call (place_outward grant.sub) (λ id. id) call
 
 -- the entry that a request makes in this state, with its answer; a call of a cube makes none where no cube is held
 abbrev pub what_of_request : MachineParts → MachineState → ℕ → ℕ → Request → Option What
@@ -213,7 +213,7 @@ what_of_request parts state user actor peek = Some Peek
 what_of_request parts state user actor drain = Some Drain
 what_of_request parts state user actor freecube = Some Freecube
 what_of_request parts state user actor (in_cube call) =
-    option_map (λ cube. answer (nodes_of cube.grant) (standing_of state cube) actor (with_places_outward cube.grant call)) (held_by state user)
+    option_map (λ cube. answer (nodes_of cube.grant) (cube_standing state cube) actor (with_places_outward cube.grant call)) (cube_held_by state user)
 
 -- ---- what fits
 
@@ -223,32 +223,32 @@ cube_of images grant = record { user = grant.user; dim = grant.dim; images = ima
 
 -- the user holds a cube, of which this holds
 abbrev pub HasHeldCube : List Entry → ℕ → (HeldCube → Type 0) → Type 0
-HasHeldCube history user P = IsSomeAnd (held_by (after history) user) P
+HasHeldCube history user P = IsSomeAnd (cube_held_by (after history) user) P
 
 -- the call is within the machine's limits, which a cube alone doesn't know: on what a host allows, and on the bytes that it sends
-abbrev pub IsWithinLimits : Call → Type 0
-IsWithinLimits (arms count) = count ≤ greatest_count
-IsWithinLimits (sends pid to bytes) = length bytes ≤ block_room
-IsWithinLimits other = Unit {0}
+abbrev pub IsCallWithinLimits : Call → Type 0
+IsCallWithinLimits (arm_call count) = count ≤ greatest_count
+IsCallWithinLimits (send_call pid to bytes) = length bytes ≤ block_room
+IsCallWithinLimits other = Unit {0}
 
 -- the call is, with the machine's names for blocks, the one that an actor of this cube makes next after the cube's own entries: a node the one
 -- that it says, and a host one that its user may ask for
 pub record IsCallOf (parts : MachineParts) (history : List Entry) (actor : ℕ) (call : Call) (cube : HeldCube) : Type 0 where
   pub made : Call
   pub inside : IsTrue (actor == HOST) ⊎ IsTrue (is_inside cube.grant.sub actor)
-  pub next : call_by (cube_of parts.images cube.grant) (opening (cube_of parts.images cube.grant)) (view history cube.number)
-      (relative cube.grant.sub actor) (asked_by made) ≡ Some made
-  pub renamed : call_with (block_outward cube.grant) made ≡ call
-  pub within : IsTrue (actor == HOST) → IsWithinLimits call
-  pub not_drained : cube.drained ≡ false
+  pub next : actor_call (cube_of parts.images cube.grant) (opening (cube_of parts.images cube.grant)) (view history cube.number)
+      (relative_number cube.grant.sub actor) (asked_host_call made) ≡ Some made
+  pub renamed : renamed_call_blocks (block_outward cube.grant) made ≡ call
+  pub within : IsTrue (actor == HOST) → IsCallWithinLimits call
+  pub not_drained : cube.is_drained ≡ false
 
 -- what a request of an actor asks of the history before it: a host asks for a cube that holds none; a drained cube is given back,
 -- and one that isn't is drained; and a call of a cube is the next one of its actor
 abbrev pub IsFittingIn : MachineParts → List Entry → ℕ → ℕ → Request → Type 0
-IsFittingIn parts history user actor (getcube dim) = (actor ≡ HOST) × (dim ≤ greatest_dim) × (held_by (after history) user ≡ None)
+IsFittingIn parts history user actor (getcube dim) = (actor ≡ HOST) × (dim ≤ greatest_dim) × (cube_held_by (after history) user ≡ None)
 IsFittingIn parts history user actor peek = actor ≡ HOST
-IsFittingIn parts history user actor drain = (actor ≡ HOST) × HasHeldCube history user (λ cube. cube.drained ≡ false)
-IsFittingIn parts history user actor freecube = (actor ≡ HOST) × HasHeldCube history user (λ cube. cube.drained ≡ true)
+IsFittingIn parts history user actor drain = (actor ≡ HOST) × HasHeldCube history user (λ cube. cube.is_drained ≡ false)
+IsFittingIn parts history user actor freecube = (actor ≡ HOST) × HasHeldCube history user (λ cube. cube.is_drained ≡ true)
 IsFittingIn parts history user actor (in_cube call) = HasHeldCube history user (IsCallOf parts history actor call)
 
 -- a request of one of the machine's users fits the history before it, whatever it is answered

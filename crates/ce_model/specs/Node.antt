@@ -14,7 +14,7 @@ use Rattle.ce_model.specs.Process.{Process, unborn_process, ended_process, is_re
 -- the turn of a process: its id, how many instructions it may still run, and how many counted calls it has made
 pub record Turn : Type 0 where
   pub pid : ℕ
-  pub left : ℕ
+  pub instructions_left : ℕ
   pub calls : ℕ
 
 -- a node: its number in its cube, the cube's dimension, the home of its blocks, how many images there are, its processes by id,
@@ -26,19 +26,19 @@ pub record Node : Type 0 where
   pub images : ℕ
   pub processes : List Process
   pub store : List BlockId
-  pub polling : List ℕ
+  pub polling_ids : List ℕ
   pub turn : Option Turn
 
 -- node r of a fresh cube: its own blocks are in its store, and nothing was spawned
-abbrev pub fresh : ℕ → ℕ → ℕ → Node
-fresh r dim images = record {
+abbrev pub opening_node : ℕ → ℕ → ℕ → Node
+opening_node r dim images = record {
   number = r;
   dim = dim;
   home = r;
   images = images;
   processes = replicate process_count unborn_process;
   store = blocks_of_home r;
-  polling = [];
+  polling_ids = [];
   turn = None;
 }
 
@@ -73,7 +73,7 @@ abbrev pub with_stopped : Node → ℕ → Process → Stop → Node
 with_stopped node pid p cause = record node {
   processes = slice_set node.processes pid (ended_process cause p);
   store = put_all (mapped_ids p.space) node.store;
-  polling = without_poller pid node.polling;
+  polling_ids = without_poller pid node.polling_ids;
   turn = None;
 }
 
@@ -86,21 +86,21 @@ blocks_of node = node.store ++ flat_map (λ p. mapped_ids p.space) node.processe
 -- a call that a node or a host makes
 pub data Call : Type 0 where
   -- a node asks for work: the sets of ids that wait for a message and that have stopped, and the id longest in `xrecv`
-  takes : ℕ → ℕ → Option ℕ → Call
+  take_call : ℕ → ℕ → Option ℕ → Call
   -- a process sends a message: its id, the places with the block for each, and the bytes
-  sends : ℕ → List (Place × BlockId) → List ℕ → Call
+  send_call : ℕ → List (Place × BlockId) → List ℕ → Call
   -- a process has an image started at a place: its id, the image's number, and the place
-  spawns : ℕ → ℕ → Place → Call
+  spawn_call : ℕ → ℕ → Place → Call
   -- a process has the process at a place ended
-  kills : ℕ → Place → Call
+  kill_call : ℕ → Place → Call
   -- a process leaves a word in the trace
-  notes : ℕ → ℕ → Call
+  note_call : ℕ → ℕ → Call
   -- the host allows so many dispatches
-  arms : ℕ → Call
+  arm_call : ℕ → Call
   -- the host looks whether its cube is quiet
-  looks : Call
+  look_call : Call
   -- the host takes its next message
-  takes_mail : Call
+  mail_call : Call
 
 -- the processes that pass a test, as a number with one bit for each id
 abbrev pub ids_of : (Status → Bool) → List Process → ℕ
@@ -109,4 +109,4 @@ ids_of test (p ∷ ps) = (if test p.status then 1 else 0) + 2 * ids_of test ps
 
 -- the call of a node without a turn
 abbrev pub take_of : Node → Call
-take_of node = takes (ids_of is_receiving node.processes) (ids_of is_stopped node.processes) (slice_get node.polling 0)
+take_of node = take_call (ids_of is_receiving node.processes) (ids_of is_stopped node.processes) (slice_get node.polling_ids 0)

@@ -5,10 +5,10 @@ use Rattle.ce_model.specs.declared.entry.Entry.{Entry}
 use Rattle.ce_model.specs.declared.entry.What.{What}
 use Rattle.ce_model.specs.declared.entry.What.TheVariants.{HostTake, Take}
 use Rattle.ce_model.specs.declared.entry.TakeResult.TheVariants.{Mail}
-use Rattle.ce_model.specs.Lists.{walk, IsFront}
-use Rattle.ce_model.specs.Parcels.{Parcel, Item, parcels_among, is_same_place, is_member}
+use Rattle.ce_model.specs.Lists.{fold_with_front, IsFront}
+use Rattle.ce_model.specs.Parcels.{Parcel, Item, item_parcels, is_same_place, is_member}
 use Rattle.ce_model.specs.Cube.{parcel_numbered}
-use Rattle.ce_model.specs.Trace.{Standing, waiting_items, sent_to}
+use Rattle.ce_model.specs.Trace.{Standing, waiting_items, sent_items}
 
 -- the parcel goes from the one place to the other
 abbrev pub is_between : Place → Place → Parcel → Bool
@@ -16,11 +16,11 @@ is_between from to parcel = is_same_place parcel.from from && is_same_place parc
 
 -- the bytes of the parcels among these items that go from the one place to the other
 abbrev pub bytes_between : Place → Place → List Item → List (List ℕ)
-bytes_between from to items = map (λ parcel. parcel.block.bytes) (filter (is_between from to) (parcels_among items))
+bytes_between from to items = map (λ parcel. parcel.block.bytes) (filter (is_between from to) (item_parcels items))
 
 -- what was sent from the one place to the other, in order; what waited at first counts as sent
 unfoldable pub messages_sent : Standing → Place → Place → List Entry → List (List ℕ)
-messages_sent o from to t = bytes_between from to (sent_to o to.node t)
+messages_sent o from to t = bytes_between from to (sent_items o to.node t)
 
 -- the number of the parcel that an entry of its actor hands to a process there: to one that asked for a message, or to the host
 abbrev pub number_handed : ℕ → What → Option ℕ
@@ -40,7 +40,7 @@ bytes_handed from to items entry =
 
 -- what the one got from the other, in the order of the trace
 unfoldable pub messages_got : Standing → Place → Place → List Entry → List (List ℕ)
-messages_got o from to t = walk (λ before messages entry. messages ++ bytes_handed from to (waiting_items o to.node before) entry) [] t
+messages_got o from to t = fold_with_front (λ before messages entry. messages ++ bytes_handed from to (waiting_items o to.node before) entry) [] t
 
 -- after every front of the trace, what any one got from another is a front of what that one sent it
 abbrev pub IsInOrder : Standing → List Entry → Type 0

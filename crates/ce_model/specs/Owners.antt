@@ -7,10 +7,10 @@ use Rattle.ce_model.specs.declared.entry.Entry.{Entry}
 use Rattle.ce_model.specs.Limits.{home_blocks, host_home}
 use Rattle.ce_model.specs.Lists.{IsFront}
 use Rattle.ce_model.specs.Blocks.{is_same_id}
-use Rattle.ce_model.specs.Parcels.{Item, parcels_among}
+use Rattle.ce_model.specs.Parcels.{Item, item_parcels}
 use Rattle.ce_model.specs.Process.{Process}
 use Rattle.ce_model.specs.Node.{Node}
-use Rattle.ce_model.specs.Cube.{Cube, CubeState, node_numbers, left_by}
+use Rattle.ce_model.specs.Cube.{Cube, CubeState, node_numbers, state_after_trace}
 
 -- what can hold a block: a node's store, a window of a process of a node, a parcel that waits at a node or at the host, and the
 -- host's store
@@ -29,12 +29,12 @@ abbrev pub held_by_node : ℕ → Node → List (Holder × BlockId)
 held_by_node r node = map (λ id. (in_store r, id)) node.store ++ flat_map (held_by_process r) (enumerate_from 0 node.processes)
 
 abbrev pub held_by_parcels : ℕ → List Item → List (Holder × BlockId)
-held_by_parcels r items = map (λ parcel. (in_parcel r parcel.number, parcel.block.id)) (parcels_among items)
+held_by_parcels r items = map (λ parcel. (in_parcel r parcel.number, parcel.block.id)) (item_parcels items)
 
 unfoldable pub holdings : ℕ → CubeState → List (Holder × BlockId)
 holdings dim s =
-    flat_map (λ r. held_by_node r (s.node r) ++ held_by_parcels r (s.standing.node_record r).waiting) (node_numbers dim)
-    ++ held_by_parcels HOST (s.standing.node_record HOST).waiting ++ map (λ id. (in_hoststore, id)) s.hoststore
+    flat_map (λ r. held_by_node r (s.node r) ++ held_by_parcels r (s.standing.node_record r).waiting_items) (node_numbers dim)
+    ++ held_by_parcels HOST (s.standing.node_record HOST).waiting_items ++ map (λ id. (in_hoststore, id)) s.hoststore
 
 -- all that hold a block
 unfoldable pub holders : ℕ → CubeState → BlockId → List Holder
@@ -53,4 +53,4 @@ HasOneOwner dim s = (id : BlockId) → IsBlockOf dim id → length (holders dim 
 
 -- after every front of the trace each block of the cube has exactly one owner
 abbrev pub IsOwned : Cube → CubeState → List Entry → Type 0
-IsOwned cube o t = (front : List Entry) → IsFront front t → HasOneOwner cube.dim (left_by cube o front)
+IsOwned cube o t = (front : List Entry) → IsFront front t → HasOneOwner cube.dim (state_after_trace cube o front)

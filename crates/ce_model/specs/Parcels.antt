@@ -57,8 +57,8 @@ parcel_in (mail parcel) = Some parcel
 parcel_in other = None
 
 -- the parcels among these items
-abbrev pub parcels_among : List Item → List Parcel
-parcels_among items = filter_map parcel_in items
+abbrev pub item_parcels : List Item → List Parcel
+item_parcels items = filter_map parcel_in items
 
 -- what a node is given is an item, and not only leave to go on or none
 abbrev pub is_item : TakeResult → Bool
@@ -68,8 +68,8 @@ is_item (Kill pid) = true
 is_item other = false
 
 -- the parcels of one message, numbered from a number on: one for each target, of the same bytes
-abbrev pub parcels_from : Place → ℕ → List ℕ → List (Place × BlockId) → List Parcel
-parcels_from from number bytes [] = []
-parcels_from from number bytes (target ∷ targets) =
+abbrev pub message_parcels : Place → ℕ → List ℕ → List (Place × BlockId) → List Parcel
+message_parcels from number bytes [] = []
+message_parcels from number bytes (target ∷ targets) =
     record { from = from; to = target.0; number = number; block = record { id = target.1; bytes = bytes } }
-    ∷ parcels_from from (number + 1) bytes targets
+    ∷ message_parcels from (number + 1) bytes targets

@@ -2,10 +2,10 @@
 use Rattle.std.specs.Prelude.{ℕ, zero, suc, ◌+◌, Bool, true, false, List, [], replicate, slice_index, slice_set}
 use Rattle.rv_model.specs.declared.stop.Stop.{Stop}
 use Rattle.rv_model.specs.declared.stop.Stop.TheVariants.{TurnSpent}
-use Rattle.rv_model.specs.Exec.{Outcome, went, called, stopped, exec}
+use Rattle.rv_model.specs.Exec.{Outcome, next_state, call_state, stop_state, exec}
 use Rattle.rv_model.specs.Image.{ImageParts}
 use Rattle.rv_model.specs.Private.{with_loaded}
-use Rattle.rv_model.specs.declared.limits.TheConstants.{PRIVATE_END}
+use Rattle.rv_model.specs.declared.limits.TheConstants.{PRIVATE_END, REGISTER_COUNT}
 use Rattle.ce_model.specs.declared.process.Status.{Status}
 use Rattle.ce_model.specs.declared.process.Status.TheVariants.{Unborn, Running, Asking, Polling, Stopped}
 use Rattle.ce_model.specs.Space.{Space, process_access, emptied_space}
@@ -19,7 +19,7 @@ pub record Process : Type 0 where
 
 -- how many registers a process has
 abbrev pub register_count : ℕ
-register_count = 32
+register_count = REGISTER_COUNT
 
 -- ---- states
 
@@ -77,12 +77,12 @@ pub data TurnEnd : Type 0 where
   at_stop : ℕ → Process → Stop → TurnEnd
 
 -- where an instruction leads, behind which `left` more may be run
-abbrev pub led_to : (Process → TurnEnd) → ℕ → Process → Outcome Space → TurnEnd
-led_to onward left p (went regs pc space) = onward (moved_process p regs pc space)
-led_to onward left p (called regs pc space) = at_call left (moved_process p regs pc space)
-led_to onward left p (stopped cause) = at_stop left p cause
+abbrev pub end_after : (Process → TurnEnd) → ℕ → Process → Outcome Space → TurnEnd
+end_after onward left p (next_state regs pc space) = onward (moved_process p regs pc space)
+end_after onward left p (call_state regs pc space) = at_call left (moved_process p regs pc space)
+end_after onward left p (stop_state cause) = at_stop left p cause
 
 -- what a process comes to that may run so many instructions more: its next kernel call, its stop, or the end of its turn
 unfoldable pub turn_end : ℕ → Process → TurnEnd
 turn_end zero p = at_stop 0 p TurnSpent
-turn_end (suc left) p = led_to (turn_end left) left p (exec process_access p.regs p.pc p.space)
+turn_end (suc left) p = end_after (turn_end left) left p (exec process_access p.regs p.pc p.space)

@@ -13,11 +13,11 @@ use Rattle.ce_model.specs.Blocks.{Block}
 use Rattle.ce_model.specs.Parcels.{Parcel, Item, mail}
 use Rattle.ce_model.specs.Space.{Space}
 use Rattle.ce_model.specs.Process.{Process}
-use Rattle.ce_model.specs.Node.{Node, Call, sends, spawns, kills}
+use Rattle.ce_model.specs.Node.{Node, Call, send_call, spawn_call, kill_call}
 use Rattle.ce_model.specs.Hearing.{Hearing, mail_of}
 use Rattle.ce_model.specs.Saying.{Saying}
 use Rattle.ce_model.specs.Trace.{NodeRecord}
-use Rattle.ce_model.specs.Subcubes.{relative, node_of}
+use Rattle.ce_model.specs.Subcubes.{relative_number, node_of}
 
 -- a cube that was granted: to whom, of which dimension, and which nodes it is
 pub record CubeGrant : Type 0 where
@@ -28,11 +28,11 @@ pub record CubeGrant : Type 0 where
 -- ---- inwards: from the machine's numbers to the cube's
 
 abbrev pub place_inward : Subcube → Place → Place
-place_inward sub place = record { node = relative sub place.node; pid = place.pid }
+place_inward sub place = record { node = relative_number sub place.node; pid = place.pid }
 
 -- a block of a host is homed at the cube's own host
 abbrev pub block_inward : Subcube → BlockId → BlockId
-block_inward sub id = record { home = if nat_lt id.home host_home then relative sub id.home else host_home; index = id.index }
+block_inward sub id = record { home = if nat_lt id.home host_home then relative_number sub id.home else host_home; index = id.index }
 
 -- ---- outwards: from the cube's numbers to the machine's
 
@@ -50,65 +50,65 @@ block_outward grant id =
 -- ---- calls and entries
 
 -- the targets of a message, once their places and blocks are renamed
-abbrev pub targets_renamed : (Place → Place) → (BlockId → BlockId) → List (Place × BlockId) → List (Place × BlockId)
-targets_renamed place block to = map (λ target. (place target.0, block target.1)) to
+abbrev pub renamed_targets : (Place → Place) → (BlockId → BlockId) → List (Place × BlockId) → List (Place × BlockId)
+renamed_targets place block to = map (λ target. (place target.0, block target.1)) to
 
-abbrev pub call_renamed : (Place → Place) → (BlockId → BlockId) → Call → Call
-call_renamed place block (sends pid to bytes) = sends pid (targets_renamed place block to) bytes
-call_renamed place block (spawns pid image to) = spawns pid image (place to)
-call_renamed place block (kills pid to) = kills pid (place to)
-call_renamed place block other = other
+abbrev pub renamed_call : (Place → Place) → (BlockId → BlockId) → Call → Call
+renamed_call place block (send_call pid to bytes) = send_call pid (renamed_targets place block to) bytes
+renamed_call place block (spawn_call pid image to) = spawn_call pid image (place to)
+renamed_call place block (kill_call pid to) = kill_call pid (place to)
+renamed_call place block other = other
 
-abbrev pub what_renamed : (Place → Place) → (BlockId → BlockId) → What → What
-what_renamed place block (Send pid first to bytes) = Send pid first (targets_renamed place block to) bytes
-what_renamed place block (Spawn pid image to fresh) = Spawn pid image (place to) fresh
-what_renamed place block (Kill pid to found) = Kill pid (place to) found
-what_renamed place block other = other
+abbrev pub renamed_what : (Place → Place) → (BlockId → BlockId) → What → What
+renamed_what place block (Send pid first to bytes) = Send pid first (renamed_targets place block to) bytes
+renamed_what place block (Spawn pid image to fresh) = Spawn pid image (place to) fresh
+renamed_what place block (Kill pid to found) = Kill pid (place to) found
+renamed_what place block other = other
 
 -- an entry of the machine, as its cube knows it
 abbrev pub entry_inward : Subcube → Entry → Entry
 entry_inward sub entry = record {
   user = entry.user;
-  actor = relative sub entry.actor;
-  what = what_renamed (place_inward sub) (block_inward sub) entry.what;
+  actor = relative_number sub entry.actor;
+  what = renamed_what (place_inward sub) (block_inward sub) entry.what;
 }
 
 -- ---- the names of blocks alone, as the box of a node has them
 
-abbrev pub block_with : (BlockId → BlockId) → Block → Block
-block_with rename block = record block { id = rename block.id }
+abbrev pub renamed_block : (BlockId → BlockId) → Block → Block
+renamed_block rename block = record block { id = rename block.id }
 
-abbrev pub parcel_with : (BlockId → BlockId) → Parcel → Parcel
-parcel_with rename parcel = record parcel { block = block_with rename parcel.block }
+abbrev pub renamed_parcel : (BlockId → BlockId) → Parcel → Parcel
+renamed_parcel rename parcel = record parcel { block = renamed_block rename parcel.block }
 
 -- what waits at a node of the machine, and what it keeps for one, with its names for blocks
-abbrev pub item_with : (BlockId → BlockId) → Item → Item
-item_with rename (mail parcel) = mail (parcel_with rename parcel)
-item_with rename other = other
+abbrev pub renamed_item : (BlockId → BlockId) → Item → Item
+renamed_item rename (mail parcel) = mail (renamed_parcel rename parcel)
+renamed_item rename other = other
 
-abbrev pub record_with : (BlockId → BlockId) → NodeRecord → NodeRecord
-record_with rename kept = record kept { waiting = map (item_with rename) kept.waiting }
+abbrev pub renamed_record : (BlockId → BlockId) → NodeRecord → NodeRecord
+renamed_record rename kept = record kept { waiting_items = map (renamed_item rename) kept.waiting_items }
 
-abbrev pub space_with : (BlockId → BlockId) → Space → Space
-space_with rename space = record space { windows = map (option_map (block_with rename)) space.windows }
+abbrev pub renamed_space : (BlockId → BlockId) → Space → Space
+renamed_space rename space = record space { windows = map (option_map (renamed_block rename)) space.windows }
 
-abbrev pub process_with : (BlockId → BlockId) → Process → Process
-process_with rename p = record p { space = space_with rename p.space }
+abbrev pub renamed_process : (BlockId → BlockId) → Process → Process
+renamed_process rename p = record p { space = renamed_space rename p.space }
 
-abbrev pub call_with : (BlockId → BlockId) → Call → Call
-call_with rename call = call_renamed (λ place. place) rename call
+abbrev pub renamed_call_blocks : (BlockId → BlockId) → Call → Call
+renamed_call_blocks rename call = renamed_call (λ place. place) rename call
 
-abbrev pub heard_with : (BlockId → BlockId) → Hearing → Hearing
-heard_with rename (mail_of parcel) = mail_of (parcel_with rename parcel)
-heard_with rename other = other
+abbrev pub renamed_hearing : (BlockId → BlockId) → Hearing → Hearing
+renamed_hearing rename (mail_of parcel) = mail_of (renamed_parcel rename parcel)
+renamed_hearing rename other = other
 
 -- the node of a cube, as a box of the machine stands for it: with the machine's names for its blocks and its home
 abbrev pub node_outward : CubeGrant → Node → Node
 node_outward grant node = record node {
   home = node_of grant.sub node.home;
-  processes = map (process_with (block_outward grant)) node.processes;
+  processes = map (renamed_process (block_outward grant)) node.processes;
   store = map (block_outward grant) node.store;
 }
 
 abbrev pub saying_outward : CubeGrant → Saying → Saying
-saying_outward grant saying = record { node = node_outward grant saying.node; call = call_with (block_outward grant) saying.call }
+saying_outward grant saying = record { node = node_outward grant saying.node; call = renamed_call_blocks (block_outward grant) saying.call }

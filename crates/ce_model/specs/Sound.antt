@@ -8,8 +8,8 @@ use Rattle.ce_model.specs.declared.topology.TheConstants.{HOST}
 use Rattle.ce_model.specs.declared.topology.BlockId.{BlockId}
 use Rattle.ce_model.specs.Limits.{process_count, window_count, turn_instructions, turn_calls}
 use Rattle.ce_model.specs.Lists.{ArePairwise}
-use Rattle.ce_model.specs.Blocks.{precedes}
-use Rattle.ce_model.specs.Parcels.{Item, start, mail, kill, parcels_among}
+use Rattle.ce_model.specs.Blocks.{is_lower}
+use Rattle.ce_model.specs.Parcels.{Item, start, mail, kill, item_parcels}
 use Rattle.ce_model.specs.Space.{mapped_ids}
 use Rattle.ce_model.specs.Process.{Process, register_count, is_stopped}
 use Rattle.ce_model.specs.Node.{Turn, Node, process_at, host_place}
@@ -51,7 +51,7 @@ IsStartFirst pid (item ∷ items) = (IsTrue (is_kill_of pid item) → has_start 
 
 -- the numbers of the parcels that wait, in order
 abbrev pub numbers_of : List Item → List ℕ
-numbers_of items = map (λ parcel. parcel.number) (parcels_among items)
+numbers_of items = map (λ parcel. parcel.number) (item_parcels items)
 
 -- the numbers of parcels rise, and are of parcels that were sent
 pub record AreNumbered (count : ℕ) (items : List Item) : Type 0 where
@@ -61,9 +61,9 @@ pub record AreNumbered (count : ℕ) (items : List Item) : Type 0 where
 -- an item that waits at node r is for one of its processes: a start is of an image of the cube and of an id that was spawned, and a
 -- kill is of one whose kill was accepted
 abbrev pub IsItemOf : Cube → ℕ → NodeRecord → Item → Type 0
-IsItemOf cube r kept (start pid image) = IsTrue (is_among pid kept.spawned) × (image < length cube.images)
+IsItemOf cube r kept (start pid image) = IsTrue (is_among pid kept.spawned_ids) × (image < length cube.images)
 IsItemOf cube r kept (mail parcel) = (parcel.to.node ≡ r) × (parcel.to.pid < process_count)
-IsItemOf cube r kept (kill pid) = IsTrue (is_among pid kept.killed)
+IsItemOf cube r kept (kill pid) = IsTrue (is_among pid kept.killed_ids)
 
 -- the numbers differ from one another
 abbrev pub AreDistinct : List ℕ → Type 0
@@ -72,15 +72,15 @@ AreDistinct pids = ArePairwise (λ a b. (a == b) ≡ false) pids
 -- what is kept for a node: the items that wait there are its own, one start and one kill of an id at most, the start first; an id is
 -- spawned once, and only a spawned one is killed, once
 pub record IsSoundRecord (cube : Cube) (count r : ℕ) (kept : NodeRecord) : Type 0 where
-  pub numbered : AreNumbered count kept.waiting
-  pub own : AllByRecursion (IsItemOf cube r kept) kept.waiting
-  pub one_start : (pid : ℕ) → count_by (is_start_of pid) kept.waiting ≤ 1
-  pub one_kill : (pid : ℕ) → count_by (is_kill_of pid) kept.waiting ≤ 1
-  pub start_first : (pid : ℕ) → IsStartFirst pid kept.waiting
-  pub ids : AllByRecursion (λ pid. pid < process_count) kept.spawned
-  pub spawned_once : AreDistinct kept.spawned
-  pub killed : AllByRecursion (λ pid. IsTrue (is_among pid kept.spawned)) kept.killed
-  pub killed_once : AreDistinct kept.killed
+  pub numbered : AreNumbered count kept.waiting_items
+  pub own : AllByRecursion (IsItemOf cube r kept) kept.waiting_items
+  pub one_start : (pid : ℕ) → count_by (is_start_of pid) kept.waiting_items ≤ 1
+  pub one_kill : (pid : ℕ) → count_by (is_kill_of pid) kept.waiting_items ≤ 1
+  pub start_first : (pid : ℕ) → IsStartFirst pid kept.waiting_items
+  pub ids : AllByRecursion (λ pid. pid < process_count) kept.spawned_ids
+  pub spawned_once : AreDistinct kept.spawned_ids
+  pub killed : AllByRecursion (λ pid. IsTrue (is_among pid kept.spawned_ids)) kept.killed_ids
+  pub killed_once : AreDistinct kept.killed_ids
 
 -- the items that wait for the host are parcels for it
 abbrev pub IsHostItem : Item → Type 0
@@ -103,7 +103,7 @@ is_turn_of pid (Some turn) = turn.pid == pid
 pub record IsSoundProcess (kept : NodeRecord) (turn : Option Turn) (pid : ℕ) (p : Process) : Type 0 where
   pub registers : length p.regs ≡ register_count
   pub windows : length p.space.windows ≤ window_count
-  pub unborn : is_unborn p.status ≡ (not (is_among pid kept.spawned) || has_start pid kept.waiting)
+  pub unborn : is_unborn p.status ≡ (not (is_among pid kept.spawned_ids) || has_start pid kept.waiting_items)
   pub unborn_used : IsTrue (is_unborn p.status) → p.space.windows ≡ []
   pub stopped_holds : IsTrue (is_stopped p.status) → mapped_ids p.space ≡ []
   pub running : is_running p.status ≡ is_turn_of pid turn
@@ -111,12 +111,12 @@ pub record IsSoundProcess (kept : NodeRecord) (turn : Option Turn) (pid : ℕ) (
 -- a turn is of one of the node's processes, and within its limits
 pub record IsSoundTurn (turn : Turn) : Type 0 where
   pub pid : turn.pid < process_count
-  pub left : turn.left ≤ turn_instructions
+  pub instructions_left : turn.instructions_left ≤ turn_instructions
   pub calls : turn.calls ≤ turn_calls
 
 -- the names of a store rise
 abbrev pub IsRising : List BlockId → Type 0
-IsRising ids = ArePairwise (λ a b. precedes a b ≡ true) ids
+IsRising ids = ArePairwise (λ a b. is_lower a b ≡ true) ids
 
 -- node r of a cube; the list of those in `xrecv` has exactly the ids that poll, each once
 pub record IsSoundNode (cube : Cube) (kept : NodeRecord) (r : ℕ) (node : Node) : Type 0 where
@@ -126,7 +126,7 @@ pub record IsSoundNode (cube : Cube) (kept : NodeRecord) (r : ℕ) (node : Node)
   pub images : node.images ≡ length cube.images
   pub process_ids : length node.processes ≡ process_count
   pub processes : (pid : ℕ) → pid < process_count → IsSoundProcess kept node.turn pid (process_at node pid)
-  pub polling : (pid : ℕ) → count_by (λ other. other == pid) node.polling ≡ (if is_polling (process_at node pid).status then 1 else 0)
+  pub polling_ids : (pid : ℕ) → count_by (λ other. other == pid) node.polling_ids ≡ (if is_polling (process_at node pid).status then 1 else 0)
   pub turn : IfSome node.turn IsSoundTurn
   pub store : IsRising node.store
 
@@ -136,8 +136,8 @@ pub record IsSoundNode (cube : Cube) (kept : NodeRecord) (r : ℕ) (node : Node)
 pub record IsSound (cube : Cube) (s : CubeState) : Type 0 where
   pub nodes : (r : ℕ) → r < 2 ^ cube.dim → IsSoundNode cube (s.standing.node_record r) r (s.node r)
   pub records : (r : ℕ) → r < 2 ^ cube.dim → IsSoundRecord cube s.standing.parcel_count r (s.standing.node_record r)
-  pub host : IsSoundHost s.standing.parcel_count (s.standing.node_record HOST).waiting
+  pub host : IsSoundHost s.standing.parcel_count (s.standing.node_record HOST).waiting_items
   pub hoststore : IsRising s.hoststore
   pub owners : HasOneOwner cube.dim s
   pub blocks : AllByRecursion (λ holding. IsBlockOf cube.dim holding.1) (holdings cube.dim s)
-  pub dispatches : s.standing.dispatched ≤ s.standing.armed
+  pub dispatches : s.standing.made_dispatches ≤ s.standing.allowed_dispatches

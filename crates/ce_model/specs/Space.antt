@@ -4,7 +4,7 @@ use Rattle.rv_model.specs.declared.stop.Stop.{Stop}
 use Rattle.rv_model.specs.declared.stop.Stop.TheVariants.{Misaligned, Unmapped, Gone, PastEnd, NotABlock}
 use Rattle.rv_model.specs.Exec.{Access}
 use Rattle.rv_model.specs.LittleEndian.{number_at, with_number_at}
-use Rattle.rv_model.specs.Private.{is_private, word_fetched}
+use Rattle.rv_model.specs.Private.{is_private, word_at_pc}
 use Rattle.rv_model.specs.declared.limits.TheConstants.{PRIVATE_START}
 use Rattle.rv_model.specs.Word.{wrapping_sum}
 use Rattle.ce_model.specs.declared.topology.Place.{Place}
@@ -53,33 +53,33 @@ mapped_ids space = filter_map (option_map (λ block. block.id)) space.windows
 -- ---- accesses
 
 -- where an access is made: at an offset of private memory, or of the block at a window
-pub data Spot : Type 0 where
-  in_private : ℕ → Spot
-  in_block : ℕ → Block → ℕ → Spot
+pub data AccessSite : Type 0 where
+  in_private : ℕ → AccessSite
+  in_block : ℕ → Block → ℕ → AccessSite
 
 -- an access above private memory: the window must have been used, must hold its block still, and the access must lie within it
-abbrev pub spot_in : Option (Option Block) → ℕ → ℕ → Result Spot Stop
-spot_in None a size = Err (Unmapped a)
-spot_in (Some None) a size = Err (Gone a)
-spot_in (Some (Some block)) a size =
+abbrev pub site_in : Option (Option Block) → ℕ → ℕ → Result AccessSite Stop
+site_in None a size = Err (Unmapped a)
+site_in (Some None) a size = Err (Gone a)
+site_in (Some (Some block)) a size =
     if nat_le (offset_of a + size) (length block.bytes) then Ok (in_block (window_of a) block (offset_of a)) else Err (PastEnd a)
 
 -- where an access of `size` bytes at an address is made, or why it stops the process: it must be at a multiple of its size;
 -- it is made in private memory, or else in the block of its window
-unfoldable pub spot : Space → ℕ → ℕ → Result Spot Stop
-spot space a size =
+unfoldable pub access_site : Space → ℕ → ℕ → Result AccessSite Stop
+access_site space a size =
     if not (a % size == 0) then Err (Misaligned a)
     else (if is_private a then Ok (in_private (a - PRIVATE_START))
     else (if nat_lt a window_base then Err (Unmapped a)
-    else spot_in (slice_get space.windows (window_of a)) a size))
+    else site_in (slice_get space.windows (window_of a)) a size))
 
--- the number in the `size` bytes at a spot
-abbrev pub number_in : Space → ℕ → Spot → ℕ
+-- the number in the `size` bytes at a site
+abbrev pub number_in : Space → ℕ → AccessSite → ℕ
 number_in space size (in_private offset) = number_at space.private offset size
 number_in space size (in_block k block offset) = number_at block.bytes offset size
 
--- the memory once the lowest `size` bytes of a number are written at a spot
-abbrev pub with_number_in : Space → ℕ → ℕ → Spot → Space
+-- the memory once the lowest `size` bytes of a number are written at a site
+abbrev pub with_number_in : Space → ℕ → ℕ → AccessSite → Space
 with_number_in space size n (in_private offset) = record space { private = with_number_at space.private offset size n }
 with_number_in space size n (in_block k block offset) =
     record space { windows = slice_set space.windows k (Some (record block { bytes = with_number_at block.bytes offset size n })) }
@@ -90,17 +90,17 @@ result_map f (Ok x) = Ok (f x)
 result_map f (Err cause) = Err cause
 
 abbrev pub loaded_at : Space → ℕ → ℕ → Result ℕ Stop
-loaded_at space a size = result_map (number_in space size) (spot space a size)
+loaded_at space a size = result_map (number_in space size) (access_site space a size)
 
 abbrev pub stored_at : Space → ℕ → ℕ → ℕ → Result Space Stop
-stored_at space a size n = result_map (with_number_in space size n) (spot space a size)
+stored_at space a size n = result_map (with_number_in space size n) (access_site space a size)
 
 -- what a process's memory answers; instructions are fetched from private memory alone
 abbrev pub process_access : Access Space
 process_access = record {
-  fetched = λ space pc. word_fetched space.private pc;
-  loaded = loaded_at;
-  stored = stored_at;
+  fetch = λ space pc. word_at_pc space.private pc;
+  load = loaded_at;
+  store = stored_at;
 }
 
 -- ---- what a kernel call reads
@@ -125,12 +125,12 @@ and_then (Ok x) f = f x
 and_then (Err cause) f = Err cause
 
 -- a place: a word for the node, and behind it one for the process id
-abbrev pub place_at : Space → ℕ → Result Place Stop
-place_at space a =
+abbrev pub memory_place : Space → ℕ → Result Place Stop
+memory_place space a =
     and_then (loaded_at space a 4) (λ node. result_map (λ pid. record { node = node; pid = pid }) (loaded_at space (wrapping_sum a 4) 4))
 
 -- so many places, one behind the other, or why a word of theirs can't be read
 abbrev pub places_at : Space → ℕ → ℕ → Result (List Place) Stop
 places_at space a zero = Ok []
 places_at space a (suc count) =
-    and_then (place_at space a) (λ place. result_map (λ places. place ∷ places) (places_at space (wrapping_sum a 8) count))
+    and_then (memory_place space a) (λ place. result_map (λ places. place ∷ places) (places_at space (wrapping_sum a 8) count))

@@ -17,8 +17,8 @@ unfoldable pub extract : ℕ → ℕ → ℕ
 extract n mask = extracted_bits greatest_dim n mask
 
 -- the number by which a cube knows a node of the machine; its host keeps the number
-unfoldable pub relative : Subcube → ℕ → ℕ
-relative sub node = if node == HOST then HOST else extract node sub.mask
+unfoldable pub relative_number : Subcube → ℕ → ℕ
+relative_number sub node = if node == HOST then HOST else extract node sub.mask
 
 -- the bits of r, put on the one bits of the mask from the lowest up; for masks of so many bits
 abbrev pub deposited_bits : ℕ → ℕ → ℕ → ℕ
@@ -61,12 +61,12 @@ pub record IsSubcube (dim d : ℕ) (sub : Subcube) : Type 0 where
   pub dimension : ones_of greatest_dim sub.mask ≡ d
   pub apart : extract sub.base sub.mask ≡ 0
 
-abbrev pub subcube_at : ℕ → ℕ → Subcube
-subcube_at mask base = record { mask = mask; base = base }
+abbrev pub masked_subcube : ℕ → ℕ → Subcube
+masked_subcube mask base = record { mask = mask; base = base }
 
 -- the subcubes with this mask of a machine with so many nodes, by rising base
 abbrev pub with_mask : ℕ → ℕ → List Subcube
-with_mask count mask = map (subcube_at mask) (filter (is_base mask) (range_with_len 0 count))
+with_mask count mask = map (masked_subcube mask) (filter (is_base mask) (range_with_len 0 count))
 
 -- the subcubes of dimension d of a machine of dimension dim, by rising mask, and those of one mask by rising base
 unfoldable pub subcubes : (dim d : ℕ) → List Subcube

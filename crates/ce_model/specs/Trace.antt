@@ -8,14 +8,14 @@ use Rattle.ce_model.specs.declared.entry.What.TheVariants.{Arm, HostTake, Send, 
 use Rattle.ce_model.specs.declared.entry.KillFound.TheVariants.{Killed}
 use Rattle.ce_model.specs.declared.entry.TakeResult.{TakeResult}
 use Rattle.ce_model.specs.declared.entry.TakeResult.TheVariants.{Mail, Idle, Spent}
-use Rattle.ce_model.specs.Parcels.{Parcel, Item, start, mail, kill, item_id, is_item, is_named_by, parcels_from}
+use Rattle.ce_model.specs.Parcels.{Parcel, Item, start, mail, kill, item_id, is_item, is_named_by, message_parcels}
 
 -- ---- what an entry does
 
 -- the parcels that an entry sends, one for each target
-abbrev pub parcels_of : ℕ → What → List Parcel
-parcels_of actor (Send pid first to bytes) = parcels_from (record { node = actor; pid = pid }) first bytes to
-parcels_of actor other = []
+abbrev pub sent_parcels : ℕ → What → List Parcel
+sent_parcels actor (Send pid first to bytes) = message_parcels (record { node = actor; pid = pid }) first bytes to
+sent_parcels actor other = []
 
 -- the starts that an entry sends to node r: of the process whose id it newly spawns there
 abbrev pub starts_in : ℕ → What → List Item
@@ -29,24 +29,24 @@ kills_in r other = []
 
 -- the parcels that an entry sends to node r
 abbrev pub mails_in : ℕ → Entry → List Item
-mails_in r entry = map mail (filter (λ parcel. parcel.to.node == r) (parcels_of entry.actor entry.what))
+mails_in r entry = map mail (filter (λ parcel. parcel.to.node == r) (sent_parcels entry.actor entry.what))
 
 -- all that an entry sends to node r; it is of one kind
 abbrev pub items_to : ℕ → Entry → List Item
 items_to r entry = starts_in r entry.what ++ (kills_in r entry.what ++ mails_in r entry)
 
 -- what an entry takes out of what waits for its actor, as it names it; a host's messages are for process 0
-abbrev pub taken_in : What → Option TakeResult
-taken_in (Take asking dead poller given) = if is_item given then Some given else None
-taken_in (HostTake number) = option_map (λ n. Mail 0 n) number
-taken_in other = None
+abbrev pub taken_result : What → Option TakeResult
+taken_result (Take asking dead poller given) = if is_item given then Some given else None
+taken_result (HostTake number) = option_map (λ n. Mail 0 n) number
+taken_result other = None
 
 -- the ids on node r that an entry newly spawns, and those whose kill it accepts
-abbrev pub spawned_in : ℕ → What → List ℕ
-spawned_in r what = map item_id (starts_in r what)
+abbrev pub start_ids_in : ℕ → What → List ℕ
+start_ids_in r what = map item_id (starts_in r what)
 
-abbrev pub killed_in : ℕ → What → List ℕ
-killed_in r what = map item_id (kills_in r what)
+abbrev pub kill_ids_in : ℕ → What → List ℕ
+kill_ids_in r what = map item_id (kills_in r what)
 
 -- a node is given work: an item, or leave to go on
 abbrev pub is_work : TakeResult → Bool
@@ -55,97 +55,97 @@ is_work Spent = false
 is_work other = true
 
 -- the dispatches that are allowed, once an entry is made
-abbrev pub armed_by : ℕ → What → ℕ
-armed_by count (Arm allowed) = allowed
-armed_by count other = count
+abbrev pub allowed_dispatches_after : ℕ → What → ℕ
+allowed_dispatches_after count (Arm allowed) = allowed
+allowed_dispatches_after count other = count
 
 -- the dispatches made since they were allowed, once an entry is made
-abbrev pub dispatched_by : ℕ → What → ℕ
-dispatched_by count (Arm allowed) = 0
-dispatched_by count (Take asking dead poller given) = if is_work given then count + 1 else count
-dispatched_by count other = count
+abbrev pub made_dispatches_after : ℕ → What → ℕ
+made_dispatches_after count (Arm allowed) = 0
+made_dispatches_after count (Take asking dead poller given) = if is_work given then count + 1 else count
+made_dispatches_after count other = count
 
 -- what is known of a node by its own entries: whether its last one is a Take answered Idle, or there is none; and the sets of
 -- its last Take
 pub record Mark : Type 0 where
-  pub idle : Bool
-  pub asking : ℕ
-  pub dead : ℕ
+  pub is_idle : Bool
+  pub asking_ids : ℕ
+  pub dead_ids : ℕ
 
 -- the mark of a node without an entry
 abbrev pub blank_mark : Mark
-blank_mark = record { idle = true; asking = 0; dead = 0 }
+blank_mark = record { is_idle = true; asking_ids = 0; dead_ids = 0 }
 
 abbrev pub is_idle : TakeResult → Bool
 is_idle Idle = true
 is_idle other = false
 
 -- the mark of a node, once it has made an entry
-abbrev pub marked_by : Mark → What → Mark
-marked_by mark (Take asking dead poller given) = record { idle = is_idle given; asking = asking; dead = dead }
-marked_by mark other = record mark { idle = false }
+abbrev pub mark_after : Mark → What → Mark
+mark_after mark (Take asking dead poller given) = record { is_idle = is_idle given; asking_ids = asking; dead_ids = dead }
+mark_after mark other = record mark { is_idle = false }
 
 -- ---- what a trace leaves behind what its cube began with
 
 -- what the machine keeps for a node: the items that wait there, the ids that were spawned and those whose kill was accepted,
 -- and its mark
 pub record NodeRecord : Type 0 where
-  pub waiting : List Item
-  pub spawned : List ℕ
-  pub killed : List ℕ
+  pub waiting_items : List Item
+  pub spawned_ids : List ℕ
+  pub killed_ids : List ℕ
   pub mark : Mark
 
 -- what is kept for a node of which nothing is known
 abbrev pub blank_record : NodeRecord
-blank_record = record { waiting = []; spawned = []; killed = []; mark = blank_mark }
+blank_record = record { waiting_items = []; spawned_ids = []; killed_ids = []; mark = blank_mark }
 
 -- how a cube stands: what is kept for each node, and for the host; the dispatches that are allowed and those made since; and how many
 -- parcels were sent
 pub record Standing : Type 0 where
   pub node_record : ℕ → NodeRecord
-  pub armed : ℕ
-  pub dispatched : ℕ
+  pub allowed_dispatches : ℕ
+  pub made_dispatches : ℕ
   pub parcel_count : ℕ
 
 -- all that was sent to node r: what waited for it at first, and what the trace sends
-unfoldable pub sent_to : Standing → ℕ → List Entry → List Item
-sent_to o r t = (o.node_record r).waiting ++ flat_map (items_to r) t
+unfoldable pub sent_items : Standing → ℕ → List Entry → List Item
+sent_items o r t = (o.node_record r).waiting_items ++ flat_map (items_to r) t
 
 -- what node r has taken, as its entries name it
-unfoldable pub taken_by : ℕ → List Entry → List TakeResult
-taken_by r t = filter_map (λ entry. if entry.actor == r then taken_in entry.what else None) t
+unfoldable pub taken_results : ℕ → List Entry → List TakeResult
+taken_results r t = filter_map (λ entry. if entry.actor == r then taken_result entry.what else None) t
 
 -- what waits at node r: what was sent to it, and what it has not taken
 unfoldable pub waiting_items : Standing → ℕ → List Entry → List Item
-waiting_items o r t = filter (λ item. not (list_any (λ given. is_named_by given item) (taken_by r t))) (sent_to o r t)
+waiting_items o r t = filter (λ item. not (list_any (λ given. is_named_by given item) (taken_results r t))) (sent_items o r t)
 
 -- the ids that were spawned on node r, and those whose kill was accepted
 unfoldable pub spawned_ids : Standing → ℕ → List Entry → List ℕ
-spawned_ids o r t = (o.node_record r).spawned ++ flat_map (λ entry. spawned_in r entry.what) t
+spawned_ids o r t = (o.node_record r).spawned_ids ++ flat_map (λ entry. start_ids_in r entry.what) t
 
 unfoldable pub killed_ids : Standing → ℕ → List Entry → List ℕ
-killed_ids o r t = (o.node_record r).killed ++ flat_map (λ entry. killed_in r entry.what) t
+killed_ids o r t = (o.node_record r).killed_ids ++ flat_map (λ entry. kill_ids_in r entry.what) t
 
 -- the mark of node r
 unfoldable pub mark : Standing → ℕ → List Entry → Mark
-mark o r t = fold (λ now entry. if entry.actor == r then marked_by now entry.what else now) (o.node_record r).mark t
+mark o r t = fold (λ now entry. if entry.actor == r then mark_after now entry.what else now) (o.node_record r).mark t
 
 -- the dispatches that the last Arm allows, and those made since
 unfoldable pub allowed_dispatches : Standing → List Entry → ℕ
-allowed_dispatches o t = fold (λ count entry. armed_by count entry.what) o.armed t
+allowed_dispatches o t = fold (λ count entry. allowed_dispatches_after count entry.what) o.allowed_dispatches t
 
 unfoldable pub made_dispatches : Standing → List Entry → ℕ
-made_dispatches o t = fold (λ count entry. dispatched_by count entry.what) o.dispatched t
+made_dispatches o t = fold (λ count entry. made_dispatches_after count entry.what) o.made_dispatches t
 
 -- the parcels that a trace sends, in order
 unfoldable pub parcels : List Entry → List Parcel
-parcels t = flat_map (λ entry. parcels_of entry.actor entry.what) t
+parcels t = flat_map (λ entry. sent_parcels entry.actor entry.what) t
 
 -- how the cube stands after a trace
 abbrev pub standing : Standing → List Entry → Standing
 standing o t = record {
-  node_record = λ r. record { waiting = waiting_items o r t; spawned = spawned_ids o r t; killed = killed_ids o r t; mark = mark o r t };
-  armed = allowed_dispatches o t;
-  dispatched = made_dispatches o t;
+  node_record = λ r. record { waiting_items = waiting_items o r t; spawned_ids = spawned_ids o r t; killed_ids = killed_ids o r t; mark = mark o r t };
+  allowed_dispatches = allowed_dispatches o t;
+  made_dispatches = made_dispatches o t;
   parcel_count = o.parcel_count + length (parcels t);
 }

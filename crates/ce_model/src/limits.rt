@@ -42,6 +42,18 @@ pub const GREATEST_USERS: u32 = 8;
 /// How many images a machine can have.
 pub const GREATEST_IMAGES: u32 = 64;
 
+/// How many messages can wait in a cube: as many as the greatest cube has blocks, those of its host included.
+pub const MAIL_ROOM: u32 = GREATEST_BLOCKS;
+
+/// How many items can wait at a node: all messages, and a start and a kill of each process.
+pub const NODE_ROOM: u32 = MAIL_ROOM + 2 * PROCESS_COUNT;
+
+/// How many entries a machine's history can have.
+pub const GREATEST_HISTORY: u64 = 1 << 57;
+
+/// How many bytes a script can have.
+pub const SCRIPT_LIMIT: usize = 1_048_576;
+
 /// The home of the blocks of a cube's host, as the cube knows it. In the machine it is this and the user's number
 /// together.
 pub const HOST_HOME: u32 = 256;

@@ -6,13 +6,13 @@ use Rattle.ce_model.specs.declared.entry.Entry.{Entry}
 use Rattle.ce_model.specs.Node.{is_place, process_at}
 use Rattle.ce_model.specs.Cube.{opening, hoststore, rest}
 use Rattle.ce_model.specs.Views.{view}
-use Rattle.ce_model.specs.Machine.{MachineParts, HeldCube, after, held_by}
+use Rattle.ce_model.specs.Machine.{MachineParts, HeldCube, after, cube_held_by}
 use Rattle.ce_host.specs.declared.command.Command.{Command}
 use Rattle.ce_host.specs.declared.command.Command.TheVariants.{Getcube, Peek, Freecube, Spawn, Kill, Send, Dump, Trace}
 use Rattle.ce_host.specs.declared.answer.Answer.{Answer}
 use Rattle.ce_host.specs.declared.answer.Answer.TheVariants.{NoCube, Held, Freed, NoPlace, NoStore, State, Entries}
 use Rattle.ce_script.specs.Rounds.{RoundKind}
-use Rattle.ce_script.specs.Moments.{Holding, moments_behind}
+use Rattle.ce_script.specs.Moments.{Holding, later_moments}
 use Rattle.ce_script.specs.Commands.{IsCommand, IsAtPlace, IsSend}
 use Rattle.ce_record.specs.Asked.{wants_cube, place_in}
 use Rattle.ce_record.specs.Held.{holding_of, held_now, cube_in}
@@ -23,11 +23,11 @@ use Rattle.ce_record.specs.Laws.{freecube_entries, NoCubeIsNext}
 -- a command is next by what its user holds
 pub next-by : (kind : RoundKind) (parts : MachineParts) (history : List Entry) (user : ℕ) (held : Option Holding) (command : Command) (answer : Answer) (made : List Entry)
     → held_now history user ≡ held → AllByRecursion (λ entry. entry.user ≡ user) made
-    → IsCommand kind parts user held command answer (moments_behind history made) → IsRefusedWhere parts held (doing_behind history command answer made)
+    → IsCommand kind parts user held command answer (later_moments history made) → IsRefusedWhere parts held (doing_behind history command answer made)
     → IsNextCommand kind parts history user command answer made
 next-by kind parts history user held command answer made is own does refused = record {
   own = own;
-  does = subst (λ held. IsCommand kind parts user held command answer (moments_behind history made)) (sym is) does;
+  does = subst (λ held. IsCommand kind parts user held command answer (later_moments history made)) (sym is) does;
   refused = subst (λ held. IsRefusedWhere parts held (doing_behind history command answer made)) (sym is) refused;
 }
 
@@ -56,10 +56,10 @@ pub at-place : (dim : ℕ) (b : Bool) (to : Place) (answer : Answer) (segment : 
     → IsAtPlace (is_place dim to) answer segment P
 at-place dim b to answer segment P place is = subst (λ b. IsAtPlace b answer segment P) (sym place) is
 
-module _ (kind : RoundKind) (parts : MachineParts) (history : List Entry) (user : ℕ) (cube : HeldCube) (holds : held_by (after history) user ≡ Some cube) where
+module _ (kind : RoundKind) (parts : MachineParts) (history : List Entry) (user : ℕ) (cube : HeldCube) (holds : cube_held_by (after history) user ≡ Some cube) where
   -- by what is held, a command is next
   pub holder-next : (command : Command) (answer : Answer) (made : List Entry) → AllByRecursion (λ entry. entry.user ≡ user) made
-      → IsCommand kind parts user (Some (holding_of history cube)) command answer (moments_behind history made)
+      → IsCommand kind parts user (Some (holding_of history cube)) command answer (later_moments history made)
       → IsRefusedWhere parts (Some (holding_of history cube)) (doing_behind history command answer made)
       → IsNextCommand kind parts history user command answer made
   holder-next command answer made =

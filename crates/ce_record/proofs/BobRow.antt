@@ -3,13 +3,13 @@
 use Rattle.std.proofs.Common.{◌≡◌, true, false, List, [], ◌∷◌, take, drop, Some, refl, lit<, lit≤}
 use Rattle.rv_model.specs.Image.{ImageParts}
 use Rattle.ce_model.specs.declared.entry.Entry.{Entry}
-use Rattle.ce_model.specs.declared.entry.LookResult.TheVariants.{Quiet as FoundQuiet}
+use Rattle.ce_model.specs.declared.entry.LookResult.TheVariants as look_result
 use Rattle.ce_model.specs.Limits.{greatest_dim, greatest_users, greatest_images}
-use Rattle.ce_model.specs.Subcubes.{extract, relative}
-use Rattle.ce_model.specs.Hearing.{hears}
+use Rattle.ce_model.specs.Subcubes.{extract, relative_number}
+use Rattle.ce_model.specs.Hearing.{node_after_hearing}
 use Rattle.ce_model.specs.Cube.{state}
 use Rattle.ce_model.specs.Views.{view}
-use Rattle.ce_model.specs.Machine.{MachineParts, IsMachine, IsLawful, IsLawfulEntry, HeldCube, after, held_by}
+use Rattle.ce_model.specs.Machine.{MachineParts, IsMachine, IsLawful, IsLawfulEntry, HeldCube, after, cube_held_by}
 use Rattle.ce_model.proofs.Walked.{each_of_front}
 use Rattle.ce_host.specs.declared.command.Command.TheVariants.{Run}
 use Rattle.ce_host.specs.declared.answer.Answer.TheVariants.{Quiet}
@@ -42,26 +42,26 @@ lawful_before image h = each_of_front (IsLawfulEntry (machine image)) [] before 
 abbrev bob_holds : HeldCube
 bob_holds = new_cube 1 (record { user = 1; dim = 0; sub = subcube 0 0 })
 
-holds : held_by (after before) 1 ≡ Some bob_holds
+holds : cube_held_by (after before) 1 ≡ Some bob_holds
 unfolding after
 holds = refl
 
 starts : IsRoundOf serial 1 bob_holds.grant true start_round
-unfolding relative extract greatest_dim
+unfolding relative_number extract greatest_dim
 starts = record { calls = ((refl, refl), tt); is_round = turn_is_round start_round (refl, tt, (refl, tt)); works = refl }
 
 rests : IsRoundOf serial 1 bob_holds.grant false idle_round
-unfolding relative extract greatest_dim
+unfolding relative_number extract greatest_dim
 rests = record { calls = ((refl, refl), tt); is_round = turn_is_round idle_round (refl, tt, (refl, tt)); works = refl }
 
-is_run : IsRunOf serial 1 bob_holds.grant 10 FoundQuiet (drop 8 the_record.history)
+is_run : IsRunOf serial 1 bob_holds.grant 10 look_result.Quiet (drop 8 the_record.history)
 is_run = record { rounds = start_round ∷ []; last = idle_round; with_work = (starts, tt); without_work = rests; entries = refl }
 
 turns : (image : ImageParts) → HasSaidRow image → AreTurnsOverIn (machine image) the_record.history bob_holds
-unfolding view state hears relative extract greatest_dim
+unfolding view state node_after_hearing relative_number extract greatest_dim
 turns image h = turns_over 1 image bob_trace (rw h.still refl)
 
 pub bob_runs : (image : ImageParts) → HasSaidRow image → IsNextCommand serial (machine image) before 1 (Run 10) Quiet (drop 8 the_record.history)
 bob_runs image h =
-    run serial (machine image) before 1 bob_holds holds (is_machine image) (lawful_before image h) refl 10 FoundQuiet Quiet (drop 8 the_record.history) is_run refl
+    run serial (machine image) before 1 bob_holds holds (is_machine image) (lawful_before image h) refl 10 look_result.Quiet Quiet (drop 8 the_record.history) is_run refl
     (turns image h)

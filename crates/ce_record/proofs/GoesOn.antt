@@ -5,10 +5,10 @@ use Rattle.std.specs.List.{AllByRecursion}
 use Rattle.std.proofs.lemmas.Bool.{eq-eqb}
 use Rattle.ce_model.specs.declared.entry.Entry.{Entry}
 use Rattle.ce_model.specs.Node.{Call}
-use Rattle.ce_model.specs.Answers.{call_of}
+use Rattle.ce_model.specs.Answers.{recorded_call}
 use Rattle.ce_model.specs.Renaming.{CubeGrant, entry_inward}
-use Rattle.ce_model.specs.Views.{trace_behind, from_grant}
-use Rattle.ce_model.specs.Machine.{HeldCube, held_by, held_by_entry, record_by, changed_by_call, after}
+use Rattle.ce_model.specs.Views.{trace_behind, history_behind_grant}
+use Rattle.ce_model.specs.Machine.{HeldCube, cube_held_by, cube_after_entry, record_by, state_after_call, after}
 use Rattle.ce_model.proofs.Walked.{one_further}
 use Rattle.ce_solo.proofs.Projection.Views.{found-more, is_over, over-more, no_drain, trace-grows, view-is}
 use Rattle.ce_solo.proofs.Projection.Held.{held-own}
@@ -26,11 +26,11 @@ the_call (Some made) is = (made, refl)
 
 -- ---- traces
 
-found-all : (h made : List Entry) (number : ℕ) (grant : CubeGrant) (behind : List Entry) → from_grant h number ≡ Some (grant, behind)
-    → from_grant (h ++ made) number ≡ Some (grant, behind ++ made)
+found-all : (h made : List Entry) (number : ℕ) (grant : CubeGrant) (behind : List Entry) → history_behind_grant h number ≡ Some (grant, behind)
+    → history_behind_grant (h ++ made) number ≡ Some (grant, behind ++ made)
 found-all h [] number grant behind found = rw (append-nil h, append-nil behind) found
 found-all h (entry ∷ made) number grant behind found =
-    ap (λ h. from_grant h number) (sym (one_further h entry made))
+    ap (λ h. history_behind_grant h number) (sym (one_further h entry made))
     ∙ found-all (h ++ entry ∷ []) made number grant (behind ++ entry ∷ []) (found-more h entry number grant behind found)
     ∙ ap (λ behind. Some (grant, behind)) (one_further behind entry made)
 
@@ -38,7 +38,7 @@ goes-on : (grant : CubeGrant) (behind made : List Entry) → is_over grant behin
     → trace_behind grant (behind ++ made) ≡ trace_behind grant behind ++ map (entry_inward grant.sub) made
 goes-on grant behind [] goes all = rw (append-nil behind) (sym (append-nil (trace_behind grant behind)))
 goes-on grant behind (entry ∷ made) goes all =
-    let call = the_call (call_of entry.what) all.0.1 in
+    let call = the_call (recorded_call entry.what) all.0.1 in
     let still : is_over grant (behind ++ entry ∷ []) ≡ false =
     over-more grant behind entry ∙ or_false _ _ (and_false _ _ (no_drain entry.what call.0 call.1)) ∙ goes in
     ap (trace_behind grant) (sym (one_further behind entry made))
@@ -59,20 +59,20 @@ trace_goes_on parts history user cube holds machine lawful goes made all =
 -- the user holds the cube of this number and grant, which wasn't drained
 abbrev HoldsStill : List Entry → ℕ → HeldCube → Type 0
 HoldsStill history user cube =
-    IsSomeAnd (held_by (after history) user) (λ now. (now.number ≡ cube.number) × (now.grant ≡ cube.grant) × (now.drained ≡ false))
+    IsSomeAnd (cube_held_by (after history) user) (λ now. (now.number ≡ cube.number) × (now.grant ≡ cube.grant) × (now.is_drained ≡ false))
 
-stays : (history made : List Entry) (user : ℕ) (cube : HeldCube) → held_by (after history) user ≡ Some cube → cube.drained ≡ false
+stays : (history made : List Entry) (user : ℕ) (cube : HeldCube) → cube_held_by (after history) user ≡ Some cube → cube.is_drained ≡ false
     → AllByRecursion (IsCallBy user) made → HoldsStill (history ++ made) user cube
 stays history [] user cube holds goes all =
     subst (λ h. HoldsStill h user cube) (sym (append-nil history))
-    (subst (λ held. IsSomeAnd held (λ now. (now.number ≡ cube.number) × (now.grant ≡ cube.grant) × (now.drained ≡ false))) (sym holds) (refl, refl, goes))
+    (subst (λ held. IsSomeAnd held (λ now. (now.number ≡ cube.number) × (now.grant ≡ cube.grant) × (now.is_drained ≡ false))) (sym holds) (refl, refl, goes))
 stays history (entry ∷ made) user cube holds goes all =
-    let call = the_call (call_of entry.what) all.0.1 in
-    let change : HeldCube → HeldCube = held_by_entry entry in
-    let now : held_by (after (history ++ entry ∷ [])) user ≡ Some (change cube) =
-    ap (λ state. held_by state user) (after-more history entry ∙ ap (λ call. changed_by_call call entry (after history)) call.1)
-    ∙ ap (λ u. held_by (changed_by_call (Some call.0) entry (after history)) u) (sym all.0.0)
-    ∙ held-own entry.user change (λ cube. refl) (λ cube. record_by cube.grant.sub entry) (after history) cube (ap (held_by (after history)) all.0.0 ∙ holds) in
+    let call = the_call (recorded_call entry.what) all.0.1 in
+    let change : HeldCube → HeldCube = cube_after_entry entry in
+    let now : cube_held_by (after (history ++ entry ∷ [])) user ≡ Some (change cube) =
+    ap (λ state. cube_held_by state user) (after-more history entry ∙ ap (λ call. state_after_call call entry (after history)) call.1)
+    ∙ ap (λ u. cube_held_by (state_after_call (Some call.0) entry (after history)) u) (sym all.0.0)
+    ∙ held-own entry.user change (λ cube. refl) (λ cube. record_by cube.grant.sub entry) (after history) cube (ap (cube_held_by (after history)) all.0.0 ∙ holds) in
     subst (λ h. HoldsStill h user cube) (one_further history entry made) (stays (history ++ entry ∷ []) made user (change cube) now goes all.1)
 
 pub cube_stays : CubeStays

@@ -6,10 +6,10 @@ use Rattle.std.proofs.lemmas.List.{length-map}
 use Rattle.ce_model.specs.declared.entry.Entry.{Entry}
 use Rattle.ce_model.specs.Limits.{greatest_dim}
 use Rattle.ce_model.specs.Renaming.{CubeGrant}
-use Rattle.ce_model.specs.Views.{grant_by, grants_of, grant_or_later, from_grant, view}
+use Rattle.ce_model.specs.Views.{entry_grant, grants_of, grant_or_later, history_behind_grant, view}
 use Rattle.ce_model.specs.Cube.{Cube}
 use Rattle.ce_model.specs.Machine.{MachineParts, IsLawful, cube_of}
-use Rattle.ce_solo.specs.Laws.{IsLegal as IsLegalTrace}
+use Rattle.ce_solo.specs.Laws.{IsLegalTrace}
 use Rattle.ce_solo.proofs.Lists.{all-weaker}
 use Rattle.ce_solo.proofs.Projection.Legal.{lawful_is_legal}
 use Rattle.ce_host.specs.declared.command.Command.{Command}
@@ -21,7 +21,7 @@ use Rattle.ce_script.specs.Bounds.{IsWithinLimits, IsOwnCommandWithin}
 use Rattle.ce_script.specs.Rounds.{RoundKind, serial}
 use Rattle.ce_script.specs.Moments.{moments}
 use Rattle.ce_script.specs.Doings.{Doing, AreDoings}
-use Rattle.ce_script.specs.Legal.{IsLegal, IsRecordOfScript, images_of, machine_of, EachUser, EachCube}
+use Rattle.ce_script.specs.Legal.{IsLegal, IsRecordOfScript, script_images, machine_of, EachUser, EachCube}
 use Rattle.ce_script.specs.Serial.{doings_of, IsSerial}
 use Rattle.ce_record.specs.Run.{IsRunSoFar, IsRecordOfRun}
 use Rattle.ce_record.specs.Users.{HasDoneSoFar, command_with_answer}
@@ -34,13 +34,13 @@ use Rattle.ce_record.proofs.Run.{run_begins}
 module _ (P : ℕ → CubeGrant → Type 0) where
   -- this holds of each grant of a history, counted from so many
   abbrev EachFound : List Entry → ℕ → Type 0
-  EachFound h k = (n : ℕ) (grant : CubeGrant) (behind : List Entry) → from_grant h n ≡ Some (grant, behind) → P (k + n) grant
+  EachFound h k = (n : ℕ) (grant : CubeGrant) (behind : List Entry) → history_behind_grant h n ≡ Some (grant, behind) → P (k + n) grant
 
   abbrev EachGrant : ℕ → List CubeGrant → Type 0
   EachGrant k grants = AllByRecursion (λ numbered. P numbered.0 numbered.1) (enumerate_from k grants)
 
   by_first : (first : Option CubeGrant) (h : List Entry) (k : ℕ)
-      → ((n : ℕ) (grant : CubeGrant) (behind : List Entry) → grant_or_later first h n (from_grant h) ≡ Some (grant, behind) → P (k + n) grant)
+      → ((n : ℕ) (grant : CubeGrant) (behind : List Entry) → grant_or_later first h n (history_behind_grant h) ≡ Some (grant, behind) → P (k + n) grant)
       → ((k : ℕ) → EachFound h k → EachGrant k (grants_of h)) → EachGrant k (cons_option first (grants_of h))
   by_first None h k found rest = rest k found
   by_first (Some grant) h k found rest = (
@@ -54,10 +54,10 @@ module _ (P : ℕ → CubeGrant → Type 0) where
 
   each_grant : (h : List Entry) (k : ℕ) → EachFound h k → EachGrant k (grants_of h)
   each_grant [] k found = tt
-  each_grant (entry ∷ h) k found = by_first (grant_by entry) h k found (each_grant h)
+  each_grant (entry ∷ h) k found = by_first (entry_grant entry) h k found (each_grant h)
 
 each_cube : (P : Cube → List Entry → Type 0) (parts : MachineParts) (history : List Entry)
-    → ((n : ℕ) → IfSome (from_grant history n) (λ found. P (cube_of parts.images found.0) (view history n))) → EachCube P parts.images history
+    → ((n : ℕ) → IfSome (history_behind_grant history n) (λ found. P (cube_of parts.images found.0) (view history n))) → EachCube P parts.images history
 each_cube P parts history each =
     each_grant (λ n grant. P (cube_of parts.images grant) (view history n)) history 0
     (λ n grant behind e.
@@ -146,19 +146,19 @@ by_number P k (user ∷ users) all =
 module _ (kind : RoundKind) (script : Script) (kept : Record) (within : IsWithinLimits script) (lawful : IsLawful (machine_of script) kept.history)
     (empty : script.users ≡ [] → kept.history ≡ []) where
   -- each cube's trace is legal
-  legal_traces : (users : List (List ℕ)) → script.users ≡ users → EachCube IsLegalTrace (images_of script) kept.history
-  legal_traces [] none = subst (EachCube IsLegalTrace (images_of script)) (sym (empty none)) tt
+  legal_traces : (users : List (List ℕ)) → script.users ≡ users → EachCube IsLegalTrace (script_images script) kept.history
+  legal_traces [] none = subst (EachCube IsLegalTrace (script_images script)) (sym (empty none)) tt
   legal_traces (user ∷ users) some =
       let machine = script_has_machine script within (subst (λ users. 0 < length users) (sym some) (omega arith)) in
       each_cube IsLegalTrace (machine_of script) kept.history (λ n. lawful_is_legal (machine_of script) kept.history n machine lawful)
 
-  traces : EachCube IsLegalTrace (images_of script) kept.history
+  traces : EachCube IsLegalTrace (script_images script) kept.history
   traces = legal_traces script.users refl
 
-  each_trace : (P : Cube → List Entry → Type 0) → ((cube : Cube) (t : List Entry) → IsLegalTrace cube t → P cube t) → EachCube P (images_of script) kept.history
+  each_trace : (P : Cube → List Entry → Type 0) → ((cube : Cube) (t : List Entry) → IsLegalTrace cube t → P cube t) → EachCube P (script_images script) kept.history
   each_trace P part =
-      all-weaker (λ numbered. IsLegalTrace (cube_of (images_of script) numbered.1) (view kept.history numbered.0))
-      (λ numbered. P (cube_of (images_of script) numbered.1) (view kept.history numbered.0)) (enumerate_from 0 (grants_of kept.history)) (λ numbered is. part _ _ is) traces
+      all-weaker (λ numbered. IsLegalTrace (cube_of (script_images script) numbered.1) (view kept.history numbered.0))
+      (λ numbered. P (cube_of (script_images script) numbered.1) (view kept.history numbered.0)) (enumerate_from 0 (grants_of kept.history)) (λ numbered is. part _ _ is) traces
 
   -- a user did this, and was answered what the record says
   abbrev HasDone : ℕ → UserRecord → List Doing → Type 0

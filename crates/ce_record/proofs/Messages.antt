@@ -9,8 +9,8 @@ use Rattle.ce_model.specs.declared.entry.Entry.{Entry}
 use Rattle.ce_model.specs.declared.entry.TakeResult.{TakeResult}
 use Rattle.ce_model.specs.declared.entry.TakeResult.TheVariants.{Mail}
 use Rattle.ce_model.specs.Parcels.{Parcel, Item, start, mail, kill, is_named_by, parcel_in}
-use Rattle.ce_model.specs.Renaming.{block_outward, item_with, parcel_with}
-use Rattle.ce_model.specs.Trace.{Standing, items_to, sent_to, taken_by, waiting_items}
+use Rattle.ce_model.specs.Renaming.{block_outward, renamed_item, renamed_parcel}
+use Rattle.ce_model.specs.Trace.{Standing, items_to, sent_items, taken_results, waiting_items}
 use Rattle.ce_model.specs.Cube.{opening}
 use Rattle.ce_model.specs.Views.{view}
 use Rattle.ce_model.proofs.OneMore.{is_untaken}
@@ -37,28 +37,28 @@ found_parcel (Some (kill pid)) parcel e = absurd (cc)
 
 -- ---- with other names for blocks
 
-numbered-renamed : (rename : BlockId → BlockId) (number : ℕ) (item : Item) → is_numbered number (item_with rename item) ≡ is_numbered number item
+numbered-renamed : (rename : BlockId → BlockId) (number : ℕ) (item : Item) → is_numbered number (renamed_item rename item) ≡ is_numbered number item
 numbered-renamed rename number (start pid image) = refl
 numbered-renamed rename number (mail parcel) = refl
 numbered-renamed rename number (kill pid) = refl
 
 find-renamed : (rename : BlockId → BlockId) (number : ℕ) (items : List Item)
-    → find (is_numbered number) (map (item_with rename) items) ≡ option_map (item_with rename) (find (is_numbered number) items)
+    → find (is_numbered number) (map (renamed_item rename) items) ≡ option_map (renamed_item rename) (find (is_numbered number) items)
 find-renamed rename number [] = refl
 find-renamed rename number (item ∷ items) =
-    ap (λ (b : Bool). if b then Some (item_with rename item) else find (is_numbered number) (map (item_with rename) items)) (numbered-renamed rename number item)
+    ap (λ (b : Bool). if b then Some (renamed_item rename item) else find (is_numbered number) (map (renamed_item rename) items)) (numbered-renamed rename number item)
     ∙ elim (cases_Bool (is_numbered number item)) [ inl is ↦ rw is refl | inr other ↦ rw other (find-renamed rename number items) ]
 
 -- the parcel that this one is, with other names for blocks
 abbrev IsRenamed : (BlockId → BlockId) → Option Item → Parcel → Type 0
-IsRenamed rename found parcel = (inner : Parcel) × (found ≡ Some (mail inner)) × (parcel ≡ parcel_with rename inner)
+IsRenamed rename found parcel = (inner : Parcel) × (found ≡ Some (mail inner)) × (parcel ≡ renamed_parcel rename inner)
 
-renamed_parcel : (rename : BlockId → BlockId) (found : Option Item) (parcel : Parcel) → option_map (item_with rename) found ≡ Some (mail parcel)
+parcel-renamed : (rename : BlockId → BlockId) (found : Option Item) (parcel : Parcel) → option_map (renamed_item rename) found ≡ Some (mail parcel)
     → IsRenamed rename found parcel
-renamed_parcel rename None parcel e = absurd (cc)
-renamed_parcel rename (Some (start pid image)) parcel e = absurd (cc)
-renamed_parcel rename (Some (mail inner)) parcel e = let same : parcel_with rename inner ≡ parcel = cc in (inner, refl, sym same)
-renamed_parcel rename (Some (kill pid)) parcel e = absurd (cc)
+parcel-renamed rename None parcel e = absurd (cc)
+parcel-renamed rename (Some (start pid image)) parcel e = absurd (cc)
+parcel-renamed rename (Some (mail inner)) parcel e = let same : renamed_parcel rename inner ≡ parcel = cc in (inner, refl, sym same)
+parcel-renamed rename (Some (kill pid)) parcel e = absurd (cc)
 
 -- ---- among more
 
@@ -87,21 +87,21 @@ any-same number x y (given ∷ taken) is is' = ap₂ (λ a b. a || b) (named-sam
 
 -- what is found among what waits is found among all that was sent
 found_sent : (o : Standing) (number : ℕ) (t : List Entry) (parcel : Parcel) → find (is_numbered number) (waiting_items o HOST t) ≡ Some (mail parcel)
-    → find (is_numbered number) (sent_to o HOST t) ≡ Some (mail parcel)
+    → find (is_numbered number) (sent_items o HOST t) ≡ Some (mail parcel)
 unfolding waiting_items
 found_sent o number t parcel found =
-    let taken = taken_by HOST t in
-    let is = find-passes (is_numbered number) (filter (is_untaken taken) (sent_to o HOST t)) (mail parcel) found in
-    let untaken = find-all (λ item. is_untaken taken item ≡ true) (is_numbered number) (filter (is_untaken taken) (sent_to o HOST t)) (mail parcel)
-    (all-filtered (is_untaken taken) (sent_to o HOST t)) found in
-    find-filter (is_numbered number) (is_untaken taken) (sent_to o HOST t) (mail parcel)
+    let taken = taken_results HOST t in
+    let is = find-passes (is_numbered number) (filter (is_untaken taken) (sent_items o HOST t)) (mail parcel) found in
+    let untaken = find-all (λ item. is_untaken taken item ≡ true) (is_numbered number) (filter (is_untaken taken) (sent_items o HOST t)) (mail parcel)
+    (all-filtered (is_untaken taken) (sent_items o HOST t)) found in
+    find-filter (is_numbered number) (is_untaken taken) (sent_items o HOST t) (mail parcel)
     (λ item numbered. ap not (any-same number item (mail parcel) taken numbered is) ∙ untaken) found
 
-sent-append : (o : Standing) (r : ℕ) (t more : List Entry) → sent_to o r (t ++ more) ≡ sent_to o r t ++ flat_map (items_to r) more
-unfolding sent_to
+sent-append : (o : Standing) (r : ℕ) (t more : List Entry) → sent_items o r (t ++ more) ≡ sent_items o r t ++ flat_map (items_to r) more
+unfolding sent_items
 sent-append o r t more =
-    ap (λ items. (o.node_record r).waiting ++ items) (flat_map-append (items_to r) t more)
-    ∙ sym (append_assoc (o.node_record r).waiting (flat_map (items_to r) t) (flat_map (items_to r) more))
+    ap (λ items. (o.node_record r).waiting_items ++ items) (flat_map-append (items_to r) t more)
+    ∙ sym (append_assoc (o.node_record r).waiting_items (flat_map (items_to r) t) (flat_map (items_to r) more))
 
 pub message : MessageIsSent
 message parts history user cube holds machine lawful goes number parcel more numbered =
@@ -109,12 +109,12 @@ message parts history user cube holds machine lawful goes number parcel more num
     let o = (opening (cube_in parts cube)).standing in
     let t = view history cube.number in
     let rename = block_outward cube.grant in
-    let kept : cube.mail ≡ map (item_with rename) (waiting_items o HOST t) =
-    (was.kept goes).mail ∙ ap (λ t. map (item_with rename) (waiting_items o HOST t)) (sym (view-is history cube.number cube.grant was.behind was.found)) in
-    let inner = renamed_parcel rename (find (is_numbered number) (waiting_items o HOST t)) parcel
+    let kept : cube.mail ≡ map (renamed_item rename) (waiting_items o HOST t) =
+    (was.kept goes).mail ∙ ap (λ t. map (renamed_item rename) (waiting_items o HOST t)) (sym (view-is history cube.number cube.grant was.behind was.found)) in
+    let inner = parcel-renamed rename (find (is_numbered number) (waiting_items o HOST t)) parcel
     (sym (find-renamed rename number (waiting_items o HOST t)) ∙ ap (find (is_numbered number)) (sym kept) ∙ found_parcel (find (is_numbered number) cube.mail) parcel numbered) in
-    let found : find (is_numbered number) (sent_to o HOST (t ++ more)) ≡ Some (mail inner.0) =
+    let found : find (is_numbered number) (sent_items o HOST (t ++ more)) ≡ Some (mail inner.0) =
     ap (find (is_numbered number)) (sent-append o HOST t more)
-    ∙ find-append_found (is_numbered number) (sent_to o HOST t) (flat_map (items_to HOST) more) (mail inner.0) (found_sent o number t inner.0 inner.1) in
+    ∙ find-append_found (is_numbered number) (sent_items o HOST t) (flat_map (items_to HOST) more) (mail inner.0) (found_sent o number t inner.0 inner.1) in
     ap (λ found. message_reply (option_and_then parcel_in found)) found
     ∙ ap (λ (parcel : Parcel). Some (Message parcel.from parcel.block.bytes)) (sym inner.2)

@@ -8,7 +8,7 @@ use Rattle.std.proofs.lemmas.Grind.{flat_map-append}
 use Rattle.ce_model.specs.declared.entry.Entry.{Entry}
 use Rattle.ce_model.proofs.Walked.{one_further}
 use Rattle.ce_solo.proofs.Lists.{all-weaker}
-use Rattle.ce_script.specs.Moments.{Moment, moments_behind, moments, moments_of, entries_of, own_entries}
+use Rattle.ce_script.specs.Moments.{Moment, later_moments, moments, user_moments, entries_of, own_entries}
 use Rattle.ce_record.specs.Users.{own_moments}
 
 -- ---- lists
@@ -34,18 +34,18 @@ filter-no test (x ∷ xs) all = rw all.0 (filter-no test xs all.1)
 
 -- ---- moments
 
-pub behind-append : (before xs ys : List Entry) → moments_behind before (xs ++ ys) ≡ moments_behind before xs ++ moments_behind (before ++ xs) ys
-behind-append before [] ys = ap (λ b. moments_behind b ys) (sym (append-nil before))
+pub behind-append : (before xs ys : List Entry) → later_moments before (xs ++ ys) ≡ later_moments before xs ++ later_moments (before ++ xs) ys
+behind-append before [] ys = ap (λ b. later_moments b ys) (sym (append-nil before))
 behind-append before (x ∷ xs) ys =
     ap (λ rest. record { before = before; entry = x } ∷ rest)
-    (behind-append (before ++ x ∷ []) xs ys ∙ ap (λ b. moments_behind (before ++ x ∷ []) xs ++ moments_behind b ys) (one_further before x xs))
+    (behind-append (before ++ x ∷ []) xs ys ∙ ap (λ b. later_moments (before ++ x ∷ []) xs ++ later_moments b ys) (one_further before x xs))
 
-pub moments-append : (history made : List Entry) → moments (history ++ made) ≡ moments history ++ moments_behind history made
+pub moments-append : (history made : List Entry) → moments (history ++ made) ≡ moments history ++ later_moments history made
 unfolding moments
 moments-append history made = behind-append [] history made
 
 -- the entries of moments are those of the history
-pub entries-behind : (before behind : List Entry) → entries_of (moments_behind before behind) ≡ behind
+pub entries-behind : (before behind : List Entry) → entries_of (later_moments before behind) ≡ behind
 entries-behind before [] = refl
 entries-behind before (entry ∷ behind) = ap (λ rest. entry ∷ rest) (entries-behind (before ++ entry ∷ []) behind)
 
@@ -61,36 +61,36 @@ entries-amid user before (entry ∷ behind) =
     one true moment rest entries same = ap (λ entries. moment.entry ∷ entries) same
     one false moment rest entries same = same
 
-pub entries-own : (user : ℕ) (history : List Entry) → entries_of (moments_of user history) ≡ own_entries user history
+pub entries-own : (user : ℕ) (history : List Entry) → entries_of (user_moments user history) ≡ own_entries user history
 unfolding moments
 entries-own user history = entries-amid user [] history
 
-pub all-behind : (P : Entry → Type 0) (before behind : List Entry) → AllByRecursion P behind → AllByRecursion (λ (moment : Moment). P moment.entry) (moments_behind before behind)
+pub all-behind : (P : Entry → Type 0) (before behind : List Entry) → AllByRecursion P behind → AllByRecursion (λ (moment : Moment). P moment.entry) (later_moments before behind)
 all-behind P before [] all = tt
 all-behind P before (entry ∷ behind) all = (all.0, all-behind P (before ++ entry ∷ []) behind all.1)
 
 -- a user's moments of a history that goes on
-pub own-append : (user : ℕ) (history between : List Entry) → moments_of user (history ++ between) ≡ moments_of user history ++ own_moments user history between
+pub own-append : (user : ℕ) (history between : List Entry) → user_moments user (history ++ between) ≡ user_moments user history ++ own_moments user history between
 own-append user history between =
     ap (filter (λ (moment : Moment). moment.entry.user == user)) (moments-append history between)
-    ∙ filter-append (λ (moment : Moment). moment.entry.user == user) (moments history) (moments_behind history between)
+    ∙ filter-append (λ (moment : Moment). moment.entry.user == user) (moments history) (later_moments history between)
 
 -- by entries of this user
-pub own-all : (user : ℕ) (history made : List Entry) → AllByRecursion (λ entry. entry.user ≡ user) made → own_moments user history made ≡ moments_behind history made
+pub own-all : (user : ℕ) (history made : List Entry) → AllByRecursion (λ entry. entry.user ≡ user) made → own_moments user history made ≡ later_moments history made
 own-all user history made all =
-    filter-every (λ (moment : Moment). moment.entry.user == user) (moments_behind history made)
+    filter-every (λ (moment : Moment). moment.entry.user == user) (later_moments history made)
     (all-behind (λ entry. (entry.user == user) ≡ true) history made
     (all-weaker (λ entry. entry.user ≡ user) (λ entry. (entry.user == user) ≡ true) made (λ entry is. eq-eqb _ _ is) all))
 
 -- or of others
-pub own-stays : (user : ℕ) (history others : List Entry) → AllByRecursion (λ entry. entry.user ≢ user) others → moments_of user (history ++ others) ≡ moments_of user history
+pub own-stays : (user : ℕ) (history others : List Entry) → AllByRecursion (λ entry. entry.user ≢ user) others → user_moments user (history ++ others) ≡ user_moments user history
 own-stays user history others foreign =
     own-append user history others
-    ∙ ap (λ more. moments_of user history ++ more)
-    (filter-no (λ (moment : Moment). moment.entry.user == user) (moments_behind history others)
+    ∙ ap (λ more. user_moments user history ++ more)
+    (filter-no (λ (moment : Moment). moment.entry.user == user) (later_moments history others)
     (all-behind (λ entry. (entry.user == user) ≡ false) history others
     (all-weaker (λ entry. entry.user ≢ user) (λ entry. (entry.user == user) ≡ false) others (λ entry other. ne_eqb _ _ other) foreign)))
-    ∙ append-nil (moments_of user history)
+    ∙ append-nil (user_moments user history)
 
 -- one user's entries are of others to another
 pub foreign-to : (user other : ℕ) (made : List Entry) → user ≢ other → AllByRecursion (λ entry. entry.user ≡ user) made → AllByRecursion (λ entry. entry.user ≢ other) made

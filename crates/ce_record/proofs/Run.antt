@@ -8,7 +8,7 @@ use Rattle.ce_model.specs.Machine.{MachineParts, IsMachine, IsLawful}
 use Rattle.ce_host.specs.declared.command.Command.{Command}
 use Rattle.ce_host.specs.declared.answer.Answer.{Answer}
 use Rattle.ce_script.specs.Rounds.{RoundKind}
-use Rattle.ce_script.specs.Moments.{moments, moments_behind}
+use Rattle.ce_script.specs.Moments.{moments, later_moments}
 use Rattle.ce_script.specs.Doings.{Doing}
 use Rattle.ce_script.specs.Serial.{doings_of}
 use Rattle.ce_record.specs.Run.{IsRunSoFar, doing_behind, IsNextCommand}
@@ -55,7 +55,7 @@ module _ (kind : RoundKind) (machine : MachineParts) (history : List Entry) (all
         | inl same ↦
             subst (λ user'. Goes user' (doings_of user' (all ++ (user, doing) ∷ []))) same
             (subst (Goes user) (sym (doings-own all user doing))
-            (goes-by kind machine user history (doings_of user all) of lawful (run.users user) made command answer (moments_behind history made)
+            (goes-by kind machine user history (doings_of user all) of lawful (run.users user) made command answer (later_moments history made)
             (own-all user history made next.own) next.does next.refused))
         | inr differ ↦
             subst (Goes other) (sym (doings-other all user doing other (ne_eqb user other differ)))
@@ -64,7 +64,7 @@ module _ (kind : RoundKind) (machine : MachineParts) (history : List Entry) (all
 
   one_more : IsRunSoFar kind machine (history ++ made) (all ++ (user, doing) ∷ [])
   one_more = record {
-    together = flat-last (λ (own : ℕ × Doing). own.1.moments) all (user, doing) ∙ ap (λ moments. moments ++ moments_behind history made) run.together
+    together = flat-last (λ (own : ℕ × Doing). own.1.moments) all (user, doing) ∙ ap (λ moments. moments ++ later_moments history made) run.together
         ∙ sym (moments-append history made);
     users = goes;
   }

@@ -7,11 +7,11 @@ use Rattle.ce_model.specs.declared.entry.Entry.{Entry}
 use Rattle.ce_model.specs.declared.entry.What.TheVariants.{Arm, Look, HostTake}
 use Rattle.ce_model.specs.declared.entry.LookResult.{LookResult}
 use Rattle.ce_model.specs.Parcels.{Item}
-use Rattle.ce_model.specs.Trace.{sent_to}
+use Rattle.ce_model.specs.Trace.{sent_items}
 use Rattle.ce_model.specs.Cube.{Cube, CubeState, opening}
 use Rattle.ce_model.specs.Renaming.{entry_inward}
 use Rattle.ce_model.specs.Views.{view}
-use Rattle.ce_model.specs.Machine.{MachineParts, IsMachine, IsLawful, HeldCube, after, held_by}
+use Rattle.ce_model.specs.Machine.{MachineParts, IsMachine, IsLawful, HeldCube, after, cube_held_by}
 use Rattle.ce_solo.proofs.Lists.{all-append, all-weaker}
 use Rattle.ce_host.specs.declared.command.Command.TheVariants.{Run, Recv}
 use Rattle.ce_host.specs.declared.answer.Answer.{Answer}
@@ -31,8 +31,8 @@ calls_joined : (user : ℕ) (rounds : List (List Entry)) → AllByRecursion (All
 calls_joined user [] all = tt
 calls_joined user (round ∷ rounds) all = all-append (IsCallBy user) round (joined_lists rounds) all.0 (calls_joined user rounds all.1)
 
-module _ (kind : RoundKind) (parts : MachineParts) (history : List Entry) (user : ℕ) (cube : HeldCube) (holds : held_by (after history) user ≡ Some cube)
-    (machine : IsMachine parts) (lawful : IsLawful parts history) (goes : cube.drained ≡ false) where
+module _ (kind : RoundKind) (parts : MachineParts) (history : List Entry) (user : ℕ) (cube : HeldCube) (holds : cube_held_by (after history) user ≡ Some cube)
+    (machine : IsMachine parts) (lawful : IsLawful parts history) (goes : cube.is_drained ≡ false) where
   abbrev own : Cube
   own = cube_in parts cube
 
@@ -175,7 +175,7 @@ module _ (kind : RoundKind) (parts : MachineParts) (history : List Entry) (user 
         ((refl, refl), all-append (IsCallBy user) (looks user is.rounds) (end_entries user end) (looks_calls is.rounds is.with_work) (end_calls end is.without_work))
 
     recv_done : recv_reply (sent_to_host parts cube (t ++ map inward made)) end ≡ Some answer
-        → IsRecv kind own (sent_to o.standing HOST (t ++ map inward made)) count answer (map inward made)
+        → IsRecv kind own (sent_items o.standing HOST (t ++ map inward made)) count answer (map inward made)
     recv_done reply = record {
       rounds = map (map inward) is.rounds;
       end = end_in end;
@@ -184,13 +184,13 @@ module _ (kind : RoundKind) (parts : MachineParts) (history : List Entry) (user 
       entries = ap (map inward) is.entries
           ∙ ap₂ (λ first more. first ∷ more) (arm_is count)
           (map-append inward (looks user is.rounds) (end_entries user end) ∙ ap₂ (λ a b. a ++ b) (looks-inward is.rounds) (end-inward end));
-      reply = end_reply (sent_to o.standing HOST (t ++ map inward made)) end ∙ reply;
+      reply = end_reply (sent_items o.standing HOST (t ++ map inward made)) end ∙ reply;
     }
 
     pub recv : recv_reply (sent_to_host parts cube (view (history ++ made) cube.number)) end ≡ Some answer → AreTurnsOverIn parts (history ++ made) cube
         → IsNextCommand kind parts history user (Recv count) answer made
     recv reply turns =
         holder-next kind parts history user cube holds (Recv count) answer made (own_all made recv_calls)
-        (subst (λ entries. IsRecv kind own (sent_to o.standing HOST (t ++ map inward entries)) count answer (map inward entries) × AreTurnsOver own o (t ++ map inward entries))
+        (subst (λ entries. IsRecv kind own (sent_items o.standing HOST (t ++ map inward entries)) count answer (map inward entries) × AreTurnsOver own o (t ++ map inward entries))
         (sym (entries-behind history made))
         (recv_done (subst (λ t. recv_reply (sent_to_host parts cube t) end ≡ Some answer) (trace-is made recv_calls) reply), over made recv_calls turns)) tt

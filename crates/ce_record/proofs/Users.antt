@@ -7,7 +7,7 @@ use Rattle.ce_host.specs.declared.command.Command.{Command}
 use Rattle.ce_host.specs.declared.command.Command.TheVariants.{Getcube, Peek}
 use Rattle.ce_host.specs.declared.answer.Answer.{Answer}
 use Rattle.ce_script.specs.Rounds.{RoundKind}
-use Rattle.ce_script.specs.Moments.{Moment, Holding, moments_behind, moments_of, entries_of}
+use Rattle.ce_script.specs.Moments.{Moment, Holding, later_moments, user_moments, entries_of}
 use Rattle.ce_script.specs.Commands.{IsWithCube, IsCommand}
 use Rattle.ce_script.specs.Doings.{Doing, held_after, IsDone, IsRefusedIfGetcube}
 use Rattle.ce_record.specs.Asked.{wants_cube}
@@ -22,7 +22,7 @@ pub user_begins : UserBegins
 user_begins kind machine user history none = record {
   does = record {
     replies = refl;
-    entries = sym (map-none (λ (moment : Moment). moment.entry) (moments_of user history) (entries-own user history ∙ none));
+    entries = sym (map-none (λ (moment : Moment). moment.entry) (user_moments user history) (entries-own user history ∙ none));
     each = tt;
   };
   refused = tt;
@@ -65,7 +65,7 @@ module _ (kind : RoundKind) (machine : MachineParts) (user : ℕ) (history : Lis
         does = record {
           replies = refl;
           entries = flat-last (λ (doing : Doing). doing.moments) doings doing ∙ ap (λ before. before ++ moments) so_far.does.entries
-              ∙ sym (own-append user history between ∙ ap (λ more. moments_of user history ++ more) own);
+              ∙ sym (own-append user history between ∙ ap (λ more. user_moments user history ++ more) own);
           each = each-more (IsDone kind machine user) doings doing so_far.does.each
               (subst (λ held. IsCommand kind machine user held command answer moments) (sym held) does);
         };
@@ -74,12 +74,12 @@ module _ (kind : RoundKind) (machine : MachineParts) (user : ℕ) (history : Lis
 
 pub user_goes_on : UserGoesOn
 user_goes_on kind machine user history between made doings command answer of lawful so_far next own (inl same) =
-    let all : own_moments user history between ≡ moments_behind history made = ap (own_moments user history) same ∙ own-all user history made next.own in
+    let all : own_moments user history between ≡ later_moments history made = ap (own_moments user history) same ∙ own-all user history made next.own in
     goes-by kind machine user history doings of lawful so_far between command answer (own_moments user history between) refl
     (subst (IsCommand kind machine user (held_now history user) command answer) (sym all) next.does)
     (subst (λ moments. IsRefusedWhere machine (held_now history user) (record { command = command; answer = answer; moments = moments })) (sym all) next.refused)
 user_goes_on kind machine user history between made doings command answer of lawful so_far next own (inr wants) =
     goes-by kind machine user history doings of lawful so_far between command answer (own_moments user history between) refl
-    (by-entries kind machine user (held_now history user) command answer (moments_behind history made) (own_moments user history between) wants
+    (by-entries kind machine user (held_now history user) command answer (later_moments history made) (own_moments user history between) wants
     (entries-behind history made ∙ sym (entries-amid user history between ∙ own)) next.does)
     (no-getcube machine (held_now history user) command answer (own_moments user history between) wants)

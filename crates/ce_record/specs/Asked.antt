@@ -5,15 +5,15 @@ use Rattle.ce_model.specs.declared.topology.Place.{Place}
 use Rattle.ce_model.specs.declared.topology.BlockId.{BlockId}
 use Rattle.ce_model.specs.declared.entry.Entry.{Entry}
 use Rattle.ce_model.specs.declared.entry.What.{What}
-use Rattle.ce_model.specs.declared.entry.What.TheVariants.{Getcube as GetcubeMade, Peek as PeekMade, Send as SendMade, Spawn as SpawnMade, Kill as KillMade}
-use Rattle.ce_model.specs.Node.{sends, spawns, kills}
+use Rattle.ce_model.specs.declared.entry.What.TheVariants as whats
+use Rattle.ce_model.specs.Node.{send_call, spawn_call, kill_call}
 use Rattle.ce_model.specs.Machine.{MachineParts, MachineState, after, Request, getcube, peek, in_cube, what_of_request, IsFitting}
 use Rattle.rk_mail.specs.declared.talk.Hearing.{Hearing}
-use Rattle.rk_mail.specs.declared.talk.Hearing.TheVariants.{Posted, Spawned, Used as HeardUsed, Killed, Unused as HeardUnused, Already as HeardAlready}
+use Rattle.rk_mail.specs.declared.talk.Hearing.TheVariants as hearing
 use Rattle.ce_host.specs.declared.command.Command.{Command}
 use Rattle.ce_host.specs.declared.command.Command.TheVariants.{Getcube, Peek, Spawn, Kill, Send, Dump}
 use Rattle.ce_host.specs.declared.answer.Answer.{Answer}
-use Rattle.ce_host.specs.declared.answer.Answer.TheVariants.{Peeked as PeekFound, Ok as Done, Used, Unused, Already}
+use Rattle.ce_host.specs.declared.answer.Answer.TheVariants as answers
 use Rattle.ce_daemon.specs.Peeks.{peek_result}
 use Rattle.ce_script.specs.Commands.{getcube_reply, kill_reply}
 
@@ -35,28 +35,28 @@ place_in other = None
 abbrev pub request_of : BlockId → Command → Option Request
 request_of id (Getcube dim) = Some (getcube dim)
 request_of id Peek = Some peek
-request_of id (Spawn image to) = Some (in_cube (spawns 0 image to))
-request_of id (Kill to) = Some (in_cube (kills 0 to))
-request_of id (Send to bytes) = Some (in_cube (sends 0 ((to, id) ∷ []) bytes))
+request_of id (Spawn image to) = Some (in_cube (spawn_call 0 image to))
+request_of id (Kill to) = Some (in_cube (kill_call 0 to))
+request_of id (Send to bytes) = Some (in_cube (send_call 0 ((to, id) ∷ []) bytes))
 request_of id other = None
 
 -- what a command is answered by its one entry, in the state before it
 abbrev pub reply_by : MachineParts → MachineState → What → Option Answer
-reply_by parts state (GetcubeMade dim sub) = Some (getcube_reply sub)
-reply_by parts state PeekMade = Some (PeekFound (peek_result parts state))
-reply_by parts state (SpawnMade pid image to fresh) = Some (if fresh then Done else Used)
-reply_by parts state (KillMade pid to found) = Some (kill_reply found)
-reply_by parts state (SendMade pid first to bytes) = Some Done
+reply_by parts state (whats.Getcube dim sub) = Some (getcube_reply sub)
+reply_by parts state whats.Peek = Some (answers.Peeked (peek_result parts state))
+reply_by parts state (whats.Spawn pid image to fresh) = Some (if fresh then answers.Ok else answers.Used)
+reply_by parts state (whats.Kill pid to found) = Some (kill_reply found)
+reply_by parts state (whats.Send pid first to bytes) = Some answers.Ok
 reply_by parts state other = None
 
 -- what a command is answered by what its host hears
 abbrev pub heard_reply : Hearing → Option Answer
-heard_reply (Posted batch) = Some Done
-heard_reply Spawned = Some Done
-heard_reply HeardUsed = Some Used
-heard_reply Killed = Some Done
-heard_reply HeardUnused = Some Unused
-heard_reply HeardAlready = Some Already
+heard_reply (hearing.Posted batch) = Some answers.Ok
+heard_reply hearing.Spawned = Some answers.Ok
+heard_reply hearing.Used = Some answers.Used
+heard_reply hearing.Killed = Some answers.Ok
+heard_reply hearing.Unused = Some answers.Unused
+heard_reply hearing.Already = Some answers.Already
 heard_reply other = None
 
 -- behind a history a user's host asks for this, and the machine makes this entry of it

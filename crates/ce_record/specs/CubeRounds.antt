@@ -4,14 +4,14 @@ use Rattle.std.specs.List.{AllByRecursion}
 use Rattle.ce_model.specs.declared.entry.Entry.{Entry}
 use Rattle.ce_model.specs.declared.entry.What.TheVariants.{Arm, Look}
 use Rattle.ce_model.specs.declared.entry.LookResult.{LookResult}
-use Rattle.ce_model.specs.Answers.{call_of}
+use Rattle.ce_model.specs.Answers.{recorded_call}
 use Rattle.ce_model.specs.Renaming.{CubeGrant, entry_inward}
 use Rattle.ce_script.specs.Rounds.{RoundKind, IsRound, has_work, joined_lists}
 use Rattle.ce_script.specs.Commands.{by_host, RecvEnd, host_take, end_entries, end_rounds}
 
 -- the entry is a call of this user's cube
 abbrev pub IsCallBy : ℕ → Entry → Type 0
-IsCallBy user entry = (entry.user ≡ user) × IsTrue (is_some (call_of entry.what))
+IsCallBy user entry = (entry.user ≡ user) × IsTrue (is_some (recorded_call entry.what))
 
 -- a round of a user's cube, by which a node is given work or none is
 pub record IsRoundOf (kind : RoundKind) (user : ℕ) (grant : CubeGrant) (work : Bool) (round : List Entry) : Type 0 where

@@ -7,15 +7,15 @@ use Rattle.ce_model.specs.declared.topology.BlockId.{BlockId}
 use Rattle.ce_model.specs.declared.topology.Subcube.{Subcube}
 use Rattle.ce_model.specs.declared.entry.Entry.{Entry}
 use Rattle.ce_model.specs.declared.entry.What.{What}
-use Rattle.ce_model.specs.declared.entry.What.TheVariants.{Getcube as GetcubeMade, Drain, Freecube as FreecubeMade}
+use Rattle.ce_model.specs.declared.entry.What.TheVariants as whats
 use Rattle.ce_model.specs.declared.entry.LookResult.{LookResult}
 use Rattle.ce_model.specs.Parcels.{Parcel, Item}
 use Rattle.ce_model.specs.Node.{is_place, process_at}
-use Rattle.ce_model.specs.Trace.{sent_to}
+use Rattle.ce_model.specs.Trace.{sent_items}
 use Rattle.ce_model.specs.Cube.{opening, hoststore, parcel_numbered, rest}
 use Rattle.ce_model.specs.Renaming.{entry_inward}
 use Rattle.ce_model.specs.Views.{view}
-use Rattle.ce_model.specs.Machine.{MachineParts, IsMachine, IsLawful, HeldCube, MachineState, after, held_by, Request, getcube}
+use Rattle.ce_model.specs.Machine.{MachineParts, IsMachine, IsLawful, HeldCube, MachineState, after, cube_held_by, Request, getcube}
 use Rattle.rk_mail.specs.declared.talk.Hearing.{Hearing}
 use Rattle.rk_mail.specs.Talk.{IsHeardIn}
 use Rattle.ce_host.specs.declared.command.Command.{Command}
@@ -26,7 +26,7 @@ use Rattle.ce_script.specs.declared.record.Record.{Record}
 use Rattle.ce_script.specs.declared.script.Script.{Script}
 use Rattle.ce_script.specs.Bounds.{IsWithinLimits}
 use Rattle.ce_script.specs.Rounds.{RoundKind, serial}
-use Rattle.ce_script.specs.Moments.{moments_of, entries_of, holding, own_entries}
+use Rattle.ce_script.specs.Moments.{user_moments, entries_of, holding, own_entries}
 use Rattle.ce_script.specs.Commands.{by_host, run_reply, RecvEnd, message_reply, recv_reply}
 use Rattle.ce_script.specs.Doings.{Doing, held_after}
 use Rattle.ce_script.specs.Legal.{IsLegal, IsRecordOfScript, EachUser, machine_of}
@@ -40,14 +40,14 @@ use Rattle.ce_record.specs.Users.{HasDoneSoFar, command_with_answer, doing_amid}
 -- ---- what users hold
 
 -- what a user holds by its own entries is what the machine says
-abbrev pub HeldIsHeld : Type 0
-HeldIsHeld = (parts : MachineParts) (history : List Entry) (user : ℕ) → IsMachine parts → IsLawful parts history
-    → holding (entries_of (moments_of user history)) ≡ held_now history user
+abbrev pub HoldingsAreTheMachines : Type 0
+HoldingsAreTheMachines = (parts : MachineParts) (history : List Entry) (user : ℕ) → IsMachine parts → IsLawful parts history
+    → holding (entries_of (user_moments user history)) ≡ held_now history user
 
 -- so it is by what the user did, where that has its entries
-abbrev pub HeldAfterIsHeld : Type 0
-HeldAfterIsHeld = (parts : MachineParts) (history : List Entry) (user : ℕ) (doings : List Doing) → IsMachine parts → IsLawful parts history
-    → flat_map (λ doing. doing.moments) doings ≡ moments_of user history → held_after doings ≡ held_now history user
+abbrev pub HoldingsFollowDoings : Type 0
+HoldingsFollowDoings = (parts : MachineParts) (history : List Entry) (user : ℕ) (doings : List Doing) → IsMachine parts → IsLawful parts history
+    → flat_map (λ doing. doing.moments) doings ≡ user_moments user history → held_after doings ≡ held_now history user
 
 -- ---- the run
 
@@ -120,17 +120,17 @@ NoUserIsLegal = (kind : RoundKind) (script : Script) → IsWithinLimits script �
 
 -- this holds behind each history by which a user holds a cube
 abbrev pub OfHolder : (MachineParts → List Entry → ℕ → HeldCube → Type 0) → Type 0
-OfHolder P = (parts : MachineParts) (history : List Entry) (user : ℕ) (cube : HeldCube) → held_by (after history) user ≡ Some cube
+OfHolder P = (parts : MachineParts) (history : List Entry) (user : ℕ) (cube : HeldCube) → cube_held_by (after history) user ≡ Some cube
     → P parts history user cube
 
 -- who holds no cube is told so by each command that wants one
 abbrev pub NoCubeIsNext : Type 0
-NoCubeIsNext = (kind : RoundKind) (parts : MachineParts) (history : List Entry) (user : ℕ) (command : Command) → held_by (after history) user ≡ None
+NoCubeIsNext = (kind : RoundKind) (parts : MachineParts) (history : List Entry) (user : ℕ) (command : Command) → cube_held_by (after history) user ≡ None
     → IsTrue (wants_cube command) → IsNextCommand kind parts history user command NoCube []
 
 -- who holds a cube gets no other
-abbrev pub HeldIsNext : Type 0
-HeldIsNext = (kind : RoundKind) → OfHolder (λ parts history user cube. (dim : ℕ) → IsNextCommand kind parts history user (Getcube dim) Held [])
+abbrev pub RefusalOfHolderIsNext : Type 0
+RefusalOfHolderIsNext = (kind : RoundKind) → OfHolder (λ parts history user cube. (dim : ℕ) → IsNextCommand kind parts history user (Getcube dim) Held [])
 
 -- a command to what is no place of the cube is told so
 abbrev pub NoPlaceIsNext : Type 0
@@ -153,21 +153,21 @@ TraceIsNext = (kind : RoundKind) → OfHolder (λ parts history user cube. IsNex
 
 -- the entries of a freecube: the cube is drained, and then given back
 abbrev pub freecube_entries : ℕ → List Entry
-freecube_entries user = by_host user Drain ∷ by_host user FreecubeMade ∷ []
+freecube_entries user = by_host user whats.Drain ∷ by_host user whats.Freecube ∷ []
 
 -- who holds a cube has its freecube answered freed, with these entries
 abbrev pub FreecubeIsNext : Type 0
 FreecubeIsNext = (kind : RoundKind) → OfHolder (λ parts history user cube. IsNextCommand kind parts history user Freecube Freed (freecube_entries user))
 
 -- what the machine's entry answers to what a command asks for
-abbrev pub AskedIsNext : Type 0
-AskedIsNext = (kind : RoundKind) (parts : MachineParts) (history : List Entry) (user : ℕ) (command : Command) (id : BlockId) (request : Request) (what : What)
+abbrev pub RequestsAreNext : Type 0
+RequestsAreNext = (kind : RoundKind) (parts : MachineParts) (history : List Entry) (user : ℕ) (command : Command) (id : BlockId) (request : Request) (what : What)
     (answer : Answer) → IsMachine parts → IsLawful parts history → request_of id command ≡ Some request → IsAsked parts history user request what
     → reply_by parts (after history) what ≡ Some answer → IsNextCommand kind parts history user command answer (by_host user what ∷ [])
 
 -- a send, a spawn or a kill is answered by what its host hears
-abbrev pub HeardIsReply : Type 0
-HeardIsReply = (parts : MachineParts) (state : MachineState) (items : List Item) (what : What) (heard : Hearing) → IsHeardIn items what heard
+abbrev pub HearingsAreReplies : Type 0
+HearingsAreReplies = (parts : MachineParts) (state : MachineState) (items : List Item) (what : What) (heard : Hearing) → IsHeardIn items what heard
     → reply_by parts state what ≡ heard_reply heard
 
 -- ---- between commands
@@ -176,21 +176,21 @@ HeardIsReply = (parts : MachineParts) (state : MachineState) (items : List Item)
 abbrev pub OthersStay : Type 0
 OthersStay = (parts : MachineParts) (history : List Entry) (user : ℕ) (others : List Entry) → IsMachine parts → IsLawful parts (history ++ others)
     → AllByRecursion (λ entry. entry.user ≢ user) others
-    → (held_by (after (history ++ others)) user ≡ held_by (after history) user) × (held_now (history ++ others) user ≡ held_now history user)
+    → (cube_held_by (after (history ++ others)) user ≡ cube_held_by (after history) user) × (held_now (history ++ others) user ≡ held_now history user)
 
 -- the cube that a getcube grants has the next number, and no trace
 abbrev pub CubeBegins : Type 0
 CubeBegins = (parts : MachineParts) (history : List Entry) (user dim : ℕ) (sub : Subcube) → IsMachine parts → IsLawful parts history
-    → IsAsked parts history user (getcube dim) (GetcubeMade dim (Some sub))
-    → (held_by (after (history ++ by_host user (GetcubeMade dim (Some sub)) ∷ [])) user
+    → IsAsked parts history user (getcube dim) (whats.Getcube dim (Some sub))
+    → (cube_held_by (after (history ++ by_host user (whats.Getcube dim (Some sub)) ∷ [])) user
     ≡ Some (new_cube (after history).grant_count (record { user = user; dim = dim; sub = sub })))
-    × (view (history ++ by_host user (GetcubeMade dim (Some sub)) ∷ []) (after history).grant_count ≡ [])
+    × (view (history ++ by_host user (whats.Getcube dim (Some sub)) ∷ []) (after history).grant_count ≡ [])
 
 -- ---- rounds
 
 -- this holds of a cube that a user holds behind a lawful history, and that wasn't drained
 abbrev pub OfCube : (MachineParts → List Entry → ℕ → HeldCube → Type 0) → Type 0
-OfCube P = OfHolder (λ parts history user cube. IsMachine parts → IsLawful parts history → cube.drained ≡ false → P parts history user cube)
+OfCube P = OfHolder (λ parts history user cube. IsMachine parts → IsLawful parts history → cube.is_drained ≡ false → P parts history user cube)
 
 -- calls of the cube make its trace longer
 abbrev pub TraceGoesOn : Type 0
@@ -200,7 +200,7 @@ TraceGoesOn = OfCube (λ parts history user cube. (made : List Entry) → AllByR
 -- and behind them it is held still
 abbrev pub CubeStays : Type 0
 CubeStays = OfCube (λ parts history user cube. (made : List Entry) → AllByRecursion (IsCallBy user) made
-    → IsSomeAnd (held_by (after (history ++ made)) user) (λ now. (now.number ≡ cube.number) × (now.grant ≡ cube.grant) × (now.drained ≡ false)))
+    → IsSomeAnd (cube_held_by (after (history ++ made)) user) (λ now. (now.number ≡ cube.number) × (now.grant ≡ cube.grant) × (now.is_drained ≡ false)))
 
 -- a run is answered by what its look finds, where behind its own entries no turn is open
 abbrev pub RunIsNext : Type 0
@@ -209,7 +209,7 @@ RunIsNext = (kind : RoundKind) → OfCube (λ parts history user cube. (count : 
 
 -- all that was sent to the cube's host
 abbrev pub sent_to_host : MachineParts → HeldCube → List Entry → List Item
-sent_to_host parts cube trace = sent_to (opening (cube_in parts cube)).standing HOST trace
+sent_to_host parts cube trace = sent_items (opening (cube_in parts cube)).standing HOST trace
 
 -- a recv is answered with the message that it takes, or by what its look finds, where behind its own entries no turn is open
 abbrev pub RecvIsNext : Type 0

@@ -9,7 +9,7 @@ use Rattle.ce_host.specs.declared.answer.Answer.{Answer}
 use Rattle.ce_script.specs.declared.record.Record.{Record}
 use Rattle.ce_script.specs.declared.script.Script.{Script}
 use Rattle.ce_script.specs.Rounds.{RoundKind}
-use Rattle.ce_script.specs.Moments.{Holding, moments, moments_behind}
+use Rattle.ce_script.specs.Moments.{Holding, moments, later_moments}
 use Rattle.ce_script.specs.Commands.{IsCommand}
 use Rattle.ce_script.specs.Doings.{Doing, IsRefusedExactly}
 use Rattle.ce_script.specs.Serial.{doings_of}
@@ -26,7 +26,7 @@ pub record IsRunSoFar (kind : RoundKind) (machine : MachineParts) (history : Lis
 
 -- a command with its answer that makes these entries behind a history
 abbrev pub doing_behind : List Entry → Command → Answer → List Entry → Doing
-doing_behind history command answer made = record { command = command; answer = answer; moments = moments_behind history made }
+doing_behind history command answer made = record { command = command; answer = answer; moments = later_moments history made }
 
 -- a getcube of who holds this is refused exactly where it must be
 abbrev pub IsRefusedWhere : MachineParts → Option Holding → Doing → Type 0
@@ -38,7 +38,7 @@ IsRefusedWhere machine holds doing = elim doing.command [
 -- Behind a history a command of a user has this answer and makes these entries, as it must by what the user holds.
 pub record IsNextCommand (kind : RoundKind) (machine : MachineParts) (history : List Entry) (user : ℕ) (command : Command) (answer : Answer) (made : List Entry) : Type 0 where
   pub own : AllByRecursion (λ entry. entry.user ≡ user) made
-  pub does : IsCommand kind machine user (held_now history user) command answer (moments_behind history made)
+  pub does : IsCommand kind machine user (held_now history user) command answer (later_moments history made)
   pub refused : IsRefusedWhere machine (held_now history user) (doing_behind history command answer made)
 
 -- ---- the whole script

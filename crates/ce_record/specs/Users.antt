@@ -5,7 +5,7 @@ use Rattle.ce_model.specs.Machine.{MachineParts}
 use Rattle.ce_host.specs.declared.command.Command.{Command}
 use Rattle.ce_host.specs.declared.answer.Answer.{Answer}
 use Rattle.ce_script.specs.Rounds.{RoundKind}
-use Rattle.ce_script.specs.Moments.{Moment, moments_behind}
+use Rattle.ce_script.specs.Moments.{Moment, later_moments}
 use Rattle.ce_script.specs.Doings.{Doing, AreDoings, AreRefusedExactly}
 
 -- a command with its reply
@@ -21,7 +21,7 @@ pub record HasDoneSoFar (kind : RoundKind) (machine : MachineParts) (user : ℕ)
 
 -- the user's moments among those of these entries, by which the history goes on
 abbrev pub own_moments : ℕ → List Entry → List Entry → List Moment
-own_moments user history between = filter (λ moment. moment.entry.user == user) (moments_behind history between)
+own_moments user history between = filter (λ moment. moment.entry.user == user) (later_moments history between)
 
 -- a command with its answer, whose entries are the user's of these
 abbrev pub doing_amid : ℕ → List Entry → Command → Answer → List Entry → Doing

@@ -1,14 +1,14 @@
 //! The laws of the record that a run leaves. The functions do nothing: a contract is the law, which proofs cite.
-ghost use Rattle.ce_record.specs.Laws.{HeldIsHeld, HeldAfterIsHeld, RunBegins, RunGoesOn, RepliesBegin, RepliesGoOn, UserBegins, UserWaits, UserGoesOn, ScriptHasMachine, RunIsLegal, UsersAreLegal, NoUserIsLegal, NoCubeIsNext, HeldIsNext, NoPlaceIsNext, NoStoreIsNext, DumpIsNext, TraceIsNext, FreecubeIsNext, AskedIsNext, HeardIsReply, OthersStay, CubeBegins, TraceGoesOn, CubeStays, RunIsNext, RecvIsNext, MessageIsSent};
+ghost use Rattle.ce_record.specs.Laws.{HoldingsAreTheMachines, HoldingsFollowDoings, RunBegins, RunGoesOn, RepliesBegin, RepliesGoOn, UserBegins, UserWaits, UserGoesOn, ScriptHasMachine, RunIsLegal, UsersAreLegal, NoUserIsLegal, NoCubeIsNext, RefusalOfHolderIsNext, NoPlaceIsNext, NoStoreIsNext, DumpIsNext, TraceIsNext, FreecubeIsNext, RequestsAreNext, HearingsAreReplies, OthersStay, CubeBegins, TraceGoesOn, CubeStays, RunIsNext, RecvIsNext, MessageIsSent};
 
 /// What a user holds by its own entries of a lawful history is what the machine says.
 pub fn held_is_held_law()
-    ensures law { HeldIsHeld }
+    ensures law { HoldingsAreTheMachines }
 {}
 
 /// What a user holds by all that it did is what the machine says.
 pub fn held_after_law()
-    ensures law { HeldAfterIsHeld }
+    ensures law { HoldingsFollowDoings }
 {}
 
 /// A run begins with an empty history.
@@ -74,7 +74,7 @@ pub fn no_cube_law()
 
 /// A getcube is told that its user holds a cube already.
 pub fn held_law()
-    ensures law { HeldIsNext }
+    ensures law { RefusalOfHolderIsNext }
 {}
 
 /// A command is told that its cube has no such place.
@@ -104,12 +104,12 @@ pub fn freecube_law()
 
 /// A command that makes one entry is told what the machine answers.
 pub fn asked_law()
-    ensures law { AskedIsNext }
+    ensures law { RequestsAreNext }
 {}
 
 /// A send, a spawn or a kill is answered by what its host hears.
 pub fn heard_is_reply_law()
-    ensures law { HeardIsReply }
+    ensures law { HearingsAreReplies }
 {}
 
 /// Entries of others leave what a user holds.

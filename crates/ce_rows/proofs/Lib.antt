@@ -2,7 +2,7 @@ pub mod Stepping
 pub mod FirstCubes
 pub mod NextOwner
 pub mod Replies
-pub mod Told
-pub mod Drained
+pub mod Hearings
+pub mod WaitingMail
 pub mod Rows
 pub mod Opening

@@ -1,36 +1,36 @@
 -- The worked rows.
 use Rattle.std.specs.Prelude.{ℕ, List, [], ◌∷◌, Some, None, true, false}
-use Rattle.rv_model.specs.Image.{ImageParts, image_parts}
+use Rattle.rv_model.specs.Image.{ImageParts, image_parts, image_start}
 use Rattle.ce_model.specs.declared.topology.Place.{Place}
 use Rattle.ce_model.specs.declared.topology.Subcube.{Subcube}
 use Rattle.ce_model.specs.declared.entry.What.{What}
 use Rattle.ce_model.specs.declared.entry.What.TheVariants.{Getcube, Peek, Drain, Freecube, Arm, Look, HostTake, Send, Spawn, Kill, Note, Take}
-use Rattle.ce_model.specs.declared.entry.TakeResult.TheVariants.{Start, Mail, Kill as GivenKill, Poll, Idle, Spent}
-use Rattle.ce_model.specs.declared.entry.LookResult.TheVariants.{Quiet, Spent as FoundSpent, Busy}
+use Rattle.ce_model.specs.declared.entry.TakeResult.TheVariants as take_result
+use Rattle.ce_model.specs.declared.entry.LookResult.TheVariants as look_result
 use Rattle.ce_model.specs.declared.entry.KillFound.TheVariants.{Killed, Unused, Already}
-use Rattle.ce_model.specs.Literals.{machine, of_actor, of_host, sub_at}
-pub use Rattle.ce_model.specs.Literals.{place, block, aa}
-use Rattle.ce_model.specs.Node as node
-use Rattle.ce_model.specs.Node.{takes, sends, spawns, kills, notes, arms, looks, takes_mail, host_place}
+use Rattle.ce_model.specs.Literals.{machine, entry_of, of_host, subcube}
+pub use Rattle.ce_model.specs.Literals.{place, block, first_bytes}
+use Rattle.ce_model.specs.Node as model
+use Rattle.ce_model.specs.Node.{take_call, send_call, spawn_call, kill_call, note_call, arm_call, look_call, mail_call, host_place}
 use Rattle.ce_model.specs.Machine.{Request, getcube, peek, drain, freecube, in_cube}
 use Rattle.ce_lock.specs.declared.who.Who.{Who}
 use Rattle.ce_machine.specs.declared.call.Call.{Call}
 use Rattle.ce_rows.specs.declared.worked.WorkedRow.{WorkedRow}
-use Rattle.ce_rows.specs.declared.worked.WorkedRow.TheVariants.{FirstCube, GreatestCube, NextOwner, Replies, Told, Drained}
-use Rattle.ce_rows.specs.Steps.{Step, Row, IsNextCall, IsWithoutBoxes}
+use Rattle.ce_rows.specs.declared.worked.WorkedRow.TheVariants.{FirstCube, GreatestCube, NextOwner, Replies, Hearings, WaitingMail}
+use Rattle.ce_rows.specs.RowEntries.{RowEntry, Row, IsNextCall, IsWithoutBoxes}
 
 -- ---- words of the rows
 
--- a step of a user's host, and of a node that a user holds
-abbrev pub by_host : ℕ → Request → What → Step
+-- an entry of a user's host, and of a node that a user holds
+abbrev pub by_host : ℕ → Request → What → RowEntry
 by_host user request what = record { request = request; entry = of_host user what }
 
-abbrev pub by_node : ℕ → ℕ → node.Call → What → Step
-by_node user node call what = record { request = in_cube call; entry = of_actor user node what }
+abbrev pub by_node : ℕ → ℕ → model.Call → What → RowEntry
+by_node user node call what = record { request = in_cube call; entry = entry_of user node what }
 
 -- the whole machine of one node
 abbrev pub node_0 : Subcube
-node_0 = sub_at 0 0
+node_0 = subcube 0 0
 
 abbrev pub place_0 : Place
 place_0 = place 0 0
@@ -53,89 +53,89 @@ program =
     ∷ 115 ∷ 0 ∷ 0 ∷ 0 ∷ []
 
 abbrev pub image : ImageParts
-image = image_parts 0x0001_0000 program 0
+image = image_parts image_start program 0
 
 -- ---- the rows
 
-abbrev pub first_cube : List Step
+abbrev pub first_cube : List RowEntry
 first_cube =
-    by_host 1 (getcube 1) (Getcube 1 (Some (sub_at 1 0)))
+    by_host 1 (getcube 1) (Getcube 1 (Some (subcube 1 0)))
     ∷ by_host 0 peek Peek
     ∷ []
 
-abbrev pub greatest_cube : List Step
-greatest_cube = by_host 7 (getcube 6) (Getcube 6 (Some (sub_at 63 0))) ∷ []
+abbrev pub greatest_cube : List RowEntry
+greatest_cube = by_host 7 (getcube 6) (Getcube 6 (Some (subcube 63 0))) ∷ []
 
-abbrev pub next_owner : List Step
+abbrev pub next_owner : List RowEntry
 next_owner =
     by_host 0 (getcube 0) (Getcube 0 (Some node_0))
-    ∷ by_host 0 (in_cube (sends 0 ((place_0, block 256 0) ∷ []) aa)) (Send 0 0 ((place_0, block 256 0) ∷ []) aa)
+    ∷ by_host 0 (in_cube (send_call 0 ((place_0, block 256 0) ∷ []) first_bytes)) (Send 0 0 ((place_0, block 256 0) ∷ []) first_bytes)
     ∷ by_host 0 drain Drain
     ∷ by_host 0 freecube Freecube
     ∷ by_host 1 (getcube 0) (Getcube 0 (Some node_0))
-    ∷ by_node 1 0 (takes 0 0 None) (Take 0 0 None Idle)
+    ∷ by_node 1 0 (take_call 0 0 None) (Take 0 0 None take_result.Idle)
     ∷ []
 
-abbrev pub replies : List Step
+abbrev pub replies : List RowEntry
 replies =
     by_host 1 peek Peek
     ∷ by_host 0 (getcube 0) (Getcube 0 (Some node_0))
     ∷ by_host 1 (getcube 0) (Getcube 0 None)
-    ∷ by_host 0 (in_cube looks) (Look Quiet)
-    ∷ by_host 0 (in_cube (kills 0 place_0)) (Kill 0 place_0 Unused)
-    ∷ by_host 0 (in_cube (spawns 0 0 place_0)) (Spawn 0 0 place_0 true)
-    ∷ by_host 0 (in_cube (spawns 0 0 place_0)) (Spawn 0 0 place_0 false)
-    ∷ by_host 0 (in_cube looks) (Look FoundSpent)
-    ∷ by_node 0 0 (takes 0 0 None) (Take 0 0 None Spent)
-    ∷ by_host 0 (in_cube (arms 3)) (Arm 3)
-    ∷ by_host 0 (in_cube looks) (Look Busy)
-    ∷ by_host 0 (in_cube (kills 0 place_0)) (Kill 0 place_0 Killed)
-    ∷ by_host 0 (in_cube (kills 0 place_0)) (Kill 0 place_0 Already)
-    ∷ by_host 0 (in_cube (sends 0 ((place_0, block 256 0) ∷ []) aa)) (Send 0 0 ((place_0, block 256 0) ∷ []) aa)
-    ∷ by_host 0 (in_cube takes_mail) (HostTake None)
-    ∷ by_node 0 0 (takes 0 0 None) (Take 0 0 None (Start 0 0))
+    ∷ by_host 0 (in_cube look_call) (Look look_result.Quiet)
+    ∷ by_host 0 (in_cube (kill_call 0 place_0)) (Kill 0 place_0 Unused)
+    ∷ by_host 0 (in_cube (spawn_call 0 0 place_0)) (Spawn 0 0 place_0 true)
+    ∷ by_host 0 (in_cube (spawn_call 0 0 place_0)) (Spawn 0 0 place_0 false)
+    ∷ by_host 0 (in_cube look_call) (Look look_result.Spent)
+    ∷ by_node 0 0 (take_call 0 0 None) (Take 0 0 None take_result.Spent)
+    ∷ by_host 0 (in_cube (arm_call 3)) (Arm 3)
+    ∷ by_host 0 (in_cube look_call) (Look look_result.Busy)
+    ∷ by_host 0 (in_cube (kill_call 0 place_0)) (Kill 0 place_0 Killed)
+    ∷ by_host 0 (in_cube (kill_call 0 place_0)) (Kill 0 place_0 Already)
+    ∷ by_host 0 (in_cube (send_call 0 ((place_0, block 256 0) ∷ []) first_bytes)) (Send 0 0 ((place_0, block 256 0) ∷ []) first_bytes)
+    ∷ by_host 0 (in_cube mail_call) (HostTake None)
+    ∷ by_node 0 0 (take_call 0 0 None) (Take 0 0 None (take_result.Start 0 0))
     ∷ by_host 0 drain Drain
     ∷ []
 
-abbrev pub told : List Step
-told =
+abbrev pub hearings : List RowEntry
+hearings =
     by_host 0 (getcube 0) (Getcube 0 (Some node_0))
-    ∷ by_host 0 (in_cube (spawns 0 0 place_0)) (Spawn 0 0 place_0 true)
-    ∷ by_host 0 (in_cube (arms 10)) (Arm 10)
-    ∷ by_node 0 0 (takes 0 0 None) (Take 0 0 None (Start 0 0))
-    ∷ by_node 0 0 (notes 0 42) (Note 0 42)
-    ∷ by_node 0 0 (sends 0 ((host_place, block 0 0) ∷ []) (0 ∷ [])) (Send 0 0 ((host_place, block 0 0) ∷ []) (0 ∷ []))
-    ∷ by_node 0 0 (takes 1 0 (Some 0)) (Take 1 0 (Some 0) (Poll 0))
-    ∷ by_host 0 (in_cube (sends 0 ((place_0, block 256 0) ∷ []) aa)) (Send 0 1 ((place_0, block 256 0) ∷ []) aa)
-    ∷ by_node 0 0 (takes 1 0 (Some 0)) (Take 1 0 (Some 0) (Mail 0 1))
-    ∷ by_host 0 (in_cube takes_mail) (HostTake (Some 0))
-    ∷ by_host 0 (in_cube (kills 0 place_0)) (Kill 0 place_0 Killed)
-    ∷ by_node 0 0 (takes 1 0 (Some 0)) (Take 1 0 (Some 0) (GivenKill 0))
-    ∷ by_node 0 0 (takes 0 1 None) (Take 0 1 None Idle)
+    ∷ by_host 0 (in_cube (spawn_call 0 0 place_0)) (Spawn 0 0 place_0 true)
+    ∷ by_host 0 (in_cube (arm_call 10)) (Arm 10)
+    ∷ by_node 0 0 (take_call 0 0 None) (Take 0 0 None (take_result.Start 0 0))
+    ∷ by_node 0 0 (note_call 0 42) (Note 0 42)
+    ∷ by_node 0 0 (send_call 0 ((host_place, block 0 0) ∷ []) (0 ∷ [])) (Send 0 0 ((host_place, block 0 0) ∷ []) (0 ∷ []))
+    ∷ by_node 0 0 (take_call 1 0 (Some 0)) (Take 1 0 (Some 0) (take_result.Poll 0))
+    ∷ by_host 0 (in_cube (send_call 0 ((place_0, block 256 0) ∷ []) first_bytes)) (Send 0 1 ((place_0, block 256 0) ∷ []) first_bytes)
+    ∷ by_node 0 0 (take_call 1 0 (Some 0)) (Take 1 0 (Some 0) (take_result.Mail 0 1))
+    ∷ by_host 0 (in_cube mail_call) (HostTake (Some 0))
+    ∷ by_host 0 (in_cube (kill_call 0 place_0)) (Kill 0 place_0 Killed)
+    ∷ by_node 0 0 (take_call 1 0 (Some 0)) (Take 1 0 (Some 0) (take_result.Kill 0))
+    ∷ by_node 0 0 (take_call 0 1 None) (Take 0 1 None take_result.Idle)
     ∷ []
 
-abbrev pub drained : List Step
-drained =
-    by_host 0 (getcube 2) (Getcube 2 (Some (sub_at 3 0)))
-    ∷ by_host 0 (in_cube (spawns 0 0 (place 1 0))) (Spawn 0 0 (place 1 0) true)
-    ∷ by_host 0 (in_cube (arms 10)) (Arm 10)
-    ∷ by_node 0 1 (takes 0 0 None) (Take 0 0 None (Start 0 0))
-    ∷ by_node 0 1 (notes 0 42) (Note 0 42)
-    ∷ by_node 0 1 (sends 0 ((host_place, block 1 0) ∷ []) (0 ∷ [])) (Send 0 0 ((host_place, block 1 0) ∷ []) (0 ∷ []))
-    ∷ by_host 0 (in_cube (sends 0 ((place 2 0, block 256 0) ∷ []) aa)) (Send 0 1 ((place 2 0, block 256 0) ∷ []) aa)
-    ∷ by_host 0 (in_cube (sends 0 ((place 0 0, block 256 1) ∷ []) aa)) (Send 0 2 ((place 0 0, block 256 1) ∷ []) aa)
-    ∷ by_host 0 (in_cube (sends 0 ((place 3 1, block 256 2) ∷ []) aa)) (Send 0 3 ((place 3 1, block 256 2) ∷ []) aa)
+abbrev pub waiting_mail : List RowEntry
+waiting_mail =
+    by_host 0 (getcube 2) (Getcube 2 (Some (subcube 3 0)))
+    ∷ by_host 0 (in_cube (spawn_call 0 0 (place 1 0))) (Spawn 0 0 (place 1 0) true)
+    ∷ by_host 0 (in_cube (arm_call 10)) (Arm 10)
+    ∷ by_node 0 1 (take_call 0 0 None) (Take 0 0 None (take_result.Start 0 0))
+    ∷ by_node 0 1 (note_call 0 42) (Note 0 42)
+    ∷ by_node 0 1 (send_call 0 ((host_place, block 1 0) ∷ []) (0 ∷ [])) (Send 0 0 ((host_place, block 1 0) ∷ []) (0 ∷ []))
+    ∷ by_host 0 (in_cube (send_call 0 ((place 2 0, block 256 0) ∷ []) first_bytes)) (Send 0 1 ((place 2 0, block 256 0) ∷ []) first_bytes)
+    ∷ by_host 0 (in_cube (send_call 0 ((place 0 0, block 256 1) ∷ []) first_bytes)) (Send 0 2 ((place 0 0, block 256 1) ∷ []) first_bytes)
+    ∷ by_host 0 (in_cube (send_call 0 ((place 3 1, block 256 2) ∷ []) first_bytes)) (Send 0 3 ((place 3 1, block 256 2) ∷ []) first_bytes)
     ∷ by_host 0 drain Drain
     ∷ []
 
 -- the row of a name
 abbrev pub row_of : WorkedRow → Row
-row_of FirstCube = record { parts = machine 2 2 image; steps = first_cube }
-row_of GreatestCube = record { parts = machine 6 8 image; steps = greatest_cube }
-row_of NextOwner = record { parts = machine 0 2 image; steps = next_owner }
-row_of Replies = record { parts = machine 0 2 image; steps = replies }
-row_of Told = record { parts = machine 0 1 image; steps = told }
-row_of Drained = record { parts = machine 2 1 image; steps = drained }
+row_of FirstCube = record { parts = machine 2 2 image; entries = first_cube }
+row_of GreatestCube = record { parts = machine 6 8 image; entries = greatest_cube }
+row_of NextOwner = record { parts = machine 0 2 image; entries = next_owner }
+row_of Replies = record { parts = machine 0 2 image; entries = replies }
+row_of Hearings = record { parts = machine 0 1 image; entries = hearings }
+row_of WaitingMail = record { parts = machine 2 1 image; entries = waiting_mail }
 
 -- the call is a row's next behind its first so many, and it brings no boxes
 pub record IsCallAt {N : Type 0} (row : WorkedRow) (count : ℕ) (who : Who) (call : Call N) : Type 0 where

@@ -1,6 +1,6 @@
 ghost use Rattle.std.specs.Prelude.{◌+◌, IfOk};
 ghost use Rattle.ce_machine.specs.Requests.{HasBroughtBoxes};
-ghost use Rattle.ce_rows.specs.Steps.{IsAt, IsNextCall, IsNextReply};
+ghost use Rattle.ce_rows.specs.RowEntries.{IsAt, IsNextCall, IsNextReply};
 ghost use Rattle.ce_rows.specs.Rows.{row_of};
 
 use crate::WorkedRow;

@@ -52,14 +52,14 @@ fn each_reply_without_a_process(rt: HostRuntime) -> Result<(), Fail> {
 #[test]
 fn what_a_process_is_told(rt: HostRuntime) -> Result<(), Fail> {
     let alloc = rt.alloc();
-    let mut shared = open(alloc, WorkedRow::Told, node_numbers(alloc, 1)?)?;
-    run(&mut shared, alloc, WorkedRow::Told, 13)
+    let mut shared = open(alloc, WorkedRow::Hearings, node_numbers(alloc, 1)?)?;
+    run(&mut shared, alloc, WorkedRow::Hearings, 13)
 }
 
 #[test]
 #[tactic(auto, using(ce_model::specs::Limits::greatest_dim_lem))]
 fn mail_of_three_nodes_and_the_host_is_drained(rt: HostRuntime) -> Result<(), Fail> {
     let alloc = rt.alloc();
-    let mut shared = open(alloc, WorkedRow::Drained, node_boxes(alloc, 2)?)?;
-    run(&mut shared, alloc, WorkedRow::Drained, 10)
+    let mut shared = open(alloc, WorkedRow::WaitingMail, node_boxes(alloc, 2)?)?;
+    run(&mut shared, alloc, WorkedRow::WaitingMail, 10)
 }

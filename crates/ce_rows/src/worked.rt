@@ -10,7 +10,7 @@ pub enum WorkedRow {
     /// Each reply that a machine gives whose nodes run no process.
     Replies,
     /// What a process hears, and its host.
-    Told,
+    Hearings,
     /// Messages for three nodes and the host wait when the cube is drained.
-    Drained,
+    WaitingMail,
 }

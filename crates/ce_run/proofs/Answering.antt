@@ -10,7 +10,7 @@ use Rattle.ce_model.specs.declared.entry.What.TheVariants.{Arm, Look}
 use Rattle.ce_model.specs.declared.entry.LookResult.{LookResult}
 use Rattle.ce_model.specs.declared.entry.LookResult.TheVariants.{Busy}
 use Rattle.ce_model.specs.Parcels.{Item}
-use Rattle.ce_model.specs.Trace.{sent_to}
+use Rattle.ce_model.specs.Trace.{sent_items}
 use Rattle.ce_model.specs.Cube.{opening, parcel_numbered}
 use Rattle.ce_model.specs.Renaming.{CubeGrant, entry_inward}
 use Rattle.ce_model.specs.Views.{view}
@@ -21,7 +21,7 @@ use Rattle.ce_machine.specs.Meanings.{MachineFacts}
 use Rattle.ce_cube.specs.declared.crew.SerialCrew.{SerialCrew}
 use Rattle.ce_cube.specs.Boxes.{IsHeldAs}
 use Rattle.ce_cube.specs.Crews.{IsLawfulMachine, IsCrewInStep, HasGoneOn, HasMadeRound, cube_grant, box_at}
-use Rattle.ce_cube.proofs.Counts.{steps-end-turns}
+use Rattle.ce_cube.proofs.Counts.{boxes_in_step-end-turns}
 use Rattle.ce_cube.proofs.Crewing.{still-sound, gone-both, stands-still}
 use Rattle.ce_host.specs.declared.command.Command.TheVariants.{Run, Recv}
 use Rattle.ce_host.specs.declared.answer.Answer.{Answer}
@@ -45,7 +45,7 @@ use Rattle.ce_run.proofs.Seating.{done-by}
 -- the turns of the nodes are over where the crew is in step
 turns-over : (m : MachineFacts) (crew : SerialCrew) → IsCrewInStep m.parts m.history crew
     → AreTurnsOver (cube_of m.parts.images (cube_grant crew.grant)) (opening (cube_of m.parts.images (cube_grant crew.grant))) (view m.history crew.grant.number)
-turns-over m crew step = steps-end-turns m.parts m.history crew.grant.number (cube_grant crew.grant) (λ r. (box_at crew.nodes.items r).node) step.boxes.in_step
+turns-over m crew step = boxes_in_step-end-turns m.parts m.history crew.grant.number (cube_grant crew.grant) (λ r. (box_at crew.nodes.items r).node) step.boxes.in_step
 
 module _ (before behind : MachineFacts) (crew crew' : SerialCrew) (made : List Entry) (sound : IsLawfulMachine before)
     (step : IsCrewInStep before.parts before.history crew) (on : HasGoneOn before behind crew crew' made) where
@@ -278,7 +278,7 @@ module _ (before armed now : MachineFacts) (crew crew1 crew2 : SerialCrew) (coun
       -- what the host is told, by what was sent to it
       abbrev IsToldIn : MachineParts → CubeGrant → List Entry → Type 0
       IsToldIn parts grant t =
-          message_reply (parcel_numbered taken.number (sent_to (opening (cube_of parts.images grant)).standing HOST t)) ≡ Some (Message from bytes)
+          message_reply (parcel_numbered taken.number (sent_items (opening (cube_of parts.images grant)).standing HOST t)) ≡ Some (Message from bytes)
 
       told-now : IsToldIn now.parts (cube_grant crew2.grant) (view behind.history crew2.grant.number)
       told-now =

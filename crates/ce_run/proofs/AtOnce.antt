@@ -8,7 +8,7 @@ use Rattle.ce_model.specs.declared.entry.Entry.{Entry}
 use Rattle.ce_model.specs.Process.{Process, unborn_process}
 use Rattle.ce_model.specs.Node.{Node, is_place, process_at}
 use Rattle.ce_model.specs.Cube.{opening, rest}
-use Rattle.ce_model.specs.Renaming.{CubeGrant, process_with, node_outward}
+use Rattle.ce_model.specs.Renaming.{CubeGrant, renamed_process, node_outward}
 use Rattle.ce_model.specs.Views.{view}
 use Rattle.ce_model.specs.Machine.{MachineParts, cube_of}
 use Rattle.ce_solo.proofs.Sending.{place_parts}
@@ -23,7 +23,7 @@ use Rattle.ce_record.proofs.AtOnce.{held, dump, trace}
 
 -- names of blocks don't matter for what processes do
 status-named : (rename : BlockId → BlockId) (ps : List Process) (pid : ℕ)
-    → (slice_index_or (map (process_with rename) ps) pid unborn_process).status ≡ (slice_index_or ps pid unborn_process).status
+    → (slice_index_or (map (renamed_process rename) ps) pid unborn_process).status ≡ (slice_index_or ps pid unborn_process).status
 status-named rename [] pid = refl
 status-named rename (p ∷ ps) zero = refl
 status-named rename (p ∷ ps) (suc pid) = status-named rename ps pid

@@ -4,11 +4,11 @@ use Rattle.std.proofs.lemmas.List.{length-map}
 use Rattle.std.specs.List.{take_while}
 use Rattle.std.proofs.lemmas.List.Sums.{take_while-cons}
 use Rattle.std.specs.Option.{option_map_or}
-use Rattle.ce_model.specs.Answers.{call_of}
+use Rattle.ce_model.specs.Answers.{recorded_call}
 use Rattle.ce_model.specs.declared.topology.TheConstants.{HOST}
 use Rattle.ce_model.specs.declared.entry.Entry.{Entry}
 use Rattle.ce_model.specs.Renaming.{CubeGrant, entry_inward}
-use Rattle.ce_model.specs.Views.{grant_by, is_drain, trace_behind, grant_or_later, from_grant, view}
+use Rattle.ce_model.specs.Views.{entry_grant, is_drain, trace_behind, grant_or_later, history_behind_grant, view}
 use Rattle.ce_model.specs.Machine.{MachineParts, IsMachine, after, IsFitting, what_of_request}
 use Rattle.rk_node.specs.Boxes.{Box}
 use Rattle.ce_machine.specs.Meanings.{MachineFacts}
@@ -47,7 +47,7 @@ three-shorter f p q xs = omega (arith, length-map (filter p (take_while q xs)) f
 
 trace-shorter : (grant : CubeGrant) (behind : List Entry) → length (trace_behind grant behind) ≤ length behind
 trace-shorter grant behind =
-    three-shorter (entry_inward grant.sub) (λ entry. entry.user == grant.user && is_some (call_of entry.what))
+    three-shorter (entry_inward grant.sub) (λ entry. entry.user == grant.user && is_some (recorded_call entry.what))
     (λ entry. not (entry.user == grant.user && is_drain entry.what)) behind
 
 -- what is found by a grant is no longer
@@ -64,17 +64,17 @@ either-short : (b : Bool) (count : ℕ) (grant : CubeGrant) (behind : List Entry
 either-short true count grant behind later less short = omega (arith, less)
 either-short false count grant behind later less short = longer count later short
 
-later-short : (given : Option CubeGrant) (behind : List Entry) (number : ℕ) → ((n : ℕ) → IsShort (length behind) (from_grant behind n))
-    → IsShort (length behind + 1) (grant_or_later given behind number (from_grant behind))
-later-short None behind number short = longer (length behind) (from_grant behind number) (short number)
+later-short : (given : Option CubeGrant) (behind : List Entry) (number : ℕ) → ((n : ℕ) → IsShort (length behind) (history_behind_grant behind n))
+    → IsShort (length behind + 1) (grant_or_later given behind number (history_behind_grant behind))
+later-short None behind number short = longer (length behind) (history_behind_grant behind number) (short number)
 later-short (Some grant) behind number short =
-    either-short (number == 0) (length behind) grant behind (from_grant behind (number - 1)) (omega arith) (short (number - 1))
+    either-short (number == 0) (length behind) grant behind (history_behind_grant behind (number - 1)) (omega arith) (short (number - 1))
 
-found-short : (history : List Entry) (number : ℕ) → IsShort (length history) (from_grant history number)
+found-short : (history : List Entry) (number : ℕ) → IsShort (length history) (history_behind_grant history number)
 found-short [] number = tt
 found-short (entry ∷ behind) number =
     let more : length behind + 1 ≡ length (entry ∷ behind) = omega arith in
-    subst (λ count. IsShort count (from_grant (entry ∷ behind) number)) more (later-short (grant_by entry) behind number (found-short behind))
+    subst (λ count. IsShort count (history_behind_grant (entry ∷ behind) number)) more (later-short (entry_grant entry) behind number (found-short behind))
 
 in-shorter : (count : ℕ) (found : Option (CubeGrant × List Entry)) → IsShort count found
     → length {A = Entry} (option_map_or (λ found. trace_behind found.0 found.1) found []) ≤ count
@@ -83,7 +83,7 @@ in-shorter count (Some found) short = omega (arith, trace-shorter found.0 found.
 
 pub view-shorter : (history : List Entry) (number : ℕ) → length (view history number) ≤ length history
 unfolding view
-view-shorter history number = in-shorter (length history) (from_grant history number) (found-short history number)
+view-shorter history number = in-shorter (length history) (history_behind_grant history number) (found-short history number)
 
 -- ---- a call of a cube
 

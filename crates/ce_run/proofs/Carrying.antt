@@ -1,6 +1,6 @@
 -- Which command is carried out how.
 use Rattle.std.proofs.Common.{◌≡◌, ℕ, None, IsTrue, refl}
-use Rattle.ce_model.specs.Machine.{after, held_by}
+use Rattle.ce_model.specs.Machine.{after, cube_held_by}
 use Rattle.ce_host.specs.declared.command.Command.{Command}
 use Rattle.ce_host.specs.declared.command.Command.TheVariants.{Getcube, Peek, Trace}
 use Rattle.ce_host.specs.declared.answer.Answer.TheVariants.{NoCube, Held, Entries}
@@ -22,7 +22,7 @@ wants (Getcube dim) getcube peek = absurd (getcube dim refl)
 wants Peek getcube peek = absurd (peek refl)
 wants other getcube peek = refl
 
-module _ (before : MachineFacts) (user : ℕ) (has : HasUser before user) (free : held_by (after before.history) user ≡ None) (host : Host) (home : IsHostAtHome user host) where
+module _ (before : MachineFacts) (user : ℕ) (has : HasUser before user) (free : cube_held_by (after before.history) user ≡ None) (host : Host) (home : IsHostAtHome user host) where
   pub no-cube-done : (command : Command) → ((dim : ℕ) → command ≡ Getcube dim → ⊥) → (command ≡ Peek → ⊥)
       → HasDone before before user command NoCube (Free host)
   no-cube-done command getcube peek =

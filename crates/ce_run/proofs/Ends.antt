@@ -3,18 +3,18 @@ use Rattle.std.proofs.Common.{◌≡◌, ◌⊎◌, ℕ, true, if◌then◌else�
 use Rattle.std.specs.Prelude.{IfSome}
 use Rattle.std.specs.Io.KnownBytes.{prepend_known}
 use Rattle.ce_io.specs.Whole.{HasGiven, Reading, Writing, reading, writing}
-use Rattle.ce_words.specs.declared.line.Line.{Line}
-use Rattle.ce_words.specs.Line.{line_of}
+use Rattle.ce_words.specs.declared.line.CommandLine.{CommandLine}
+use Rattle.ce_words.specs.Line.{asked_line}
 use Rattle.ce_script.specs.Rounds.{serial, threaded}
 use Rattle.ce_script.specs.Serial.{IsSerial}
 use Rattle.ce_script.specs.Legal.{IsLegal}
 use Rattle.ce_script.specs.Load.{load}
 use Rattle.ce_script.specs.declared.script.Script.{Script}
 use Rattle.ce_run.specs.declared.ended.RunEnd.{RunEnd}
-use Rattle.ce_run.specs.declared.ended.Fault.{Fault}
-use Rattle.ce_run.specs.declared.ended.Fault.TheVariants.{TooLong, Script as Refused, Usage, Read, Write, Memory}
+use Rattle.ce_run.specs.declared.ended.RunFault.{RunFault}
+use Rattle.ce_run.specs.declared.ended.RunFault.TheVariants as run_fault
 use Rattle.ce_run.specs.Fault.{status_of}
-use Rattle.ce_run.specs.Causes.{IsServed, IsMemory, HasRunToEnd, HasReported}
+use Rattle.ce_run.specs.Causes.{IsServed, IsNoMemory, HasRunToEnd, HasReported}
 use Rattle.ce_run.specs.Promise.{HasEnded, HasFinished, HasRun, HasScript, text_of}
 
 nothing_before : (known : Option (List ℕ)) → known ≡ prepend_known [] known
@@ -26,27 +26,27 @@ pub nothing_given : {S : Type 0} (left : S → Option (List ℕ)) (given faults 
 nothing_given left given faults s = record { left = nothing_before (left s); given = omega arith }
 
 -- the end with this fault, and without a record
-abbrev pub refused_with : Fault → RunEnd
+abbrev pub refused_with : RunFault → RunEnd
 refused_with fault = record { status = status_of fault; kept = None; fault = Some fault }
 
 -- a run that ended at its words went no further, and so with no fault of what comes behind them
-no_run : (fault : Fault) → (fault ≡ Usage) ⊎ IsMemory (Some fault) → HasRunToEnd (Some fault) → ⊥
+no_run : (fault : RunFault) → (fault ≡ run_fault.Usage) ⊎ IsNoMemory (Some fault) → HasRunToEnd (Some fault) → ⊥
 no_run fault (inl usage) ran = subst (λ fault. HasRunToEnd (Some fault)) usage ran
-no_run (Memory want) (inr memory) ran = ran
+no_run (run_fault.Memory want) (inr memory) ran = ran
 no_run other (inr memory) ran = memory
 
-no_other : (fault other : Fault) → (fault ≡ Usage) ⊎ IsMemory (Some fault) → (other ≡ Usage → ⊥) → (IsMemory (Some other) → ⊥) → Some fault ≡ Some other → ⊥
+no_other : (fault other : RunFault) → (fault ≡ run_fault.Usage) ⊎ IsNoMemory (Some fault) → (other ≡ run_fault.Usage → ⊥) → (IsNoMemory (Some other) → ⊥) → Some fault ≡ Some other → ⊥
 no_other fault other (inl usage) not_usage not_memory e = not_usage (cc)
-no_other fault other (inr memory) not_usage not_memory e = not_memory (subst IsMemory e memory)
+no_other fault other (inr memory) not_usage not_memory e = not_memory (subst IsNoMemory e memory)
 
 module _ {S K : Type 0} (left : S → Option (List ℕ)) (given faults : S → ℕ) (s : S) (written : K → Option (List ℕ)) (failed : K → ℕ) (k : K)
     (words : List (List ℕ)) where
   -- nothing was read or written, and this is the fault
-  abbrev HasEndedWith : Fault → Type 0
+  abbrev HasEndedWith : RunFault → Type 0
   HasEndedWith fault = HasEnded words (reading left given faults s s) (writing written failed k k) (refused_with fault)
 
   -- words that aren't served, or for which there is no memory
-  pub ends_at_words : (fault : Fault) → (fault ≡ Usage) ⊎ IsMemory (Some fault) → (fault ≡ Usage → ¬ IsServed words) → HasEndedWith fault
+  pub ends_at_words : (fault : RunFault) → (fault ≡ run_fault.Usage) ⊎ IsNoMemory (Some fault) → (fault ≡ run_fault.Usage → ¬ IsServed words) → HasEndedWith fault
   ends_at_words fault why refused = record {
     status = refl;
     kept = (λ none. absurd (cc), λ ran. absurd (no_run fault why ran));
@@ -57,13 +57,13 @@ module _ {S K : Type 0} (left : S → Option (List ℕ)) (given faults : S → �
     gave = nothing_given left given faults s;
     load_unread = λ _ _. refl;
     load_runs = λ served _. elim why [ inl usage ↦ absurd (refused usage served) | inr memory ↦ inr memory ];
-    too_long = (λ e. absurd (no_other fault TooLong why (λ e. cc) (λ m. m) e), λ over. absurd (omega arith));
+    too_long = (λ e. absurd (no_other fault run_fault.TooLong why (λ e. cc) (λ m. m) e), λ over. absurd (omega arith));
     bounded = omega arith;
-    faulty = λ other e. absurd (no_other fault (Refused other) why (λ e. cc) (λ m. m) e);
+    faulty = λ other e. absurd (no_other fault (run_fault.Script other) why (λ e. cc) (λ m. m) e);
     faultless = λ ran _. absurd (no_run fault why ran);
-    read = λ e. absurd (no_other fault Read why (λ e. cc) (λ m. m) e);
+    read = λ e. absurd (no_other fault run_fault.Read why (λ e. cc) (λ m. m) e);
     no_read_failed = inr refl;
-    write = λ e. absurd (no_other fault Write why (λ e. cc) (λ m. m) e);
+    write = λ e. absurd (no_other fault run_fault.Write why (λ e. cc) (λ m. m) e);
     no_write_failed = inr refl;
     unwritten = inr refl;
   }
@@ -74,8 +74,8 @@ both None P Q R Z f p q r = tt
 both (Some a) P Q R Z f p q r = f a p q r
 
 -- a run that left a record did what is promised of it
-pub runs_as_promised : {S K : Type 0} (line : Line) (source : Reading S) (sink : Writing K) (script : Script) (end : RunEnd)
-    → line.serial ≡ true → HasScript line.load source script → HasFinished script line.load sink end → IfSome end.kept (HasRun line source sink end.fault)
+pub runs_as_promised : {S K : Type 0} (line : CommandLine) (source : Reading S) (sink : Writing K) (script : Script) (end : RunEnd)
+    → line.is_serial ≡ true → HasScript line.load source script → HasFinished script line.load sink end → IfSome end.kept (HasRun line source sink end.fault)
 runs_as_promised line source sink script end one has finished =
     both end.kept (IsLegal serial script) (IsSerial script) (λ kept. HasReported end.fault (text_of line.load script kept) (sink.written sink.old) (sink.written sink.new))
     (HasRun line source sink end.fault)
@@ -88,33 +88,33 @@ runs_as_promised line source sink script end one has finished =
     }) finished.legal finished.serial finished.reported
 
 -- a run that finished has no other fault than these
-other_fault : (end : Option Fault) (fault : Fault) → (HasRunToEnd (Some fault) → ⊥) → (IsMemory (Some fault) → ⊥)
-    → HasRunToEnd end ⊎ IsMemory end → end ≡ Some fault → ⊥
+other_fault : (end : Option RunFault) (fault : RunFault) → (HasRunToEnd (Some fault) → ⊥) → (IsNoMemory (Some fault) → ⊥)
+    → HasRunToEnd end ⊎ IsNoMemory end → end ≡ Some fault → ⊥
 other_fault end fault not_ran not_memory (inl ran) e = not_ran (subst HasRunToEnd e ran)
-other_fault end fault not_ran not_memory (inr memory) e = not_memory (subst IsMemory e memory)
+other_fault end fault not_ran not_memory (inr memory) e = not_memory (subst IsNoMemory e memory)
 
 some_differs : (load : Option ℕ) (seed : ℕ) → load ≡ Some seed → load ≡ None → ⊥
 some_differs load seed some none = absurd (cc)
 
 -- the run of a load, for which nothing is read
 pub ends_of_load : {S K : Type 0} (left : S → Option (List ℕ)) (given faults : S → ℕ) (s : S) (sink : Writing K)
-    (words : List (List ℕ)) (script : Script) (seed : ℕ) (end : RunEnd) → IsServed words → (line_of words).load ≡ Some seed
+    (words : List (List ℕ)) (script : Script) (seed : ℕ) (end : RunEnd) → IsServed words → (asked_line words).load ≡ Some seed
     → HasFinished script (Some seed) sink end → HasEnded words (reading left given faults s s) sink end
 ends_of_load left given faults s sink words script seed end served asked finished = record {
   status = finished.status;
   kept = finished.kept;
-  usage = λ e. absurd (other_fault end.fault Usage (λ f. f) (λ f. f) finished.fault e);
+  usage = λ e. absurd (other_fault end.fault run_fault.Usage (λ f. f) (λ f. f) finished.fault e);
   served = inl served;
   unread = λ _. refl;
   bytes = [];
   gave = nothing_given left given faults s;
   load_unread = λ _ _. refl;
   load_runs = λ _ _. finished.fault;
-  too_long = (λ e. absurd (other_fault end.fault TooLong (λ f. f) (λ f. f) finished.fault e), λ over. absurd (omega arith));
+  too_long = (λ e. absurd (other_fault end.fault run_fault.TooLong (λ f. f) (λ f. f) finished.fault e), λ over. absurd (omega arith));
   bounded = omega arith;
-  faulty = λ fault e. absurd (other_fault end.fault (Refused fault) (λ f. f) (λ f. f) finished.fault e);
-  faultless = λ ran none. absurd (some_differs (line_of words).load seed asked none);
-  read = λ e. absurd (other_fault end.fault Read (λ f. f) (λ f. f) finished.fault e);
+  faulty = λ fault e. absurd (other_fault end.fault (run_fault.Script fault) (λ f. f) (λ f. f) finished.fault e);
+  faultless = λ ran none. absurd (some_differs (asked_line words).load seed asked none);
+  read = λ e. absurd (other_fault end.fault run_fault.Read (λ f. f) (λ f. f) finished.fault e);
   no_read_failed = inr refl;
   write = finished.write;
   no_write_failed = finished.no_write_failed;

@@ -9,7 +9,7 @@ use Rattle.std.proofs.lemmas.Bool.{cases_eq}
 use Rattle.rv_model.specs.Image.{ImageParts}
 use Rattle.ce_model.specs.declared.entry.Entry.{Entry}
 use Rattle.ce_model.specs.Views.{view}
-use Rattle.ce_model.specs.Machine.{MachineParts, IsMachine, IsLawful, HeldCube, after, held_by}
+use Rattle.ce_model.specs.Machine.{MachineParts, IsMachine, IsLawful, HeldCube, after, cube_held_by}
 use Rattle.ce_machine.specs.Meanings.{MachineFacts}
 use Rattle.ce_model.specs.Limits.{home_blocks, host_home, greatest_blocks}
 use Rattle.ce_model.specs.Blocks.{blocks_of_home}
@@ -48,24 +48,24 @@ trace_in None = []
 trace_in (Some held) = held.trace
 
 -- a user that holds the same cube, by what is held now, has the same trace
-same-trace : (h h' : List Entry) (user : ℕ) (cube : HeldCube) → held_by (after h) user ≡ Some cube → held_by (after h') user ≡ held_by (after h) user
+same-trace : (h h' : List Entry) (user : ℕ) (cube : HeldCube) → cube_held_by (after h) user ≡ Some cube → cube_held_by (after h') user ≡ cube_held_by (after h) user
     → held_now h' user ≡ held_now h user → view h' cube.number ≡ view h cube.number
 same-trace h h' user cube holds same now =
     ap (λ held. trace_in (option_map (holding_of h') held)) (sym (same ∙ holds)) ∙ ap trace_in now ∙ ap (λ held. trace_in (option_map (holding_of h) held)) holds
 
-pub seat-stays : (parts : MachineParts) (h h' : List Entry) (user : ℕ) (seat : Seat) → held_by (after h') user ≡ held_by (after h) user
+pub seat-stays : (parts : MachineParts) (h h' : List Entry) (user : ℕ) (seat : Seat) → cube_held_by (after h') user ≡ cube_held_by (after h) user
     → held_now h' user ≡ held_now h user → IsSeatAt parts h user seat → IsSeatAt parts h' user seat
 seat-stays parts h h' user (Free host) same now seated = (same ∙ seated.0, seated.1)
 seat-stays parts h h' user (Holding crew) same now seated =
     let held = seated.1.held in
-    let at = ap (held_by (after h)) (sym seated.0) ∙ held.held in
+    let at = ap (cube_held_by (after h)) (sym seated.0) ∙ held.held in
     let trace = same-trace h h' user held.cube at same now in (
       seated.0,
-      crew-keeps parts h h' crew (ap (held_by (after h')) seated.0 ∙ same ∙ ap (held_by (after h)) (sym seated.0))
+      crew-keeps parts h h' crew (ap (cube_held_by (after h')) seated.0 ∙ same ∙ ap (cube_held_by (after h)) (sym seated.0))
           (subst (λ n. view h' n ≡ view h n) held.number_is trace) seated.1,
     )
 
-some-stays : (parts : MachineParts) (h h' : List Entry) (user : ℕ) (seat : Option Seat) → held_by (after h') user ≡ held_by (after h) user
+some-stays : (parts : MachineParts) (h h' : List Entry) (user : ℕ) (seat : Option Seat) → cube_held_by (after h') user ≡ cube_held_by (after h) user
     → held_now h' user ≡ held_now h user → IsSomeAnd seat (IsSeatAt parts h user) → IsSomeAnd seat (IsSeatAt parts h' user)
 some-stays parts h h' user None same now is = is
 some-stays parts h h' user (Some seat) same now is = seat-stays parts h h' user seat same now is

@@ -8,7 +8,7 @@ use Rattle.ce_model.specs.declared.topology.TheConstants.{HOST}
 use Rattle.ce_model.specs.declared.entry.Entry.{Entry}
 use Rattle.ce_model.specs.declared.entry.What.TheVariants.{Look, HostTake}
 use Rattle.ce_model.specs.declared.entry.LookResult.TheVariants.{Busy}
-use Rattle.ce_model.specs.Node.{looks}
+use Rattle.ce_model.specs.Node.{look_call}
 use Rattle.ce_model.specs.Parcels.{Item, is_eligible}
 use Rattle.ce_model.specs.Trace.{Mark, Standing, standing, waiting_items, mark, allowed_dispatches, made_dispatches}
 use Rattle.ce_model.specs.Answers.{is_quiet, is_quiet_node, is_used_up}
@@ -33,16 +33,19 @@ use Rattle.ce_script.specs.Commands.{host_take}
 use Rattle.ce_record.specs.CubeRounds.{IsRoundOf}
 use Rattle.ce_record.proofs.Turns.{work-inward}
 use Rattle.ce_run.specs.Rounds.{HasTakenNone, HasRunRounds}
-use Rattle.ce_run.specs.Seats.{HasUser}
+use Rattle.ce_run.specs.Seats.{HasCrew}
 
 -- ---- a crew that goes on
 
-pub user-stays : (before behind : MachineFacts) (crew crew' : SerialCrew) (made : List Entry) → HasGoneOn before behind crew crew' made
-    → HasUser before crew.grant.user → HasUser behind crew'.grant.user
-user-stays before behind crew crew' made on user = record {
-  book = still-sound before behind crew crew' made user.book on;
-  within = subst (λ (g : Grant). g.user < behind.parts.users) (sym on.grant)
-      (subst (λ (p : MachineParts). crew.grant.user < p.users) (sym on.parts) user.within);
+pub crew-stays : (before behind : MachineFacts) (crew crew' : SerialCrew) (made : List Entry) → HasGoneOn before behind crew crew' made
+    → HasCrew before crew → HasCrew behind crew'
+crew-stays before behind crew crew' made on has = record {
+  user = record {
+    book = still-sound before behind crew crew' made has.user.book on;
+    within = subst (λ (g : Grant). g.user < behind.parts.users) (sym on.grant)
+        (subst (λ (p : MachineParts). crew.grant.user < p.users) (sym on.parts) has.user.within);
+  };
+  in_step = on.in_step;
 }
 
 pub images-stay : (before behind : MachineFacts) (crew crew' : SerialCrew) (made : List Entry) (images : List ImageParts) → HasGoneOn before behind crew crew' made
@@ -132,9 +135,9 @@ module _ (m : MachineFacts) (sound : IsLawfulMachine m) (number : ℕ) (grant : 
       (λ cube now same quiet. at-rest m.parts m.history cube now kind before round same quiet) held same quiet
 
   -- a look finds that it rests
-  pub found-resting : (entry : Entry) → IsMadeBy m.parts m.history grant HOST looks entry → IsResting m.parts m.history number grant → entry.what ≡ Look Busy → ⊥
+  pub found-resting : (entry : Entry) → IsMadeBy m.parts m.history grant HOST look_call entry → IsResting m.parts m.history number grant → entry.what ≡ Look Busy → ⊥
   found-resting entry made rests busy =
-      by_seen (λ number grant. IsMadeBy m.parts m.history grant HOST looks entry → IsResting m.parts m.history number grant → ⊥)
+      by_seen (λ number grant. IsMadeBy m.parts m.history grant HOST look_call entry → IsResting m.parts m.history number grant → ⊥)
       m.parts m.history number grant sound.within sound.lawful
       (λ cube now made rests. found-at-rest m.parts m.history cube now entry made rests busy) held made rests
 
@@ -148,7 +151,7 @@ module _ (o : Standing) (t : List Entry) (user : ℕ) where
   node-kept r other =
       let marks : mark o r (t ++ no_message ∷ []) ≡ mark o r t = mark-more o r t no_message ∙ rw other refl in
       let waits : waiting_items o r (t ++ no_message ∷ []) ≡ waiting_items o r t = waiting-stays o r t no_message (rw other refl) ∙ append-nil (waiting_items o r t) in
-      ap₂ (λ (mark : Mark) (items : List Item). mark.idle && not (list_any (is_eligible mark.asking mark.dead) items)) marks waits
+      ap₂ (λ (mark : Mark) (items : List Item). mark.is_idle && not (list_any (is_eligible mark.asking_ids mark.dead_ids) items)) marks waits
 
   used-kept : is_used_up (standing o (t ++ no_message ∷ [])) ≡ is_used_up (standing o t)
   used-kept = ap₂ (λ (a b : ℕ). a == b) (dispatched-more o t no_message) (armed-more o t no_message)

@@ -4,11 +4,11 @@ use Rattle.std.specs.Global.{Vec}
 use Rattle.ce_model.specs.declared.topology.TheConstants.{HOST}
 use Rattle.ce_model.specs.declared.topology.Subcube.{Subcube}
 use Rattle.ce_model.specs.declared.entry.Entry.{Entry}
-use Rattle.ce_model.specs.declared.entry.What.TheVariants.{Getcube as GetcubeMade}
+use Rattle.ce_model.specs.declared.entry.What.TheVariants as whats
 use Rattle.ce_model.specs.Limits.{greatest_dim}
 use Rattle.ce_model.specs.Subcubes.{first_free}
 use Rattle.ce_model.specs.Views.{view}
-use Rattle.ce_model.specs.Machine.{MachineState, after, held_by, is_free, getcube, what_of_request, IsFitting}
+use Rattle.ce_model.specs.Machine.{MachineState, after, cube_held_by, is_free, getcube, what_of_request, IsFitting}
 use Rattle.ce_solo.proofs.Projection.Law.{after-more}
 use Rattle.ce_daemon.specs.declared.grant.Grant.{Grant}
 use Rattle.ce_daemon.specs.Boxes.{AreBoxesOf}
@@ -16,7 +16,7 @@ use Rattle.rk_node.specs.Boxes.{Box, IsClean}
 use Rattle.ce_host.specs.declared.host.Host.{Host}
 use Rattle.ce_host.specs.declared.command.Command.TheVariants.{Getcube}
 use Rattle.ce_host.specs.declared.answer.Answer.{Answer}
-use Rattle.ce_host.specs.declared.answer.Answer.TheVariants.{None as Nothing, Granted}
+use Rattle.ce_host.specs.declared.answer.Answer.TheVariants as answers
 use Rattle.ce_machine.specs.Meanings.{MachineFacts}
 use Rattle.ce_machine.specs.declared.call.Call.TheVariants as calls
 use Rattle.ce_machine.specs.declared.call.Reply.{Reply}
@@ -36,7 +36,7 @@ use Rattle.ce_run.specs.Seats.{HasUser, HasDone, IsSeatAt}
 use Rattle.ce_run.specs.Asking.{home_of, HasAsked}
 use Rattle.ce_run.proofs.Peeking.{same-what}
 
-module _ (before : MachineFacts) (user dim : ℕ) (has : HasUser before user) (free : held_by (after before.history) user ≡ None) (within : dim ≤ greatest_dim) where
+module _ (before : MachineFacts) (user dim : ℕ) (has : HasUser before user) (free : cube_held_by (after before.history) user ≡ None) (within : dim ≤ greatest_dim) where
   abbrev state : MachineState
   state = after before.history
 
@@ -50,21 +50,21 @@ module _ (before : MachineFacts) (user dim : ℕ) (has : HasUser before user) (f
     abbrev found_now : Option Subcube
     found_now = first_free (is_free state) before.parts.dim dim
 
-    what-now : GetcubeMade dim found_now ≡ asks.what
-    what-now = same-what (GetcubeMade dim found_now) asks.what asks.answer
+    what-now : whats.Getcube dim found_now ≡ asks.what
+    what-now = same-what (whats.Getcube dim found_now) asks.what asks.answer
 
     reply-now : IsGrantReply home_of IsClean state user dim found_now reply
     reply-now = subst (λ what. IsReplyTo home_of IsClean before.parts state user HOST what reply) (sym what-now) asks.reply_is
 
     -- the command is done by the entry of this subcube
-    module _ (sub : Option Subcube) (what : GetcubeMade dim sub ≡ asks.what) where
+    module _ (sub : Option Subcube) (what : whats.Getcube dim sub ≡ asks.what) where
       abbrev made : Entry
-      made = by_host user (GetcubeMade dim sub)
+      made = by_host user (whats.Getcube dim sub)
 
       history-is : behind.history ≡ before.history ++ made ∷ []
       history-is = asks.history ∙ ap (λ what. before.history ++ by_host user what ∷ []) (sym what)
 
-      answer-is : what_of_request before.parts state user HOST (getcube dim) ≡ Some (GetcubeMade dim sub)
+      answer-is : what_of_request before.parts state user HOST (getcube dim) ≡ Some (whats.Getcube dim sub)
       answer-is = asks.answer ∙ ap Some (sym what)
 
       done-so : (answer : Answer) (seat : Seat) → getcube_reply sub ≡ answer → IsSeatAt before.parts behind.history user seat
@@ -74,24 +74,24 @@ module _ (before : MachineFacts) (user dim : ℕ) (has : HasUser before user) (f
         parts = asks.parts;
         history = history-is;
         lawful = asks.lawful;
-        next = asked serial before.parts before.history user (Getcube dim) (record { home = 0; index = 0 }) (getcube dim) (GetcubeMade dim sub) answer
+        next = asked serial before.parts before.history user (Getcube dim) (record { home = 0; index = 0 }) (getcube dim) (whats.Getcube dim sub) answer
             has.book.within has.book.lawful refl (record { fits = fits; answer = answer-is }) (ap Some is);
         seated = seated;
       }
 
     -- ---- none is free
 
-    none-by : (sub : Option Subcube) → GetcubeMade dim sub ≡ asks.what → IsGrantReply home_of IsClean state user dim sub reply → reply ≡ replies.NoneFree
-        → (host : Host) → IsHostAtHome user host → HasDone before behind user (Getcube dim) Nothing (Free host)
+    none-by : (sub : Option Subcube) → whats.Getcube dim sub ≡ asks.what → IsGrantReply home_of IsClean state user dim sub reply → reply ≡ replies.NoneFree
+        → (host : Host) → IsHostAtHome user host → HasDone before behind user (Getcube dim) answers.None (Free host)
     none-by None what is none host home =
-        done-so None what Nothing (Free host) refl (
-          ap (λ h. held_by (after h) user) (history-is None what)
-              ∙ ap (λ (state : MachineState). held_by state user) (after-more before.history (by_host user (GetcubeMade dim None))) ∙ free,
+        done-so None what answers.None (Free host) refl (
+          ap (λ h. cube_held_by (after h) user) (history-is None what)
+              ∙ ap (λ (state : MachineState). cube_held_by state user) (after-more before.history (by_host user (whats.Getcube dim None))) ∙ free,
           home,
         )
     none-by (Some sub) what is none host home = absurd (subst (IsGranted home_of IsClean (next_grant state user dim sub)) none is)
 
-    pub none-done : reply ≡ replies.NoneFree → (host : Host) → IsHostAtHome user host → HasDone before behind user (Getcube dim) Nothing (Free host)
+    pub none-done : reply ≡ replies.NoneFree → (host : Host) → IsHostAtHome user host → HasDone before behind user (Getcube dim) answers.None (Free host)
     none-done = none-by found_now what-now reply-now
 
     granted-ends : (grant : Grant) (reply : Reply Box) → IsGranted home_of IsClean grant reply
@@ -112,11 +112,11 @@ module _ (before : MachineFacts) (user dim : ℕ) (has : HasUser before user) (f
     -- the grant is the next one of this subcube, and these are its boxes
     record IsGrantedSo (grant : Grant) (boxes : List Box) : Type 0 where
       sub : Subcube
-      what : GetcubeMade dim (Some sub) ≡ asks.what
+      what : whats.Getcube dim (Some sub) ≡ asks.what
       grant_is : grant ≡ next_grant state user dim sub
       boxes_are : AreBoxesOf home_of IsClean grant boxes
 
-    granted-by : (sub : Option Subcube) → GetcubeMade dim sub ≡ asks.what → IsGrantReply home_of IsClean state user dim sub reply
+    granted-by : (sub : Option Subcube) → whats.Getcube dim sub ≡ asks.what → IsGrantReply home_of IsClean state user dim sub reply
         → (grant : Grant) (boxes : Vec Box) → reply ≡ replies.Granted grant boxes → IsGrantedSo grant boxes.items
     granted-by None what is grant boxes granted = let differ : replies.NoneFree ≡ replies.Granted grant boxes = sym is ∙ granted in absurd (cc)
     granted-by (Some sub) what is grant boxes granted =
@@ -147,7 +147,7 @@ module _ (before : MachineFacts) (user dim : ℕ) (has : HasUser before user) (f
       -- a crew that is in step wherever its cube has just begun is in step behind the entry
       pub granted-done : (crew : SerialCrew) → crew.grant ≡ grant
           → (IsHeldAs behind.history grant.number (cube_grant grant) → view behind.history grant.number ≡ [] → IsCrewInStep before.parts behind.history crew)
-          → HasDone before behind user (Getcube dim) (Granted grant.sub) (Holding crew)
+          → HasDone before behind user (Getcube dim) (answers.Granted grant.sub) (Holding crew)
       granted-done crew same in_step =
           let back = sym (history-is (Some so.sub) so.what) in
           let held : IsHeldAs behind.history grant.number (cube_grant grant) =
@@ -155,5 +155,5 @@ module _ (before : MachineFacts) (user dim : ℕ) (has : HasUser before user) (f
           (subst (λ h. IsHeldAs h state.grant_count (record { user = user; dim = dim; sub = so.sub })) back begun.held) in
           let trace : view behind.history grant.number ≡ [] =
           ap (λ (g : Grant). view behind.history g.number) so.grant_is ∙ ap (λ h. view h state.grant_count) (sym back) ∙ begun.trace in
-          done-so (Some so.sub) so.what (Granted grant.sub) (Holding crew) (ap (λ (g : Grant). Granted g.sub) (sym so.grant_is))
+          done-so (Some so.sub) so.what (answers.Granted grant.sub) (Holding crew) (ap (λ (g : Grant). answers.Granted g.sub) (sym so.grant_is))
           (ap (λ (g : Grant). g.user) same ∙ user-is, in_step held trace)

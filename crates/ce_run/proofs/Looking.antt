@@ -8,15 +8,15 @@ use Rattle.ce_model.specs.declared.topology.BlockId.{BlockId}
 use Rattle.ce_model.specs.declared.entry.Entry.{Entry}
 use Rattle.ce_model.specs.declared.entry.What.TheVariants.{Arm, Look, HostTake}
 use Rattle.ce_model.specs.declared.entry.LookResult.{LookResult}
-use Rattle.ce_model.specs.declared.entry.LookResult.TheVariants as found
+use Rattle.ce_model.specs.declared.entry.LookResult.TheVariants as look_result
 use Rattle.ce_model.specs.Limits.{greatest_count, greatest_blocks}
-use Rattle.ce_model.specs.Blocks.{Block, put, precedes, is_same_id}
+use Rattle.ce_model.specs.Blocks.{Block, put, is_lower, is_same_id}
 use Rattle.ce_model.specs.Parcels.{Item}
-use Rattle.ce_model.specs.Node.{arms, looks, takes_mail}
+use Rattle.ce_model.specs.Node.{arm_call, look_call, mail_call}
 use Rattle.ce_model.specs.Answers.{answer, is_quiet, is_used_up, found_where, first_number}
 use Rattle.ce_model.specs.Cube.{parcel_numbered}
 use Rattle.ce_model.specs.Renaming.{CubeGrant, block_outward}
-use Rattle.ce_model.specs.Machine.{HasHeldCube, after, nodes_of, standing_of}
+use Rattle.ce_model.specs.Machine.{HasHeldCube, after, nodes_of, cube_standing}
 use Rattle.ce_solo.proofs.Counting.{count-is}
 use Rattle.rk_node.proofs.Names.{not_contained}
 use Rattle.xm_block.specs.Stores.{ids_of, with_block}
@@ -31,7 +31,7 @@ use Rattle.ce_machine.specs.declared.call.Reply.{Reply}
 use Rattle.ce_machine.specs.declared.call.Reply.TheVariants as replies
 use Rattle.ce_machine.specs.Replies.{IsReplyTo, IsMail, found_reply}
 use Rattle.ce_cube.specs.declared.crew.SerialCrew.{SerialCrew}
-use Rattle.ce_cube.specs.Boxes.{IsHeldAs, IsAccepted, store_now}
+use Rattle.ce_cube.specs.Boxes.{IsHeldAs, IsAccepted, trace_store}
 use Rattle.ce_cube.specs.Crews.{IsLawfulMachine, IsHostInStep, IsCrewInStep, HasGoneOn, cube_grant}
 use Rattle.ce_cube.proofs.Hosts.{hosts-take}
 use Rattle.ce_script.specs.Commands.{by_host, host_take}
@@ -69,7 +69,7 @@ gone-on-with before behind crew crew' call reply machine held host called other 
 
 length-put : (id : BlockId) (ids : List BlockId) → length (put id ids) ≡ length ids + 1
 length-put id [] = refl
-length-put id (x ∷ xs) = elim (cases_Bool (precedes id x)) [
+length-put id (x ∷ xs) = elim (cases_Bool (is_lower id x)) [
   | inl t ↦ rw t (omega arith)
   | inr f ↦ rw f (let rest = length-put id xs in omega (arith, rest))
 ]
@@ -80,19 +80,19 @@ same-found : (a b : LookResult) → found_reply {N = Box} a ≡ found_reply b �
 same-found a b e = sym (back a) ∙ ap found_in e ∙ back b
   where
     found_in : Reply Box → LookResult
-    found_in replies.Quiet = found.Quiet
-    found_in replies.Spent = found.Spent
-    found_in other = found.Busy
+    found_in replies.Quiet = look_result.Quiet
+    found_in replies.Spent = look_result.Spent
+    found_in other = look_result.Busy
 
     back : (a : LookResult) → found_in (found_reply a) ≡ a
-    back found.Quiet = refl
-    back found.Spent = refl
-    back found.Busy = refl
+    back look_result.Quiet = refl
+    back look_result.Spent = refl
+    back look_result.Busy = refl
 
 one-found : (found : LookResult) (reply : Reply Box) → reply ≡ found_reply found → (reply ≡ replies.Quiet → ⊥) → (reply ≡ replies.Spent → ⊥) → (reply ≡ replies.Busy → ⊥) → ⊥
-one-found found.Quiet reply is quiet spent busy = quiet is
-one-found found.Spent reply is quiet spent busy = spent is
-one-found found.Busy reply is quiet spent busy = busy is
+one-found look_result.Quiet reply is quiet spent busy = quiet is
+one-found look_result.Spent reply is quiet spent busy = spent is
+one-found look_result.Busy reply is quiet spent busy = busy is
 
 mail-ends : (number : ℕ) (items : List Item) (reply : Reply Box) → IsMail number items reply → ((parcel : Brought) → reply ≡ replies.Mail parcel → ⊥) → ⊥
 mail-ends number items (replies.Mail parcel) is mail = mail parcel refl
@@ -106,7 +106,7 @@ module _ (before behind : MachineFacts) (crew crew' : SerialCrew) (machine : IsL
   unfolding answer
   allowed count within called =
       let host = may-allow before.parts before.history crew machine.within machine.lawful step.held count within in
-      let is : Arm count ≡ called.asked.what = answer-is before.parts (after before.history) crew.grant.user (arms count) called.asked.what step.held.cube step.held.held called.asked.answer in
+      let is : Arm count ≡ called.asked.what = answer-is before.parts (after before.history) crew.grant.user (arm_call count) called.asked.what step.held.cube step.held.held called.asked.answer in
       subst (λ what. HasGoneOn before behind crew crew' (by_host crew.grant.user what ∷ [])) (sym is)
       (gone-on-kept before behind crew crew' (calls.Arm count) reply machine step.held host called step.host (subst IsKeepingStore is tt))
 
@@ -115,12 +115,12 @@ module _ (before behind : MachineFacts) (crew crew' : SerialCrew) (machine : IsL
   module _ (called : HasCalled before behind crew crew' calls.Look reply) where
     abbrev found_now : LookResult
     found_now =
-        let standing = standing_of (after before.history) step.held.cube in
+        let standing = cube_standing (after before.history) step.held.cube in
         found_where (is_quiet (nodes_of step.held.cube.grant) standing) (is_used_up standing)
 
     look-is : Look found_now ≡ called.asked.what
     unfolding answer
-    look-is = answer-is before.parts (after before.history) crew.grant.user looks called.asked.what step.held.cube step.held.held called.asked.answer
+    look-is = answer-is before.parts (after before.history) crew.grant.user look_call called.asked.what step.held.cube step.held.held called.asked.answer
 
     pub look-reply : reply ≡ found_reply found_now
     look-reply =
@@ -152,7 +152,7 @@ module _ (before behind : MachineFacts) (crew crew' : SerialCrew) (machine : IsL
 
     take-is : HostTake (first_number items) ≡ called.asked.what
     unfolding answer
-    take-is = answer-is before.parts (after before.history) crew.grant.user takes_mail called.asked.what step.held.cube step.held.held called.asked.answer
+    take-is = answer-is before.parts (after before.history) crew.grant.user mail_call called.asked.what step.held.cube step.held.held called.asked.answer
 
     take-reply : IsReplyTo home_of IsClean before.parts (after before.history) crew.grant.user HOST (HostTake (first_number items)) reply
     take-reply = subst (λ what. IsReplyTo home_of IsClean before.parts (after before.history) crew.grant.user HOST what reply) (sym take-is) called.asked.reply_is
@@ -216,7 +216,7 @@ module _ (before behind : MachineFacts) (crew crew' : SerialCrew) (machine : IsL
       host-same : crew'.host ≡ crew.host
       host-same = ap (λ (c : SerialCrew). c.host) called.crew_is
 
-      names : ids_of crew'.host.store.blocks ≡ map outward (store_now before.parts before.history crew.grant.number (cube_grant crew.grant))
+      names : ids_of crew'.host.store.blocks ≡ map outward (trace_store before.parts before.history crew.grant.number (cube_grant crew.grant))
       names = ap (λ (host : Host). ids_of host.store.blocks) host-same ∙ step.host.blocks
 
       full : crew'.host.store.spare + length crew'.host.store.blocks ≡ greatest_blocks
@@ -230,7 +230,7 @@ module _ (before behind : MachineFacts) (crew crew' : SerialCrew) (machine : IsL
             accepted.room,
             ap (λ (ids : List BlockId). length ids) names,
             length-map crew'.host.store.blocks (λ (block : Block). block.id),
-            length-map (store_now before.parts before.history crew.grant.number (cube_grant crew.grant)) outward,
+            length-map (trace_store before.parts before.history crew.grant.number (cube_grant crew.grant)) outward,
           )
 
       pub accept-apart : Contains (ids_of crew'.host.store.blocks) parcel.block.id → ⊥
@@ -252,7 +252,7 @@ module _ (before behind : MachineFacts) (crew crew' : SerialCrew) (machine : IsL
         stands : IsHostInStep before.parts behind.history crew.grant other
         stands = record {
           blocks = ids ∙ ap (put parcel.block.id) names ∙ sym accepted.stored
-              ∙ ap (λ h. map outward (store_now before.parts h crew.grant.number grant)) (sym history-is);
+              ∙ ap (λ h. map outward (trace_store before.parts h crew.grant.number grant)) (sym history-is);
           room =
               omega (
                 arith,

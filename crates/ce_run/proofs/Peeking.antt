@@ -2,7 +2,7 @@
 use Rattle.std.proofs.Common.{◌≡◌, ℕ, [], ◌∷◌, ◌++◌, Some, refl, ap, sym, ◌∙◌, subst}
 use Rattle.ce_model.specs.declared.topology.TheConstants.{HOST}
 use Rattle.ce_model.specs.declared.entry.What.{What}
-use Rattle.ce_model.specs.declared.entry.What.TheVariants.{Peek as PeekMade}
+use Rattle.ce_model.specs.declared.entry.What.TheVariants as whats
 use Rattle.ce_model.specs.Machine.{after, peek}
 use Rattle.ce_daemon.specs.declared.grant.PeekResult.{PeekResult}
 use Rattle.ce_daemon.specs.Peeks.{peek_result}
@@ -14,7 +14,7 @@ use Rattle.ce_machine.specs.declared.call.Reply.TheVariants as replies
 use Rattle.ce_machine.specs.Requests.{IsFittingCall}
 use Rattle.ce_machine.specs.Replies.{IsReplyTo}
 use Rattle.ce_host.specs.declared.command.Command.TheVariants.{Peek}
-use Rattle.ce_host.specs.declared.answer.Answer.TheVariants.{Peeked as PeekFound}
+use Rattle.ce_host.specs.declared.answer.Answer.TheVariants as answers
 use Rattle.ce_script.specs.Rounds.{serial}
 use Rattle.ce_script.specs.Commands.{by_host}
 use Rattle.ce_record.proofs.Asked.{asked}
@@ -36,23 +36,23 @@ found-or none (replies.Peeked found) = found
 found-or none other = none
 
 module _ (before behind : MachineFacts) (user : ℕ) (has : HasUser before user) (reply : Reply Box) (asks : HasAsked before behind user calls.Peek reply) where
-  what-is : PeekMade ≡ asks.what
-  what-is = same-what PeekMade asks.what asks.answer
+  what-is : whats.Peek ≡ asks.what
+  what-is = same-what whats.Peek asks.what asks.answer
 
   pub peek-reply : reply ≡ replies.Peeked (peek_result before.parts (after before.history))
   peek-reply = subst (λ what. IsReplyTo home_of IsClean before.parts (after before.history) user HOST what reply) (sym what-is) asks.reply_is
 
   pub peek-done : (found : PeekResult) → reply ≡ replies.Peeked found → (seat : Seat) → IsSeatAt before.parts before.history user seat
-      → HasDone before behind user Peek (PeekFound found) seat
+      → HasDone before behind user Peek (answers.Peeked found) seat
   peek-done found is seat seated =
       let history = asks.history ∙ ap (λ what. before.history ++ by_host user what ∷ []) (sym what-is) in
       let same : peek_result before.parts (after before.history) ≡ found = ap (found-or found) (sym peek-reply ∙ is) in
       record {
-        made = by_host user PeekMade ∷ [];
+        made = by_host user whats.Peek ∷ [];
         parts = asks.parts;
         history = history;
         lawful = asks.lawful;
-        next = asked serial before.parts before.history user Peek (record { home = 0; index = 0 }) peek PeekMade (PeekFound found) has.book.within has.book.lawful refl
-            (record { fits = (has.within, refl); answer = refl }) (ap (λ found. Some (PeekFound found)) same);
+        next = asked serial before.parts before.history user Peek (record { home = 0; index = 0 }) peek whats.Peek (answers.Peeked found) has.book.within has.book.lawful refl
+            (record { fits = (has.within, refl); answer = refl }) (ap (λ found. Some (answers.Peeked found)) same);
         seated = subst (λ h. IsSeatAt before.parts h user seat) (sym history) (seat-beside-peek before behind user has.book has.within seat seated);
       }

@@ -3,7 +3,7 @@ use Rattle.std.proofs.Common.{◌≡◌, ℕ, ◌^◌, ◌<◌, true, false, Lis
 use Rattle.std.specs.Global.{Vec}
 use Rattle.ce_model.specs.declared.topology.TheConstants.{HOST}
 use Rattle.ce_model.specs.declared.topology.BlockId.{BlockId}
-use Rattle.ce_model.specs.declared.entry.What.TheVariants.{Drain, Freecube as FreecubeMade}
+use Rattle.ce_model.specs.declared.entry.What.TheVariants as whats
 use Rattle.ce_model.specs.Limits.{greatest_dim}
 use Rattle.ce_model.specs.Blocks.{Block}
 use Rattle.ce_model.specs.Parcels.{Parcel}
@@ -12,7 +12,7 @@ use Rattle.ce_model.specs.Saying.{says}
 use Rattle.ce_model.specs.Cube.{node_numbers}
 use Rattle.ce_model.specs.Subcubes.{IsSubcube, node_of}
 use Rattle.ce_model.specs.Renaming.{CubeGrant, block_outward}
-use Rattle.ce_model.specs.Machine.{MachineState, IsMachine, IsLawful, HeldCube, after, held_by, all_parcels, IsFitting, freecube}
+use Rattle.ce_model.specs.Machine.{MachineState, IsMachine, IsLawful, HeldCube, after, cube_held_by, all_parcels, IsFitting, freecube}
 use Rattle.ce_solo.proofs.Projection.Law.{after-more}
 use Rattle.ce_solo.proofs.Projection.Held.{held-own, left-own}
 use Rattle.ce_daemon.specs.Boxes.{AreBoxesOf}
@@ -29,7 +29,7 @@ use Rattle.ce_machine.specs.declared.call.Reply.TheVariants as replies
 use Rattle.ce_machine.specs.Requests.{IsFittingCall}
 use Rattle.ce_machine.specs.Replies.{IsReplyTo, OfHeldCube, IsDrained}
 use Rattle.ce_cube.specs.declared.crew.SerialCrew.{SerialCrew}
-use Rattle.ce_cube.specs.Boxes.{node_now, store_now}
+use Rattle.ce_cube.specs.Boxes.{trace_node, trace_store}
 use Rattle.ce_cube.specs.Crews.{IsLawfulMachine, IsCrewInStep, HasAllBlocks, AreAllHome, cube_grant, box_at}
 use Rattle.ce_cube.specs.Rehoming.{AreAllBlocks, names_in}
 use Rattle.ce_cube.proofs.Held.{by_seen, placed-of}
@@ -53,8 +53,8 @@ module _ (before : MachineFacts) (user : ℕ) (has : HasUser before user) (holds
   drain-fits = record { machine = has.book.within; fits = (has.within, (refl, holds)); boxes = tt }
 
   module _ (behind : MachineFacts) (reply : Reply Box) (asks : HasAsked before behind user calls.Drain reply) where
-    drain-is : Drain ≡ asks.what
-    drain-is = same-what Drain asks.what asks.answer
+    drain-is : whats.Drain ≡ asks.what
+    drain-is = same-what whats.Drain asks.what asks.answer
 
     drain-reply : OfHeldCube (after before.history) user (λ cube. IsDrained (all_parcels (after before.history) cube) reply)
     drain-reply = subst (λ what. IsReplyTo home_of IsClean before.parts (after before.history) user HOST what reply) (sym drain-is) asks.reply_is
@@ -77,7 +77,7 @@ module _ (before : MachineFacts) (user : ℕ) (has : HasUser before user) (holds
     ends-by (Some cube) is other = drained-by (all_parcels (after before.history) cube) reply is other
 
     pub drain-ends : ((blocks : Vec Block) → reply ≡ replies.Drained blocks → ⊥) → ⊥
-    drain-ends = ends-by (held_by (after before.history) user) drain-reply
+    drain-ends = ends-by (cube_held_by (after before.history) user) drain-reply
 
 -- ---- all blocks are there
 
@@ -90,15 +90,15 @@ module _ (before : MachineFacts) (crew : SerialCrew) (has : HasUser before crew.
   grant = cube_grant crew.grant
 
   pub has-cube : HasCube before.history crew.grant.user
-  has-cube = subst (λ held. IsSomeAnd held (λ cube. cube.drained ≡ false)) (sym step.held.held) step.held.goes_on
+  has-cube = subst (λ held. IsSomeAnd held (λ cube. cube.is_drained ≡ false)) (sym step.held.held) step.held.goes_on
 
   sub-of : IsSubcube greatest_dim grant.dim grant.sub
   sub-of =
       placed-sub before.parts.dim grant (placed-of before.parts before.history crew.grant.number grant has.book.within has.book.lawful step.held)
 
-  said-home : (r : ℕ) → r < 2 ^ grant.dim → (says (node_now before.parts before.history crew.grant.number grant r)).node.home ≡ r
+  said-home : (r : ℕ) → r < 2 ^ grant.dim → (says (trace_node before.parts before.history crew.grant.number grant r)).node.home ≡ r
   said-home r below =
-      by_seen (λ number grant. r < 2 ^ grant.dim → (says (node_now before.parts before.history number grant r)).node.home ≡ r)
+      by_seen (λ number grant. r < 2 ^ grant.dim → (says (trace_node before.parts before.history number grant r)).node.home ≡ r)
       before.parts before.history crew.grant.number grant has.book.within has.book.lawful
       (λ cube now below. (node-said before.parts before.history cube now r below).became.home ∙ (now.stands.sound.nodes r below).home) step.held below
 
@@ -110,11 +110,11 @@ module _ (before : MachineFacts) (crew : SerialCrew) (has : HasUser before crew.
     drained-is = subst (λ held. IsSomeAnd held (λ cube. drained ≡ map (λ parcel. parcel.block) (all_parcels (after before.history) cube))) step.held.held is.blocks_are
 
     whole : AreAllBlocks grant (names_in grant (λ r. (box_at crew.nodes.items r).node) waiting
-        (map (block_outward grant) (store_now before.parts before.history crew.grant.number grant)))
+        (map (block_outward grant) (trace_store before.parts before.history crew.grant.number grant)))
     whole =
         subst
         (λ held. IsSomeAnd held (λ cube. AreAllBlocks grant (names_in grant (λ r. (box_at crew.nodes.items r).node) (all_parcels (after before.history) cube)
-        (map (block_outward grant) (store_now before.parts before.history crew.grant.number grant))))) step.held.held
+        (map (block_outward grant) (trace_store before.parts before.history crew.grant.number grant))))) step.held.held
         (blocks-are-whole before.parts before.history crew.grant.number grant has.book.within has.book.lawful step.held
         (λ r. (box_at crew.nodes.items r).node) step.boxes.in_step)
 
@@ -137,11 +137,11 @@ module _ (before : MachineFacts) (crew : SerialCrew) (has : HasUser before crew.
 
     -- ---- and it is given back
 
-    drained-held : held_by (after behind.history) crew.grant.user ≡ Some (record step.held.cube { drained = true; mail = [] })
+    drained-held : cube_held_by (after behind.history) crew.grant.user ≡ Some (record step.held.cube { is_drained = true; mail = [] })
     drained-held =
-        ap (λ h. held_by (after h) crew.grant.user) is.history
-        ∙ ap (λ (state : MachineState). held_by state crew.grant.user) (after-more before.history (by_host crew.grant.user Drain))
-        ∙ held-own crew.grant.user (λ one. record one { drained = true; mail = [] }) (λ one. refl) (λ one node kept. record kept { waiting = [] })
+        ap (λ h. cube_held_by (after h) crew.grant.user) is.history
+        ∙ ap (λ (state : MachineState). cube_held_by state crew.grant.user) (after-more before.history (by_host crew.grant.user whats.Drain))
+        ∙ held-own crew.grant.user (λ one. record one { is_drained = true; mail = [] }) (λ one. refl) (λ one node kept. record kept { waiting_items = [] })
         (after before.history) step.held.cube step.held.held
 
     free-fits : IsFitting before.parts behind.history crew.grant.user HOST freecube
@@ -168,27 +168,27 @@ module _ (before : MachineFacts) (crew : SerialCrew) (has : HasUser before crew.
       }
 
       module _ (end : MachineFacts) (reply : Reply Box) (asks : HasAsked behind end crew.grant.user (calls.Freecube boxes) reply) where
-        free-is : FreecubeMade ≡ asks.what
-        free-is = same-what FreecubeMade asks.what asks.answer
+        free-is : whats.Freecube ≡ asks.what
+        free-is = same-what whats.Freecube asks.what asks.answer
 
         pub free-reply : reply ≡ replies.Freed
         free-reply = subst (λ what. IsReplyTo home_of IsClean behind.parts (after behind.history) crew.grant.user HOST what reply) (sym free-is) asks.reply_is
 
-        last-is : end.history ≡ behind.history ++ by_host crew.grant.user FreecubeMade ∷ []
+        last-is : end.history ≡ behind.history ++ by_host crew.grant.user whats.Freecube ∷ []
         last-is = asks.history ∙ ap (λ what. behind.history ++ by_host crew.grant.user what ∷ []) (sym free-is)
 
         both-are : end.history ≡ before.history ++ freecube_entries crew.grant.user
         both-are =
-            last-is ∙ ap (λ h. h ++ by_host crew.grant.user FreecubeMade ∷ []) is.history
-            ∙ append_assoc before.history (by_host crew.grant.user Drain ∷ []) (by_host crew.grant.user FreecubeMade ∷ [])
+            last-is ∙ ap (λ h. h ++ by_host crew.grant.user whats.Freecube ∷ []) is.history
+            ∙ append_assoc before.history (by_host crew.grant.user whats.Drain ∷ []) (by_host crew.grant.user whats.Freecube ∷ [])
 
         lawful-end : IsLawful before.parts end.history
         lawful-end = subst (λ parts. IsLawful parts end.history) is.parts asks.lawful
 
-        none-left : held_by (after end.history) crew.grant.user ≡ None
+        none-left : cube_held_by (after end.history) crew.grant.user ≡ None
         none-left =
-            ap (λ h. held_by (after h) crew.grant.user) last-is
-            ∙ ap (λ (state : MachineState). held_by state crew.grant.user) (after-more behind.history (by_host crew.grant.user FreecubeMade))
+            ap (λ h. cube_held_by (after h) crew.grant.user) last-is
+            ∙ ap (λ (state : MachineState). cube_held_by state crew.grant.user) (after-more behind.history (by_host crew.grant.user whats.Freecube))
             ∙ left-own crew.grant.user (after behind.history)
 
         pub freed-done : HasDone before end crew.grant.user Freecube Freed (Free host)

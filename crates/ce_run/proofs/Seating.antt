@@ -5,15 +5,15 @@ use Rattle.ce_model.specs.declared.topology.Place.{Place}
 use Rattle.ce_model.specs.declared.topology.BlockId.{BlockId}
 use Rattle.ce_model.specs.declared.entry.Entry.{Entry}
 use Rattle.ce_model.specs.declared.entry.What.{What}
-use Rattle.ce_model.specs.declared.entry.What.TheVariants.{Peek as PeekMade, HostTake, Send, Spawn as SpawnMade, Kill as KillMade}
-use Rattle.ce_model.specs.Node.{Call, spawns, kills, arms, looks, takes_mail}
+use Rattle.ce_model.specs.declared.entry.What.TheVariants as whats
+use Rattle.ce_model.specs.Node.{Call, spawn_call, kill_call, arm_call, look_call, mail_call}
 use Rattle.ce_model.specs.Parcels.{Item}
 use Rattle.ce_model.specs.Trace.{Standing, waiting_items}
-use Rattle.ce_model.specs.Answers.{answer, call_of}
-use Rattle.ce_model.specs.Cube.{opening, state, stored_by, hoststore}
-use Rattle.ce_model.specs.Renaming.{CubeGrant, block_outward, what_renamed, entry_inward}
+use Rattle.ce_model.specs.Answers.{answer, recorded_call}
+use Rattle.ce_model.specs.Cube.{opening, state, store_after, hoststore}
+use Rattle.ce_model.specs.Renaming.{CubeGrant, block_outward, renamed_what, entry_inward}
 use Rattle.ce_model.specs.Views.{view}
-use Rattle.ce_model.specs.Machine.{MachineParts, IsMachine, IsLawful, IsLawfulEntry, HeldCube, MachineState, after, held_by, nodes_of, standing_of, with_places_outward, peek, in_cube, what_of_request, cube_of}
+use Rattle.ce_model.specs.Machine.{MachineParts, IsMachine, IsLawful, IsLawfulEntry, HeldCube, MachineState, after, cube_held_by, nodes_of, cube_standing, with_places_outward, peek, in_cube, what_of_request, cube_of}
 use Rattle.ce_model.proofs.AloneByEntries.{call_of-answer}
 use Rattle.ce_model.proofs.OneMore.{hoststore-more}
 use Rattle.ce_solo.proofs.Projection.Law.{after-more}
@@ -22,21 +22,21 @@ use Rattle.ce_machine.specs.Meanings.{MachineFacts}
 use Rattle.ce_machine.specs.declared.call.Call.{Call as Asking}
 use Rattle.ce_machine.specs.declared.call.Reply.{Reply}
 use Rattle.ce_machine.specs.declared.call.Reply.TheVariants as replies
-use Rattle.ce_machine.specs.Replies.{IsHeard, OfHeldCube, items_for, IsReplyTo}
+use Rattle.ce_machine.specs.Replies.{IsHeard, OfHeldCube, actor_items, IsReplyTo}
 use Rattle.rk_node.specs.Boxes.{IsClean}
 use Rattle.rk_mail.specs.declared.talk.Hearing.{Hearing}
-use Rattle.rk_mail.specs.declared.talk.Hearing.TheVariants.{Spawned, Used as HeardUsed}
+use Rattle.rk_mail.specs.declared.talk.Hearing.TheVariants as hearing
 use Rattle.rk_mail.specs.Talk.{IsHeardIn, heard_of_kill}
 use Rattle.ce_model.specs.declared.entry.KillFound.{KillFound}
-use Rattle.ce_model.specs.declared.entry.KillFound.TheVariants as found
+use Rattle.ce_model.specs.declared.entry.KillFound.TheVariants as kill_found
 use Rattle.ce_host.specs.declared.command.Command.{Command}
 use Rattle.ce_host.specs.declared.answer.Answer.{Answer}
 use Rattle.ce_cube.specs.declared.crew.SerialCrew.{SerialCrew}
-use Rattle.ce_cube.specs.Boxes.{IsHeldAs, IsInStep, store_now}
+use Rattle.ce_cube.specs.Boxes.{IsHeldAs, IsInStep, trace_store}
 use Rattle.ce_cube.specs.Crews.{IsLawfulMachine, IsHostInStep, IsCrewInStep, HasGoneOn, cube_grant, box_at}
 use Rattle.ce_cube.proofs.Adds.{others-keep}
 use Rattle.ce_script.specs.Rounds.{serial}
-use Rattle.ce_host.specs.declared.answer.Answer.TheVariants.{Ok as Done, Used, NoPlace}
+use Rattle.ce_host.specs.declared.answer.Answer.TheVariants as answers
 use Rattle.std.specs.Prelude.{Result, Ok, Err, IfOk}
 use Rattle.std.proofs.lemmas.Bool.{lt-ltb}
 use Rattle.ce_model.specs.Limits.{greatest_count}
@@ -59,7 +59,7 @@ use Rattle.ce_run.specs.Asking.{home_of, IsHostCall, IsStartOrEnd, AreNodesInSte
 -- ---- what stays
 
 -- a crew stays in step where its user holds the same, with the same trace
-pub crew-keeps : (parts : MachineParts) (h h' : List Entry) (crew : SerialCrew) → held_by (after h') crew.grant.user ≡ held_by (after h) crew.grant.user
+pub crew-keeps : (parts : MachineParts) (h h' : List Entry) (crew : SerialCrew) → cube_held_by (after h') crew.grant.user ≡ cube_held_by (after h) crew.grant.user
     → view h' crew.grant.number ≡ view h crew.grant.number → IsCrewInStep parts h crew → IsCrewInStep parts h' crew
 crew-keeps parts h h' crew same trace step =
     let grant = cube_grant crew.grant in
@@ -101,20 +101,20 @@ done-at-once before user command answer seat machine next seated = record {
 
 module _ (before behind : MachineFacts) (user : ℕ) (machine : IsLawfulMachine before) (within : user < before.parts.users) where
   peeking : Entry
-  peeking = by_host user PeekMade
+  peeking = by_host user whats.Peek
 
-  peek-lawful : IsLawfulEntry before.parts before.history (by_host user PeekMade)
+  peek-lawful : IsLawfulEntry before.parts before.history (by_host user whats.Peek)
   peek-lawful = record { request = peek; fits = (within, refl); answer = refl }
 
-  pub seat-beside-peek : (seat : Seat) → IsSeatAt before.parts before.history user seat → IsSeatAt before.parts (before.history ++ by_host user PeekMade ∷ []) user seat
+  pub seat-beside-peek : (seat : Seat) → IsSeatAt before.parts before.history user seat → IsSeatAt before.parts (before.history ++ by_host user whats.Peek ∷ []) user seat
   seat-beside-peek (Free host) seated =
-      (ap (λ state. held_by state user) (after-more before.history (by_host user PeekMade)) ∙ seated.0, seated.1)
+      (ap (λ state. cube_held_by state user) (after-more before.history (by_host user whats.Peek)) ∙ seated.0, seated.1)
   seat-beside-peek (Holding crew) seated =
-      let aside = others-keep before.parts before.history crew.grant.number (cube_grant crew.grant) machine.within machine.lawful seated.1.held (by_host user PeekMade)
+      let aside = others-keep before.parts before.history crew.grant.number (cube_grant crew.grant) machine.within machine.lawful seated.1.held (by_host user whats.Peek)
       peek-lawful (inr refl) in (
         seated.0,
-        crew-keeps before.parts before.history (before.history ++ by_host user PeekMade ∷ []) crew
-            (ap (λ state. held_by state crew.grant.user) (after-more before.history (by_host user PeekMade))) aside.trace seated.1,
+        crew-keeps before.parts before.history (before.history ++ by_host user whats.Peek ∷ []) crew
+            (ap (λ state. cube_held_by state crew.grant.user) (after-more before.history (by_host user whats.Peek))) aside.trace seated.1,
       )
 
 -- ---- calls of a cube
@@ -123,28 +123,28 @@ some-same : {X : Type 0} (a b : X) → Some a ≡ Some b → a ≡ b
 some-same a b e = cc
 
 -- what a call of a cube that is held is answered
-pub answer-is : (parts : MachineParts) (state : MachineState) (user : ℕ) (call : Call) (what : What) (cube : HeldCube) → held_by state user ≡ Some cube
+pub answer-is : (parts : MachineParts) (state : MachineState) (user : ℕ) (call : Call) (what : What) (cube : HeldCube) → cube_held_by state user ≡ Some cube
     → what_of_request parts state user HOST (in_cube call) ≡ Some what
-    → answer (nodes_of cube.grant) (standing_of state cube) HOST (with_places_outward cube.grant call) ≡ what
+    → answer (nodes_of cube.grant) (cube_standing state cube) HOST (with_places_outward cube.grant call) ≡ what
 answer-is parts state user call what cube held e =
-    some-same _ _ (sym (ap (option_map (λ (cube : HeldCube). answer (nodes_of cube.grant) (standing_of state cube) HOST (with_places_outward cube.grant call))) held) ∙ e)
+    some-same _ _ (sym (ap (option_map (λ (cube : HeldCube). answer (nodes_of cube.grant) (cube_standing state cube) HOST (with_places_outward cube.grant call))) held) ∙ e)
 
-pub answers-call : (nodes : List ℕ) (standing : Standing) (actor : ℕ) (call : Call) → is_some (call_of (answer nodes standing actor call)) ≡ true
+pub answers-call : (nodes : List ℕ) (standing : Standing) (actor : ℕ) (call : Call) → is_some (recorded_call (answer nodes standing actor call)) ≡ true
 answers-call nodes standing actor call = ap is_some (call_of-answer nodes standing actor call)
 
 -- the entry leaves the host's store
 abbrev pub IsKeepingStore : What → Type 0
-IsKeepingStore (Send pid first to bytes) = ⊥
-IsKeepingStore (HostTake (Some number)) = ⊥
+IsKeepingStore (whats.Send pid first to bytes) = ⊥
+IsKeepingStore (whats.HostTake (Some number)) = ⊥
 IsKeepingStore other = Unit {0}
 
 kept-store : (place : Place → Place) (block : BlockId → BlockId) (items : List Item) (store : List BlockId) (what : What) → IsKeepingStore what
-    → stored_by items store (what_renamed place block what) ≡ store
-kept-store place block items store (Send pid first to bytes) keeps = absurd keeps
-kept-store place block items store (SpawnMade pid image to fresh) keeps = refl
-kept-store place block items store (KillMade pid to found) keeps = refl
-kept-store place block items store (HostTake None) keeps = refl
-kept-store place block items store (HostTake (Some number)) keeps = absurd keeps
+    → store_after items store (renamed_what place block what) ≡ store
+kept-store place block items store (whats.Send pid first to bytes) keeps = absurd keeps
+kept-store place block items store (whats.Spawn pid image to fresh) keeps = refl
+kept-store place block items store (whats.Kill pid to found) keeps = refl
+kept-store place block items store (whats.HostTake None) keeps = refl
+kept-store place block items store (whats.HostTake (Some number)) keeps = absurd keeps
 kept-store place block items store other keeps = refl
 
 either-store : (b : Bool) (store store' : List BlockId) → store' ≡ store → (if b then store' else store) ≡ store
@@ -160,17 +160,17 @@ module _ (before behind : MachineFacts) (crew crew' : SerialCrew) (call : Asking
   pub asked-inner : what_of_request before.parts (after before.history) crew.grant.user HOST (in_cube host.inner) ≡ Some called.asked.what
   asked-inner = ap (what_of_request before.parts (after before.history) crew.grant.user HOST) (sym host.is) ∙ called.asked.answer
 
-  pub what-is : answer (nodes_of held.cube.grant) (standing_of (after before.history) held.cube) HOST (with_places_outward held.cube.grant host.inner) ≡ called.asked.what
+  pub what-is : answer (nodes_of held.cube.grant) (cube_standing (after before.history) held.cube) HOST (with_places_outward held.cube.grant host.inner) ≡ called.asked.what
   what-is = answer-is before.parts (after before.history) crew.grant.user host.inner called.asked.what held.cube held.held asked-inner
 
   store-kept : IsKeepingStore called.asked.what
-      → store_now before.parts behind.history crew.grant.number grant ≡ store_now before.parts before.history crew.grant.number grant
+      → trace_store before.parts behind.history crew.grant.number grant ≡ trace_store before.parts before.history crew.grant.number grant
   store-kept keeps =
       let o = opening (cube_of before.parts.images grant) in
       let t = view before.history crew.grant.number in
       let made = entry_inward crew.grant.sub (by_host crew.grant.user called.asked.what) in
       ap (hoststore o) called.trace ∙ hoststore-more o t made
-      ∙ either-store (made.actor == HOST) (hoststore o t) (stored_by (waiting_items o.standing HOST t) (hoststore o t) made.what)
+      ∙ either-store (made.actor == HOST) (hoststore o t) (store_after (waiting_items o.standing HOST t) (hoststore o t) made.what)
       (kept-store _ _ (waiting_items o.standing HOST t) (hoststore o t) called.asked.what keeps)
 
   pub gone-on : IsHostInStep before.parts behind.history crew.grant crew'.host → HasGoneOn before behind crew crew' (by_host crew.grant.user called.asked.what ∷ [])
@@ -181,7 +181,7 @@ module _ (before behind : MachineFacts) (crew crew' : SerialCrew) (call : Asking
         parts = called.asked.parts;
         history = called.asked.history;
         lawful = subst (λ parts. IsLawful parts behind.history) to_parts called.asked.lawful;
-        calls = ((refl, ap (λ what. is_some (call_of what)) (sym what-is) ∙ answers-call _ _ HOST (with_places_outward held.cube.grant host.inner)), tt);
+        calls = ((refl, ap (λ what. is_some (recorded_call what)) (sym what-is) ∙ answers-call _ _ HOST (with_places_outward held.cube.grant host.inner)), tt);
         grant = grant_is;
         trace = called.trace;
         in_step = subst (λ parts. IsCrewInStep parts behind.history crew') to_parts (record {
@@ -218,19 +218,19 @@ done-by before behind crew crew' made command answer goes next = record {
 
 -- an entry by which a process is started or ended
 abbrev pub IsToldOf : What → Type 0
-IsToldOf (SpawnMade pid image to fresh) = Unit {0}
-IsToldOf (KillMade pid to found) = Unit {0}
+IsToldOf (whats.Spawn pid image to fresh) = Unit {0}
+IsToldOf (whats.Kill pid to found) = Unit {0}
 IsToldOf other = ⊥
 
 told-answer : (nodes : List ℕ) (standing : Standing) (own : CubeGrant) (call : Call) → IsStartOrEnd call → IsToldOf (answer nodes standing HOST (with_places_outward own call))
 unfolding answer
-told-answer nodes standing own (spawns pid image to) is = tt
-told-answer nodes standing own (kills pid to) is = tt
+told-answer nodes standing own (spawn_call pid image to) is = tt
+told-answer nodes standing own (kill_call pid to) is = tt
 told-answer nodes standing own other is = absurd is
 
 told-keeps : (what : What) → IsToldOf what → IsKeepingStore what
-told-keeps (SpawnMade pid image to fresh) is = tt
-told-keeps (KillMade pid to found) is = tt
+told-keeps (whats.Spawn pid image to fresh) is = tt
+told-keeps (whats.Kill pid to found) is = tt
 told-keeps other is = absurd is
 
 -- the reply to such an entry is what was heard
@@ -242,38 +242,38 @@ heard-parts items what (replies.Heard heard) is = (heard, refl, is)
 heard-parts items what other is = absurd is
 
 told-reply : (parts : MachineParts) (state : MachineState) (user actor : ℕ) (what : What) (reply : Reply Box) → IsToldOf what → IsReplyTo home_of IsClean parts state user actor what reply
-    → OfHeldCube state user (λ cube. IsHeard (items_for state cube actor) what reply)
-told-reply parts state user actor (SpawnMade pid image to fresh) reply of is = is
-told-reply parts state user actor (KillMade pid to found) reply of is = is
+    → OfHeldCube state user (λ cube. IsHeard (actor_items state cube actor) what reply)
+told-reply parts state user actor (whats.Spawn pid image to fresh) reply of is = is
+told-reply parts state user actor (whats.Kill pid to found) reply of is = is
 told-reply parts state user actor other reply of is = absurd of
 
-spawned-some : (fresh : Bool) (heard : Hearing) → heard ≡ (if fresh then Spawned else HeardUsed) → IsTrue (is_some (heard_reply heard))
+spawned-some : (fresh : Bool) (heard : Hearing) → heard ≡ (if fresh then hearing.Spawned else hearing.Used) → IsTrue (is_some (heard_reply heard))
 spawned-some true heard e = ap (λ h. is_some (heard_reply h)) e
 spawned-some false heard e = ap (λ h. is_some (heard_reply h)) e
 
 killed-some : (found : KillFound) (heard : Hearing) → heard ≡ heard_of_kill found → IsTrue (is_some (heard_reply heard))
-killed-some found.Killed heard e = ap (λ h. is_some (heard_reply h)) e
-killed-some found.Unused heard e = ap (λ h. is_some (heard_reply h)) e
-killed-some found.Already heard e = ap (λ h. is_some (heard_reply h)) e
+killed-some kill_found.Killed heard e = ap (λ h. is_some (heard_reply h)) e
+killed-some kill_found.Unused heard e = ap (λ h. is_some (heard_reply h)) e
+killed-some kill_found.Already heard e = ap (λ h. is_some (heard_reply h)) e
 
 pub told-some : (items : List Item) (what : What) (heard : Hearing) → IsToldOf what → IsHeardIn items what heard → IsTrue (is_some (heard_reply heard))
-told-some items (SpawnMade pid image to fresh) heard of is = spawned-some fresh heard is
-told-some items (KillMade pid to found) heard of is = killed-some found heard is
+told-some items (whats.Spawn pid image to fresh) heard of is = spawned-some fresh heard is
+told-some items (whats.Kill pid to found) heard of is = killed-some found heard is
 told-some items other heard of is = absurd of
 
-spawned-reply : (fresh : Bool) (heard : Hearing) → heard ≡ (if fresh then Spawned else HeardUsed) → Some (if fresh then Done else Used) ≡ heard_reply heard
+spawned-reply : (fresh : Bool) (heard : Hearing) → heard ≡ (if fresh then hearing.Spawned else hearing.Used) → Some (if fresh then answers.Ok else answers.Used) ≡ heard_reply heard
 spawned-reply true heard e = ap heard_reply (sym e)
 spawned-reply false heard e = ap heard_reply (sym e)
 
 killed-reply : (found : KillFound) (heard : Hearing) → heard ≡ heard_of_kill found → Some (kill_reply found) ≡ heard_reply heard
-killed-reply found.Killed heard e = ap heard_reply (sym e)
-killed-reply found.Unused heard e = ap heard_reply (sym e)
-killed-reply found.Already heard e = ap heard_reply (sym e)
+killed-reply kill_found.Killed heard e = ap heard_reply (sym e)
+killed-reply kill_found.Unused heard e = ap heard_reply (sym e)
+killed-reply kill_found.Already heard e = ap heard_reply (sym e)
 
 told-replies : (parts : MachineParts) (state : MachineState) (items : List Item) (what : What) (heard : Hearing) → IsToldOf what → IsHeardIn items what heard
     → reply_by parts state what ≡ heard_reply heard
-told-replies parts state items (SpawnMade pid image to fresh) heard of is = spawned-reply fresh heard is
-told-replies parts state items (KillMade pid to found) heard of is = killed-reply found heard is
+told-replies parts state items (whats.Spawn pid image to fresh) heard of is = spawned-reply fresh heard is
+told-replies parts state items (whats.Kill pid to found) heard of is = killed-reply found heard is
 told-replies parts state items other heard of is = absurd of
 
 module _ (before behind : MachineFacts) (crew crew' : SerialCrew) (call : Asking Box) (reply : Reply Box) (machine : IsLawfulMachine before)
@@ -285,12 +285,12 @@ module _ (before behind : MachineFacts) (crew crew' : SerialCrew) (call : Asking
       (told-answer _ _ step.held.cube.grant host.inner of)
 
   abbrev items : List Item
-  items = items_for (after before.history) step.held.cube HOST
+  items = actor_items (after before.history) step.held.cube HOST
 
   pub heard-told : IsStartOrEnd host.inner → HasHeard items called.asked.what reply
   heard-told of =
       heard-parts items called.asked.what reply
-      (subst (λ held. IsSomeAnd held (λ cube. IsHeard (items_for (after before.history) cube HOST) called.asked.what reply)) step.held.held
+      (subst (λ held. IsSomeAnd held (λ cube. IsHeard (actor_items (after before.history) cube HOST) called.asked.what reply)) step.held.held
       (told-reply before.parts (after before.history) crew.grant.user HOST called.asked.what reply (what-told of) called.asked.reply_is))
 
   pub told-done : (heard : Hearing) (answer : Answer) → IsStartOrEnd host.inner → IsHeardIn items called.asked.what heard → heard_reply heard ≡ Some answer
@@ -314,14 +314,14 @@ module _ (before behind : MachineFacts) (crew crew' : SerialCrew) (call : Asking
     (step : IsCrewInStep before.parts before.history crew)
     (host : IsHostCall before.parts before.history crew.grant.user call) (called : HasCalled before behind crew crew' call reply) where
   pub heard-as : (heard : Hearing) → reply ≡ replies.Heard heard → IsStartOrEnd host.inner
-      → IsHeardIn (items_for (after before.history) step.held.cube HOST) called.asked.what heard
+      → IsHeardIn (actor_items (after before.history) step.held.cube HOST) called.asked.what heard
   heard-as heard is of =
       let told = heard-told before behind crew crew' call reply machine step host called of in
-      subst (IsHeardIn (items_for (after before.history) step.held.cube HOST) called.asked.what) (ap (heard-or heard) (sym told.1 ∙ is)) told.2
+      subst (IsHeardIn (actor_items (after before.history) step.held.cube HOST) called.asked.what) (ap (heard-or heard) (sym told.1 ∙ is)) told.2
 
   pub reply-some : (heard : Hearing) → reply ≡ replies.Heard heard → IsStartOrEnd host.inner → IsTrue (is_some (heard_reply heard))
   reply-some heard is of =
-      told-some (items_for (after before.history) step.held.cube HOST) called.asked.what heard
+      told-some (actor_items (after before.history) step.held.cube HOST) called.asked.what heard
       (what-told before behind crew crew' call reply machine step host called of) (heard-as heard is of)
 
 pub if-ok : {A E : Type 0} (r : Result A E) (P Q : A → Type 0) → ((a : A) → P a → Q a) → IfOk r P → IfOk r Q
@@ -332,9 +332,9 @@ if-ok (Err e) P Q f p = tt
 
 pub no-place-done : (before : MachineFacts) (crew : SerialCrew) (machine : IsLawfulMachine before) (step : IsCrewInStep before.parts before.history crew)
     (command : Command) (to : Place) → place_in command ≡ Some to → is_place crew.grant.dim to ≡ false
-    → HasDone before before crew.grant.user command NoPlace (Holding crew)
+    → HasDone before before crew.grant.user command answers.NoPlace (Holding crew)
 no-place-done before crew machine step command to names place =
-    done-at-once before crew.grant.user command NoPlace (Holding crew) machine
+    done-at-once before crew.grant.user command answers.NoPlace (Holding crew) machine
     (no_place serial before.parts before.history crew.grant.user step.held.cube step.held.held command to names
     (ap (λ (g : CubeGrant). is_place g.dim to) step.held.grant_is ∙ place))
     (refl, step)
@@ -346,35 +346,35 @@ module _ (parts : MachineParts) (history : List Entry) (crew : SerialCrew) (mach
   may-start image to place below =
       let listed : nat_lt image (length parts.images) ≡ true = lt-ltb image (length parts.images) below in
       record {
-        inner = spawns 0 image to;
+        inner = spawn_call 0 image to;
         is = refl;
-        fits = hosts-fit parts history crew.grant.number (cube_grant crew.grant) machine lawful held (start_image image to) (spawns 0 image to) (rw (place, listed) refl) tt;
+        fits = hosts-fit parts history crew.grant.number (cube_grant crew.grant) machine lawful held (start_image image to) (spawn_call 0 image to) (rw (place, listed) refl) tt;
       }
 
   pub may-end : (to : Place) → is_place crew.grant.dim to ≡ true → IsHostCall parts history crew.grant.user (calls.Say (say.Kill 0 to))
   may-end to place = record {
-    inner = kills 0 to;
+    inner = kill_call 0 to;
     is = refl;
-    fits = hosts-fit parts history crew.grant.number (cube_grant crew.grant) machine lawful held (end_process to) (kills 0 to) (rw place refl) tt;
+    fits = hosts-fit parts history crew.grant.number (cube_grant crew.grant) machine lawful held (end_process to) (kill_call 0 to) (rw place refl) tt;
   }
 
   pub may-allow : (count : ℕ) → count ≤ greatest_count → IsHostCall parts history crew.grant.user (calls.Arm count)
   may-allow count within = record {
-    inner = arms count;
+    inner = arm_call count;
     is = refl;
-    fits = hosts-fit parts history crew.grant.number (cube_grant crew.grant) machine lawful held (allow count) (arms count) refl within;
+    fits = hosts-fit parts history crew.grant.number (cube_grant crew.grant) machine lawful held (allow count) (arm_call count) refl within;
   }
 
   pub may-look : IsHostCall parts history crew.grant.user calls.Look
   may-look = record {
-    inner = looks;
+    inner = look_call;
     is = refl;
-    fits = hosts-fit parts history crew.grant.number (cube_grant crew.grant) machine lawful held look_round looks refl tt;
+    fits = hosts-fit parts history crew.grant.number (cube_grant crew.grant) machine lawful held look_round look_call refl tt;
   }
 
   pub may-take : IsHostCall parts history crew.grant.user calls.HostTake
   may-take = record {
-    inner = takes_mail;
+    inner = mail_call;
     is = refl;
-    fits = hosts-fit parts history crew.grant.number (cube_grant crew.grant) machine lawful held take_message takes_mail refl tt;
+    fits = hosts-fit parts history crew.grant.number (cube_grant crew.grant) machine lawful held take_message mail_call refl tt;
   }

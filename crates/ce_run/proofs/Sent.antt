@@ -6,15 +6,15 @@ use Rattle.ce_model.specs.declared.topology.BlockId.{BlockId}
 use Rattle.ce_model.specs.declared.topology.Place.{Place}
 use Rattle.ce_model.specs.declared.entry.Entry.{Entry}
 use Rattle.ce_model.specs.declared.entry.What.{What}
-use Rattle.ce_model.specs.declared.entry.What.TheVariants.{Send as SendMade}
+use Rattle.ce_model.specs.declared.entry.What.TheVariants as whats
 use Rattle.ce_model.specs.Limits.{block_room}
 use Rattle.ce_model.specs.Blocks.{Block}
 use Rattle.ce_model.specs.Parcels.{Item}
-use Rattle.ce_model.specs.Node.{Call, sends, is_place}
+use Rattle.ce_model.specs.Node.{Call, send_call, is_place}
 use Rattle.ce_model.specs.Answers.{answer}
 use Rattle.ce_model.specs.Cube.{send_bytes}
 use Rattle.ce_model.specs.Renaming.{CubeGrant, block_outward, place_outward}
-use Rattle.ce_model.specs.Machine.{IsFitting, after, what_of_request, standing_of, in_cube}
+use Rattle.ce_model.specs.Machine.{IsFitting, after, what_of_request, cube_standing, in_cube}
 use Rattle.xm_block.specs.Stores.{ids_of}
 use Rattle.rk_mail.specs.Targets.{targets_of, bytes_of, with_bytes}
 use Rattle.rk_mail.specs.declared.talk.Hearing.{Hearing}
@@ -24,14 +24,14 @@ use Rattle.rk_node.specs.Boxes.{Box, IsClean}
 use Rattle.ce_host.specs.declared.host.Host.{Host}
 use Rattle.ce_host.specs.Hosts.{message_to}
 use Rattle.ce_host.specs.declared.command.Command.TheVariants.{Send}
-use Rattle.ce_host.specs.declared.answer.Answer.TheVariants.{Ok as Done, NoStore}
+use Rattle.ce_host.specs.declared.answer.Answer.TheVariants as answers
 use Rattle.ce_machine.specs.Meanings.{MachineFacts}
 use Rattle.ce_machine.specs.declared.call.Call.TheVariants as calls
 use Rattle.ce_machine.specs.declared.call.Reply.{Reply}
 use Rattle.ce_machine.specs.declared.call.Reply.TheVariants as replies
-use Rattle.ce_machine.specs.Replies.{IsReplyTo, IsHeard, items_for}
+use Rattle.ce_machine.specs.Replies.{IsReplyTo, IsHeard, actor_items}
 use Rattle.ce_cube.specs.declared.crew.SerialCrew.{SerialCrew}
-use Rattle.ce_cube.specs.Boxes.{store_now}
+use Rattle.ce_cube.specs.Boxes.{trace_store}
 use Rattle.ce_cube.specs.Crews.{IsLawfulMachine, IsHostInStep, IsCrewInStep, cube_grant}
 use Rattle.ce_cube.proofs.Hosts.{hosts-fit, hosts-send}
 use Rattle.ce_script.specs.Rounds.{serial}
@@ -100,24 +100,24 @@ module _ (before : MachineFacts) (crew : SerialCrew) (machine : IsLawfulMachine 
   outward = block_outward grant
 
   abbrev store : List BlockId
-  store = store_now before.parts before.history crew.grant.number grant
+  store = trace_store before.parts before.history crew.grant.number grant
 
   own-place : is_place step.held.cube.grant.dim to ≡ true
   own-place = ap (λ (g : CubeGrant). is_place g.dim to) step.held.grant_is ∙ place
 
   -- nothing is sent where the host has no block
-  nothing-next : crew.host.store.blocks ≡ [] → IsNextCommand serial before.parts before.history crew.grant.user (Send to bytes) NoStore []
+  nothing-next : crew.host.store.blocks ≡ [] → IsNextCommand serial before.parts before.history crew.grant.user (Send to bytes) answers.NoStore []
   nothing-next empty =
       let none : store ≡ [] = map-none outward store (sym step.host.blocks ∙ ap ids_of empty) in
-      let own : store_now before.parts before.history step.held.cube.number step.held.cube.grant ≡ store =
-      λ i. store_now before.parts before.history (step.held.number_is i) (step.held.grant_is i) in
+      let own : trace_store before.parts before.history step.held.cube.number step.held.cube.grant ≡ store =
+      λ i. trace_store before.parts before.history (step.held.number_is i) (step.held.grant_is i) in
       no_store serial before.parts before.history crew.grant.user step.held.cube step.held.held to bytes own-place (own ∙ none)
 
   pub nothing-done : (host : Host) → host ≡ crew.host → crew.host.store.blocks ≡ []
-      → HasDone before before crew.grant.user (Send to bytes) NoStore (Holding (record crew { host = host }))
+      → HasDone before before crew.grant.user (Send to bytes) answers.NoStore (Holding (record crew { host = host }))
   nothing-done host same empty =
-      subst (λ host. HasDone before before crew.grant.user (Send to bytes) NoStore (Holding (record crew { host = host }))) (sym same)
-      (done-at-once before crew.grant.user (Send to bytes) NoStore (Holding crew) machine (nothing-next empty) (refl, step))
+      subst (λ host. HasDone before before crew.grant.user (Send to bytes) answers.NoStore (Holding (record crew { host = host }))) (sym same)
+      (done-at-once before crew.grant.user (Send to bytes) answers.NoStore (Holding crew) machine (nothing-next empty) (refl, step))
 
   module _ (short : length bytes ≤ block_room) (batch : List (Place × Block)) (is : Some batch ≡ message_to to bytes crew.host.store.blocks) where
     abbrev goes : IsMessage to bytes crew.host.store.blocks batch
@@ -127,13 +127,13 @@ module _ (before : MachineFacts) (crew : SerialCrew) (machine : IsLawfulMachine 
     first = first-is outward store goes.block.id (ids_of goes.others) (ap ids_of (sym goes.blocks_are) ∙ step.host.blocks)
 
     abbrev call : Call
-    call = sends 0 ((to, goes.block.id) ∷ []) bytes
+    call = send_call 0 ((to, goes.block.id) ∷ []) bytes
 
-    call-is : sends 0 (targets_of batch) (bytes_of batch) ≡ call
-    call-is = ap (λ batch. sends 0 (targets_of batch) (bytes_of batch)) goes.batch_is
+    call-is : send_call 0 (targets_of batch) (bytes_of batch) ≡ call
+    call-is = ap (λ batch. send_call 0 (targets_of batch) (bytes_of batch)) goes.batch_is
 
-    call-outward : sends 0 ((to, outward first.id) ∷ []) bytes ≡ call
-    call-outward = ap (λ id. sends 0 ((to, id) ∷ []) bytes) first.id_is
+    call-outward : send_call 0 ((to, outward first.id) ∷ []) bytes ≡ call
+    call-outward = ap (λ id. send_call 0 ((to, id) ∷ []) bytes) first.id_is
 
     slot : slice_get store 0 ≡ Some first.id
     slot = ap (λ ids. slice_get ids 0) first.store_is
@@ -141,12 +141,12 @@ module _ (before : MachineFacts) (crew : SerialCrew) (machine : IsLawfulMachine 
     fits : IsFitting before.parts before.history crew.grant.user HOST (in_cube call)
     fits =
         subst (λ call. IsFitting before.parts before.history crew.grant.user HOST (in_cube call)) call-outward
-        (hosts-fit before.parts before.history crew.grant.number grant machine.within machine.lawful step.held (send_bytes to bytes) (sends 0 ((to, first.id) ∷ []) bytes)
+        (hosts-fit before.parts before.history crew.grant.number grant machine.within machine.lawful step.held (send_bytes to bytes) (send_call 0 ((to, first.id) ∷ []) bytes)
         (rw (place, slot) refl) short)
 
     pub may-send : IsHostCall before.parts before.history crew.grant.user (calls.Say (say.Send 0 batch))
     may-send = record {
-      inner = sends 0 (targets_of batch) (bytes_of batch);
+      inner = send_call 0 (targets_of batch) (bytes_of batch);
       is = refl;
       fits = subst (λ call. IsFitting before.parts before.history crew.grant.user HOST (in_cube call)) (sym call-is) fits;
     }
@@ -157,18 +157,18 @@ module _ (before : MachineFacts) (crew : SerialCrew) (machine : IsLawfulMachine 
       answered-so = ap (λ call. what_of_request before.parts (after before.history) crew.grant.user HOST (in_cube call)) (sym call-is) ∙ called.asked.answer
 
       abbrev sent : What
-      sent = SendMade 0 (standing_of (after before.history) step.held.cube).parcel_count ((place_outward step.held.cube.grant.sub to, goes.block.id) ∷ []) bytes
+      sent = whats.Send 0 (cube_standing (after before.history) step.held.cube).parcel_count ((place_outward step.held.cube.grant.sub to, goes.block.id) ∷ []) bytes
 
       sent-is : sent ≡ called.asked.what
       unfolding answer
       sent-is = answer-is before.parts (after before.history) crew.grant.user call called.asked.what step.held.cube step.held.held answered-so
 
       abbrev items : List Item
-      items = items_for (after before.history) step.held.cube HOST
+      items = actor_items (after before.history) step.held.cube HOST
 
       heard-sent : IsHeard items sent reply
       heard-sent =
-          subst (λ held. IsSomeAnd held (λ cube. IsHeard (items_for (after before.history) cube HOST) sent reply)) step.held.held
+          subst (λ held. IsSomeAnd held (λ cube. IsHeard (actor_items (after before.history) cube HOST) sent reply)) step.held.held
           (subst (λ what. IsReplyTo home_of IsClean before.parts (after before.history) crew.grant.user HOST what reply) (sym sent-is) called.asked.reply_is)
 
       reply-by : (reply : Reply Box) → IsHeard items sent reply → reply ≡ replies.Heard (Posted [])
@@ -190,9 +190,9 @@ module _ (before : MachineFacts) (crew : SerialCrew) (machine : IsLawfulMachine 
         history-is : behind.history ≡ before.history ++ entry ∷ []
         history-is = called.asked.history ∙ ap (λ what. before.history ++ by_host crew.grant.user what ∷ []) (sym sent-is)
 
-        store-behind : store_now before.parts behind.history crew.grant.number grant ≡ first.rest
+        store-behind : trace_store before.parts behind.history crew.grant.number grant ≡ first.rest
         store-behind =
-            ap (λ h. store_now before.parts h crew.grant.number grant) history-is
+            ap (λ h. trace_store before.parts h crew.grant.number grant) history-is
             ∙ hosts-send before.parts before.history crew.grant.number grant machine.within machine.lawful step.held to first.id bytes entry slot place short
             (record {
               user = refl;
@@ -222,10 +222,10 @@ module _ (before : MachineFacts) (crew : SerialCrew) (machine : IsLawfulMachine 
           spare = ap (λ (h : Host). h.spare) host-is;
         }
 
-        pub sent-done : HasDone before behind crew.grant.user (Send to bytes) Done (Holding (record crew' { host = other }))
+        pub sent-done : HasDone before behind crew.grant.user (Send to bytes) answers.Ok (Holding (record crew' { host = other }))
         sent-done =
-            done-by before behind (record crew { host = host }) (record crew' { host = other }) (by_host crew.grant.user called.asked.what ∷ []) (Send to bytes) Done
+            done-by before behind (record crew { host = host }) (record crew' { host = other }) (by_host crew.grant.user called.asked.what ∷ []) (Send to bytes) answers.Ok
             (gone-on-with before behind (record crew { host = host }) crew' (calls.Say (say.Send 0 batch)) reply machine step.held may-send called other stands)
-            (asked serial before.parts before.history crew.grant.user (Send to bytes) goes.block.id (in_cube call) called.asked.what Done machine.within machine.lawful refl
+            (asked serial before.parts before.history crew.grant.user (Send to bytes) goes.block.id (in_cube call) called.asked.what answers.Ok machine.within machine.lawful refl
             (record { fits = fits; answer = answered-so })
-            (subst (λ what. reply_by before.parts (after before.history) what ≡ Some Done) sent-is refl))
+            (subst (λ what. reply_by before.parts (after before.history) what ≡ Some answers.Ok) sent-is refl))

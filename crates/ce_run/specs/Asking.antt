@@ -58,15 +58,15 @@ pub record HasCalled (before behind : MachineFacts) (crew crew' : SerialCrew) (c
 
 -- the start or the end of a process
 abbrev pub IsStartOrEnd : model.Call → Type 0
-IsStartOrEnd (model.spawns pid image to) = Unit {0}
-IsStartOrEnd (model.kills pid to) = Unit {0}
+IsStartOrEnd (model.spawn_call pid image to) = Unit {0}
+IsStartOrEnd (model.kill_call pid to) = Unit {0}
 IsStartOrEnd other = ⊥
 
 -- ---- a cube that is given back
 
 -- the user holds a cube, which wasn't drained
 abbrev pub HasCube : List Entry → ℕ → Type 0
-HasCube history user = HasHeldCube history user (λ cube. cube.drained ≡ false)
+HasCube history user = HasHeldCube history user (λ cube. cube.is_drained ≡ false)
 
 -- A user's cube was drained: these are the blocks of all that waited in it.
 pub record HasDrained (before behind : MachineFacts) (user : ℕ) (blocks : List Block) : Type 0 where

@@ -1,39 +1,39 @@
 -- Why a run ended as it did.
 use Rattle.std.specs.Prelude.{◌≡◌, ℕ, List, Option, Some, None, true, take}
 use Rattle.std.specs.Io.KnownBytes.{append_known}
-use Rattle.ce_words.specs.Line.{IsAccepted, line_of}
-use Rattle.ce_run.specs.declared.ended.Fault.{Fault}
-use Rattle.ce_run.specs.declared.ended.Fault.TheVariants.{Usage, Write, Memory}
+use Rattle.ce_words.specs.Line.{IsAccepted, asked_line}
+use Rattle.ce_run.specs.declared.ended.RunFault.{RunFault}
+use Rattle.ce_run.specs.declared.ended.RunFault.TheVariants.{Usage, Write, Memory}
 use Rattle.ce_run.specs.Fault.{status_of}
 
 -- the words are a line that the program takes, and it asks for a run on one thread
 pub record IsServed (words : List (List ℕ)) : Type 0 where
   pub accepted : IsAccepted words
-  pub serial : (line_of words).serial ≡ true
+  pub serial : (asked_line words).is_serial ≡ true
 
 -- the exit status
-abbrev pub status_of_end : Option Fault → ℕ
+abbrev pub status_of_end : Option RunFault → ℕ
 status_of_end None = 0
 status_of_end (Some fault) = status_of fault
 
 -- the script was run to its end: there is no fault, or only the writing failed
-abbrev pub HasRunToEnd : Option Fault → Type 0
+abbrev pub HasRunToEnd : Option RunFault → Type 0
 HasRunToEnd None = Unit {0}
 HasRunToEnd (Some Write) = Unit {0}
 HasRunToEnd (Some other) = ⊥
 
-abbrev pub IsMemory : Option Fault → Type 0
-IsMemory (Some (Memory fault)) = Unit {0}
-IsMemory other = ⊥
+abbrev pub IsNoMemory : Option RunFault → Type 0
+IsNoMemory (Some (Memory fault)) = Unit {0}
+IsNoMemory other = ⊥
 
 -- a fault that ends the reading of a script
-abbrev pub IsReadingFault : Fault → Type 0
+abbrev pub IsReadingFault : RunFault → Type 0
 IsReadingFault Usage = ⊥
 IsReadingFault Write = ⊥
 IsReadingFault other = Unit {0}
 
 -- what was written at the end: the whole text, or, where the sink failed, a front part of it
-abbrev pub HasReported : Option Fault → List ℕ → Option (List ℕ) → Option (List ℕ) → Type 0
+abbrev pub HasReported : Option RunFault → List ℕ → Option (List ℕ) → Option (List ℕ) → Type 0
 HasReported None text before now = now ≡ append_known before text
 HasReported (Some Write) text before now = (n : ℕ) × (now ≡ append_known before (take n text))
 HasReported (Some other) text before now = ⊥

@@ -1,11 +1,12 @@
 -- The faults: their statuses and their lines.
 use Rattle.std.specs.Prelude.{ℕ, List, [], ◌∷◌, ◌++◌, codes, decimal}
+use Rattle.rv_model.specs.NoMemoryText.{no_memory}
 use Rattle.ce_script.specs.FaultTexts.{kind_text}
-use Rattle.ce_run.specs.declared.ended.Fault.{Fault}
-use Rattle.ce_run.specs.declared.ended.Fault.TheVariants.{TooLong, Script, Usage, Read, Write, Memory}
+use Rattle.ce_run.specs.declared.ended.RunFault.{RunFault}
+use Rattle.ce_run.specs.declared.ended.RunFault.TheVariants.{TooLong, Script, Usage, Read, Write, Memory}
 
 -- the exit status of a fault
-abbrev pub status_of : Fault → ℕ
+abbrev pub status_of : RunFault → ℕ
 status_of TooLong = 1
 status_of (Script fault) = 1
 status_of Usage = 2
@@ -14,10 +15,10 @@ status_of (Memory fault) = 4
 status_of Write = 5
 
 -- what is written about a fault
-abbrev pub line_of : Fault → List ℕ
+abbrev pub line_of : RunFault → List ℕ
 line_of TooLong = codes "ce: script too long" ++ 10 ∷ []
 line_of (Script fault) = codes "ce: line " ++ (decimal fault.line ++ (codes ": " ++ (kind_text fault.kind ++ 10 ∷ [])))
 line_of Usage = codes "ce: usage: ce [--serial] [--load N]" ++ 10 ∷ []
 line_of Read = codes "ce: read fault" ++ 10 ∷ []
 line_of Write = codes "ce: write fault" ++ 10 ∷ []
-line_of (Memory fault) = codes "ce: no memory" ++ 10 ∷ []
+line_of (Memory fault) = codes "ce: " ++ (no_memory ++ 10 ∷ [])

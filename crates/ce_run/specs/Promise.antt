@@ -7,8 +7,8 @@ use Rattle.std.specs.declared.io.ErrorKind.TheVariants.{OutOfMemory}
 use Rattle.ce_io.specs.Faults.{HasRisen}
 use Rattle.ce_io.specs.Whole.{Reading, Writing, HasGiven}
 use Rattle.ce_io.specs.declared.whole.TheConstants.{PIECE}
-use Rattle.ce_words.specs.Line.{line_of as asked_by}
-use Rattle.ce_words.specs.declared.line.Line.{Line}
+use Rattle.ce_words.specs.Line.{asked_line}
+use Rattle.ce_words.specs.declared.line.CommandLine.{CommandLine}
 use Rattle.ce_script.specs.Faults.{first_fault}
 use Rattle.ce_script.specs.Scripts.{IsScript}
 use Rattle.ce_script.specs.Load.{load}
@@ -20,10 +20,10 @@ use Rattle.ce_script.specs.declared.record.Record.{Record}
 use Rattle.ce_script.specs.declared.script.Script.{Script}
 use Rattle.ce_script.specs.declared.script.ScriptFault.{ScriptFault}
 use Rattle.ce_run.specs.declared.ended.RunEnd.{RunEnd}
-use Rattle.ce_run.specs.declared.ended.Fault.{Fault}
-use Rattle.ce_run.specs.declared.ended.Fault.TheVariants.{TooLong, Script as Refused, Usage, Read, Write}
-use Rattle.ce_run.specs.declared.program.TheConstants.{SCRIPT_LIMIT}
-use Rattle.ce_run.specs.Causes.{status_of_end, IsServed, IsMemory, HasRunToEnd, HasReported}
+use Rattle.ce_run.specs.declared.ended.RunFault.{RunFault}
+use Rattle.ce_run.specs.declared.ended.RunFault.TheVariants as run_fault
+use Rattle.ce_model.specs.declared.limits.TheConstants.{SCRIPT_LIMIT}
+use Rattle.ce_run.specs.Causes.{status_of_end, IsServed, IsNoMemory, HasRunToEnd, HasReported}
 use Rattle.ce_run.specs.Fault.{line_of}
 
 -- How a run ended: the status of each fault, the cause of each fault but Memory, which is free, what was read, and what was
@@ -34,28 +34,28 @@ pub record HasEnded {S K : Type 0} (words : List (List ℕ)) (source : Reading S
   -- the record is there exactly with the statuses 0 and 5
   pub kept : IsSome end.kept ↔ HasRunToEnd end.fault
   -- Usage comes exactly where the words are refused or ask for threads; and then nothing is read
-  pub usage : end.fault ≡ Some Usage → ¬ IsServed words
-  pub served : IsServed words ⊎ ((end.fault ≡ Some Usage) ⊎ IsMemory end.fault)
-  pub unread : end.fault ≡ Some Usage → source.new ≡ source.old
+  pub usage : end.fault ≡ Some run_fault.Usage → ¬ IsServed words
+  pub served : IsServed words ⊎ ((end.fault ≡ Some run_fault.Usage) ⊎ IsNoMemory end.fault)
+  pub unread : end.fault ≡ Some run_fault.Usage → source.new ≡ source.old
   -- what the source gave in the call, which is nothing where a load is asked for
   pub bytes : List ℕ
   pub gave : HasGiven source bytes
-  pub load_unread : IsServed words → IsSome (asked_by words).load → source.new ≡ source.old
+  pub load_unread : IsServed words → IsSome (asked_line words).load → source.new ≡ source.old
   -- and then nothing but the sink and memory can fail
-  pub load_runs : IsServed words → IsSome (asked_by words).load → HasRunToEnd end.fault ⊎ IsMemory end.fault
+  pub load_runs : IsServed words → IsSome (asked_line words).load → HasRunToEnd end.fault ⊎ IsNoMemory end.fault
   -- TooLong comes exactly where it gave more than a script may have, and then by a piece more at most
-  pub too_long : (end.fault ≡ Some TooLong) ↔ (SCRIPT_LIMIT < length bytes)
+  pub too_long : (end.fault ≡ Some run_fault.TooLong) ↔ (SCRIPT_LIMIT < length bytes)
   pub bounded : length bytes ≤ SCRIPT_LIMIT + PIECE
   -- where it was read to its end, Script comes exactly where its bytes are no script, with their first fault
-  pub faulty : (fault : ScriptFault) → end.fault ≡ Some (Refused fault)
+  pub faulty : (fault : ScriptFault) → end.fault ≡ Some (run_fault.Script fault)
       → IsAtEnd (source.left source.new) × (first_fault bytes ≡ Some fault)
-  pub faultless : HasRunToEnd end.fault → (asked_by words).load ≡ None → IsAtEnd (source.left source.new) × (first_fault bytes ≡ None)
+  pub faultless : HasRunToEnd end.fault → (asked_line words).load ≡ None → IsAtEnd (source.left source.new) × (first_fault bytes ≡ None)
   -- Read comes exactly where a read failed: its count rose, or stands at the end of its type; with each other end it stands
-  pub read : end.fault ≡ Some Read → HasRisen (source.faults source.old) (source.faults source.new)
-  pub no_read_failed : (end.fault ≡ Some Read) ⊎ (source.faults source.new ≡ source.faults source.old)
+  pub read : end.fault ≡ Some run_fault.Read → HasRisen (source.faults source.old) (source.faults source.new)
+  pub no_read_failed : (end.fault ≡ Some run_fault.Read) ⊎ (source.faults source.new ≡ source.faults source.old)
   -- so does Write where a write failed
-  pub write : end.fault ≡ Some Write → HasRisen (sink.faults sink.old) (sink.faults sink.new)
-  pub no_write_failed : (end.fault ≡ Some Write) ⊎ (sink.faults sink.new ≡ sink.faults sink.old)
+  pub write : end.fault ≡ Some run_fault.Write → HasRisen (sink.faults sink.old) (sink.faults sink.new)
+  pub no_write_failed : (end.fault ≡ Some run_fault.Write) ⊎ (sink.faults sink.new ≡ sink.faults sink.old)
   -- with the statuses 1 to 4 the sink stays as it was
   pub unwritten : HasRunToEnd end.fault ⊎ (sink.new ≡ sink.old)
 
@@ -70,18 +70,18 @@ text_of None script kept = report script kept
 text_of (Some seed) script kept = summary seed kept
 
 -- how the nodes take their turns in the rounds of a run
-abbrev pub kind_of : Line → RoundKind
-kind_of line = if line.serial then serial else threaded
+abbrev pub kind_of : CommandLine → RoundKind
+kind_of line = if line.is_serial then serial else threaded
 
 -- What a run did that left this record: there is a script of which all this holds.
-pub record HasRun {S K : Type 0} (line : Line) (source : Reading S) (sink : Writing K) (fault : Option Fault) (kept : Record) : Type 0 where
+pub record HasRun {S K : Type 0} (line : CommandLine) (source : Reading S) (sink : Writing K) (fault : Option RunFault) (kept : Record) : Type 0 where
   pub script : Script
   pub has_script : HasScript line.load source script
   -- The record is one that the model allows: the script's users and commands, and each cube's trace and replies as the cube
   -- gives them alone, each block with one owner, and messages in order.
   pub legal : IsLegal (kind_of line) script kept
   -- on one thread the commands were carried out one after another, in the script's order
-  pub serial : line.serial ≡ true → IsSerial script kept
+  pub serial : line.is_serial ≡ true → IsSerial script kept
   -- what was appended is the run's text, or with the fault Write a front part of it
   pub reported : HasReported fault (text_of line.load script kept) (sink.written sink.old) (sink.written sink.new)
 
@@ -92,18 +92,18 @@ HasWork None source =
     (text : List ℕ) × (source.left source.old ≡ Some text) × (length text ≤ SCRIPT_LIMIT) × (first_fault text ≡ None)
 
 -- What is accepted is run and reported to its end, unless the source, the sink or memory fails.
-pub record IsComplete {S K : Type 0} (words : List (List ℕ)) (source : Reading S) (sink : Writing K) (fault : Option Fault) : Type 0 where
-  pub answered : IsServed words → HasWork (asked_by words).load source → ¬ HasRisen (source.faults source.old) (source.faults source.new)
-      → ¬ HasRisen (sink.faults sink.old) (sink.faults sink.new) → (fault ≡ None) ⊎ IsMemory fault
+pub record IsComplete {S K : Type 0} (words : List (List ℕ)) (source : Reading S) (sink : Writing K) (fault : Option RunFault) : Type 0 where
+  pub answered : IsServed words → HasWork (asked_line words).load source → ¬ HasRisen (source.faults source.old) (source.faults source.new)
+      → ¬ HasRisen (sink.faults sink.old) (sink.faults sink.new) → (fault ≡ None) ⊎ IsNoMemory fault
 
 -- how the reading of a script went
-pub record HasReadScript {S : Type 0} (source : Reading S) (result : Result Script Fault) : Type 0 where
+pub record HasReadScript {S : Type 0} (source : Reading S) (result : Result Script RunFault) : Type 0 where
   pub bytes : List ℕ
   pub gave : HasGiven source bytes
-  pub too_long : IsErrOf result TooLong ↔ (SCRIPT_LIMIT < length bytes)
+  pub too_long : IsErrOf result run_fault.TooLong ↔ (SCRIPT_LIMIT < length bytes)
   pub bounded : length bytes ≤ SCRIPT_LIMIT + PIECE
   pub is_script : IfOk result (λ script. IsAtEnd (source.left source.new) × IsScript bytes script)
-  pub faulty : (fault : ScriptFault) → IsErrOf result (Refused fault)
+  pub faulty : (fault : ScriptFault) → IsErrOf result (run_fault.Script fault)
       → IsAtEnd (source.left source.new) × (first_fault bytes ≡ Some fault)
 
 -- how a run of this script ended that was written, or began to be written: with this record, whose text was appended; or memory was
@@ -114,28 +114,28 @@ pub record HasFinished {K : Type 0} (script : Script) (seed : Option ℕ) (sink 
   pub legal : IfSome end.kept (IsLegal serial script)
   pub serial : IfSome end.kept (IsSerial script)
   pub reported : IfSome end.kept (λ kept. HasReported end.fault (text_of seed script kept) (sink.written sink.old) (sink.written sink.new))
-  pub fault : HasRunToEnd end.fault ⊎ IsMemory end.fault
-  pub write : end.fault ≡ Some Write → HasRisen (sink.faults sink.old) (sink.faults sink.new)
-  pub no_write_failed : (end.fault ≡ Some Write) ⊎ (sink.faults sink.new ≡ sink.faults sink.old)
+  pub fault : HasRunToEnd end.fault ⊎ IsNoMemory end.fault
+  pub write : end.fault ≡ Some run_fault.Write → HasRisen (sink.faults sink.old) (sink.faults sink.new)
+  pub no_write_failed : (end.fault ≡ Some run_fault.Write) ⊎ (sink.faults sink.new ≡ sink.faults sink.old)
   pub unwritten : HasRunToEnd end.fault ⊎ (sink.new ≡ sink.old)
 
 -- the three clauses of a run together
 pub record IsPromised {S K : Type 0} (words : List (List ℕ)) (source : Reading S) (sink : Writing K) (end : RunEnd) : Type 0 where
   pub ended : HasEnded words source sink end
-  pub headline : IfSome end.kept (HasRun (asked_by words) source sink end.fault)
+  pub headline : IfSome end.kept (HasRun (asked_line words) source sink end.fault)
   pub complete : IsComplete words source sink end.fault
 
 -- How the words of a command line that can't be read end it: for want of memory as Memory, and else as Usage, and nothing is read
 -- or written.
 pub record HasRefusedWords {S K : Type 0} (error : Error) (source : Reading S) (sink : Writing K) (end : RunEnd) : Type 0 where
   pub status : end.status ≡ status_of_end end.fault
-  pub memory : error_kind error ≡ OutOfMemory → IsMemory end.fault
-  pub usage : (end.fault ≡ Some Usage) ⊎ (error_kind error ≡ OutOfMemory)
+  pub memory : error_kind error ≡ OutOfMemory → IsNoMemory end.fault
+  pub usage : (end.fault ≡ Some run_fault.Usage) ⊎ (error_kind error ≡ OutOfMemory)
   pub unread : source.new ≡ source.old
   pub unwritten : sink.new ≡ sink.old
 
 -- what is told of an end: the line of its fault, or a front part of it where a write of it failed; and nothing without a fault
-abbrev pub IsTold : {E : Type 0} → Option Fault → Writing E → Type 0
+abbrev pub IsTold : {E : Type 0} → Option RunFault → Writing E → Type 0
 IsTold None errors = errors.new ≡ errors.old
 IsTold (Some fault) errors =
     (errors.written errors.new ≡ append_known (errors.written errors.old) (line_of fault))

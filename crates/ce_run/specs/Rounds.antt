@@ -7,7 +7,7 @@ use Rattle.ce_model.specs.declared.entry.Entry.{Entry}
 use Rattle.ce_model.specs.declared.entry.What.TheVariants.{Arm, Look}
 use Rattle.ce_model.specs.declared.entry.LookResult.{LookResult}
 use Rattle.ce_model.specs.Parcels.{Parcel}
-use Rattle.ce_model.specs.Node.{looks}
+use Rattle.ce_model.specs.Node.{look_call}
 use Rattle.ce_model.specs.Cube.{parcel_numbered}
 use Rattle.ce_model.specs.Machine.{HasHeldCube}
 use Rattle.ce_machine.specs.Meanings.{MachineFacts}
@@ -25,7 +25,7 @@ HasAllowed before behind crew crew' count = HasGoneOn before behind crew crew' (
 -- a crew's host looked, and found this
 pub record HasLooked (before behind : MachineFacts) (crew crew' : SerialCrew) (found : LookResult) : Type 0 where
   pub goes_on : HasGoneOn before behind crew crew' (by_host crew.grant.user (Look found) ∷ [])
-  pub made : IsMadeBy before.parts before.history (cube_grant crew.grant) HOST looks (by_host crew.grant.user (Look found))
+  pub made : IsMadeBy before.parts before.history (cube_grant crew.grant) HOST look_call (by_host crew.grant.user (Look found))
 
 -- a crew's host took no message, since none waited
 abbrev pub HasTakenNone : MachineFacts → MachineFacts → SerialCrew → SerialCrew → Type 0

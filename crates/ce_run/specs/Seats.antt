@@ -3,7 +3,7 @@ use Rattle.std.specs.Prelude.{◌≡◌, ℕ, ◌<◌, List, ◌++◌, Some, Non
 use Rattle.ce_model.specs.declared.entry.Entry.{Entry}
 use Rattle.ce_model.specs.declared.topology.BlockId.{BlockId}
 use Rattle.ce_model.specs.Node.{Call}
-use Rattle.ce_model.specs.Machine.{MachineParts, IsLawful, in_cube, after, held_by}
+use Rattle.ce_model.specs.Machine.{MachineParts, IsLawful, in_cube, after, cube_held_by}
 use Rattle.ce_machine.specs.Meanings.{MachineFacts}
 use Rattle.ce_cube.specs.declared.crew.SerialCrew.{SerialCrew}
 use Rattle.ce_cube.specs.Crews.{IsLawfulMachine, IsCrewInStep, IsHostAtHome}
@@ -17,13 +17,18 @@ use Rattle.ce_run.specs.declared.seat.Seat.TheVariants.{Free, Holding}
 
 -- behind a history a user has this seat: it holds no cube and its host is at home, or its cube's crew is in step
 abbrev pub IsSeatAt : MachineParts → List Entry → ℕ → Seat → Type 0
-IsSeatAt parts history user (Free host) = (held_by (after history) user ≡ None) × IsHostAtHome user host
+IsSeatAt parts history user (Free host) = (cube_held_by (after history) user ≡ None) × IsHostAtHome user host
 IsSeatAt parts history user (Holding crew) = (crew.grant.user ≡ user) × IsCrewInStep parts history crew
 
 -- a machine that is lawful so far has this user
 pub record HasUser (machine : MachineFacts) (user : ℕ) : Type 0 where
   pub book : IsLawfulMachine machine
   pub within : user < machine.parts.users
+
+-- a machine that is lawful so far has the crew's user, and the crew is in step with it
+pub record HasCrew (machine : MachineFacts) (crew : SerialCrew) : Type 0 where
+  pub user : HasUser machine crew.grant.user
+  pub in_step : IsCrewInStep machine.parts machine.history crew
 
 -- A command of a user was carried out: it made these entries, as it must by what the user held, and this answer; and the user has this seat
 -- behind it.

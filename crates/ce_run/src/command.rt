@@ -4,13 +4,13 @@ ghost use Rattle.std.specs.String.{string_bytes};
 ghost use Rattle.std.specs.IoError.{error_kind};
 ghost use Rattle.std.specs.declared.io.ErrorKind.TheVariants.{OutOfMemory};
 ghost use Rattle.ce_io.specs.Whole.{reading, writing};
-ghost use Rattle.ce_run.specs.Causes.{IsMemory, HasRunToEnd};
+ghost use Rattle.ce_run.specs.Causes.{IsNoMemory, HasRunToEnd};
 ghost use Rattle.ce_run.specs.Promise.{HasRefusedWords, IsTold, IsPromised};
 ghost use Rattle.ce_run.specs.declared.ended.RunEnd.{RunEnd};
-ghost use Rattle.ce_run.specs.declared.ended.Fault.TheVariants.{Usage};
+ghost use Rattle.ce_run.specs.declared.ended.RunFault.TheVariants.{Usage};
 
-use crate::ended::{Fault, RunEnd, write_fault};
-use crate::program::{refused, top};
+use crate::ended::{RunEnd, RunFault, write_fault};
+use crate::program::{refusal, top};
 use ce_gate::Gate;
 use ce_io::{Sink, Source};
 use ce_model::NoMemory;
@@ -44,27 +44,27 @@ pub fn run_command<R: Threads + Sync, S: Source, K: Sink, E: Sink, G: Gate>(
 {
     let ended = match words {
         Ok(words) => top(rt, alloc, words.as_slice(), source, sink, gate),
-        Err(error) => refused(unreadable(&error)),
+        Err(error) => refusal(words_fault(&error)),
     };
     tell(ended.fault, errors);
     ended.status
 }
 
 /// Why words can't be read.
-fn unreadable(error: &io::Error) -> Fault
-    ensures memory { error_kind error.now ≡ OutOfMemory → IsMemory (Some result) }
+fn words_fault(error: &io::Error) -> RunFault
+    ensures memory { error_kind error.now ≡ OutOfMemory → IsNoMemory (Some result) }
     ensures usage { (result ≡ Usage) ⊎ (error_kind error.now ≡ OutOfMemory) }
     ensures refusal { HasRunToEnd (Some result) → ⊥ }
 {
     if error.kind() == ErrorKind::OutOfMemory {
-        Fault::Memory(NoMemory)
+        RunFault::Memory(NoMemory)
     } else {
-        Fault::Usage
+        RunFault::Usage
     }
 }
 
 /// Writes the line of a fault. Where even this can't be written, the status still tells of the fault.
-fn tell<E: Sink>(fault: Option<Fault>, errors: &mut E)
+fn tell<E: Sink>(fault: Option<RunFault>, errors: &mut E)
     ensures { IsTold fault (writing E.written E.faults errors.old errors.new) }
 {
     if let Some(fault) = fault {

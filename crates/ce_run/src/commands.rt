@@ -4,9 +4,9 @@ ghost use Rattle.ce_model.specs.declared.topology.TheConstants.{HOST};
 ghost use Rattle.ce_host.specs.declared.command.Command.{Command};
 ghost use Rattle.ce_host.specs.declared.command.Command.TheVariants.{Freecube};
 ghost use Rattle.ce_script.specs.Bounds.{IsCommandWithin};
-ghost use Rattle.ce_cube.specs.Crews.{IsCrewInStep, IsHostAtHome};
-ghost use Rattle.ce_model.specs.Machine.{after, held_by};
-ghost use Rattle.ce_run.specs.Seats.{HasDone, HasUser, IsSeatAt};
+ghost use Rattle.ce_cube.specs.Crews.{IsHostAtHome};
+ghost use Rattle.ce_model.specs.Machine.{after, cube_held_by};
+ghost use Rattle.ce_run.specs.Seats.{HasCrew, HasDone, HasUser, IsSeatAt};
 ghost use Rattle.ce_run.specs.declared.seat.Seat.TheVariants.{Free, Holding};
 
 mod cubes;
@@ -60,7 +60,7 @@ fn for_free(
 ) -> Result<(Seat, Answer), NoMemory>
     requires user { HasUser machine.old user }
     requires images { images.now ≡ machine.old.parts.images }
-    requires free { held_by (after machine.old.history) user ≡ None }
+    requires free { cube_held_by (after machine.old.history) user ≡ None }
     requires host { IsHostAtHome user host }
     requires command { IsCommandWithin (length machine.old.parts.images) command.now }
     ensures { IfOk result (λ done.
@@ -84,9 +84,8 @@ fn for_holder(
     mut crew: SerialCrew,
     command: &Command,
 ) -> Result<(Seat, Answer), NoMemory>
-    requires user { HasUser machine.old crew.grant.user }
     requires images { images.now ≡ machine.old.parts.images }
-    requires crew { IsCrewInStep machine.old.parts machine.old.history crew }
+    requires crew { HasCrew machine.old crew }
     requires command { IsCommandWithin (length machine.old.parts.images) command.now }
     ensures { IfOk result (λ done.
         HasDone machine.old machine.new crew.grant.user command.now done.1 done.0) }
@@ -106,9 +105,8 @@ fn in_cube(
     crew: &mut SerialCrew,
     command: &Command,
 ) -> Result<Answer, NoMemory>
-    requires user { HasUser machine.old crew.old.grant.user }
     requires images { images.now ≡ machine.old.parts.images }
-    requires crew { IsCrewInStep machine.old.parts machine.old.history crew.old }
+    requires crew { HasCrew machine.old crew.old }
     requires within { IsCommandWithin (length machine.old.parts.images) command.now }
     requires stays { ¬ (command.now ≡ Freecube) }
     ensures { IfOk result (λ answer.

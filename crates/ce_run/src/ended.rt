@@ -3,13 +3,12 @@ ghost use Rattle.std.specs.Prelude.{◌≡◌, ℕ, OnOk, OnErr, take, flat_map}
 ghost use Rattle.std.specs.Io.KnownBytes.{append_known};
 ghost use Rattle.ce_io.specs.Faults.{HasCause};
 ghost use Rattle.ce_run.specs.Fault.{line_of, status_of};
-ghost use Rattle.ce_run.specs.declared.ended.Fault.TheVariants.{Script};
+ghost use Rattle.ce_run.specs.declared.ended.RunFault.TheVariants.{Memory, Script};
 
 use ce_io::{Failed, Sink, write_all};
 use ce_model::NoMemory;
 use ce_script::{Record, ScriptFault};
 use itoa::Buffer;
-use thiserror::Error;
 
 /// How a run ended.
 #[derive(Debug, Drop)]
@@ -19,50 +18,44 @@ pub struct RunEnd {
     /// What the run did; there with the statuses 0 and 5.
     pub kept: Option<Record>,
     /// Why the text was not written to its end; there with every status but 0.
-    pub fault: Option<Fault>,
+    pub fault: Option<RunFault>,
 }
 
 /// Why a run's text was not written to its end.
-#[derive(Clone, Copy, Debug, PartialEq, Eq, Error)]
-pub enum Fault {
+#[derive(Clone, Copy, Debug, PartialEq, Eq)]
+pub enum RunFault {
     /// The script is longer than 1,048,576 bytes. Status 1.
-    #[error("script too long")]
     TooLong,
     /// The script has this fault, its first. Status 1.
-    #[error("{0}")]
     Script(ScriptFault),
     /// The words of the command line are not accepted. Status 2.
-    #[error("usage: ce [--serial] [--load N]")]
     Usage,
     /// The source failed. Status 3.
-    #[error("read fault")]
     Read,
     /// The sink failed; a front part of the text may have been written. Status 5.
-    #[error("write fault")]
     Write,
     /// Memory ran out. Status 4.
-    #[error("no memory")]
     Memory(NoMemory),
 }
 
-impl Fault {
+impl RunFault {
     /// The exit status.
     pub(crate) fn status(&self) -> u8
         ensures { result ≡ status_of self.now }
     {
         match self {
-            Fault::TooLong | Fault::Script(_) => 1,
-            Fault::Usage => 2,
-            Fault::Read => 3,
-            Fault::Memory(_) => 4,
-            Fault::Write => 5,
+            RunFault::TooLong | RunFault::Script(_) => 1,
+            RunFault::Usage => 2,
+            RunFault::Read => 3,
+            RunFault::Memory(_) => 4,
+            RunFault::Write => 5,
         }
     }
 }
 
 /// Writes the line that tells of a fault, with a line feed. `Failed` comes where the sink failed, which has then
 /// taken a front part of the line.
-pub fn write_fault<K: Sink>(fault: &Fault, sink: &mut K) -> Result<(), Failed>
+pub fn write_fault<K: Sink>(fault: &RunFault, sink: &mut K) -> Result<(), Failed>
     ensures ok { OnOk result (K.written sink.new
         ≡ append_known (K.written sink.old) (line_of fault.now)) }
     ensures part { OnErr result ((n : ℕ)
@@ -70,13 +63,26 @@ pub fn write_fault<K: Sink>(fault: &Fault, sink: &mut K) -> Result<(), Failed>
     ensures cause { HasCause (K.faults sink.old) (K.faults sink.new) result }
 {
     match fault {
-        Fault::TooLong => write_all(sink, b"ce: script too long\n"),
-        Fault::Script(fault) => write_script_fault(fault, sink),
-        Fault::Usage => write_all(sink, b"ce: usage: ce [--serial] [--load N]\n"),
-        Fault::Read => write_all(sink, b"ce: read fault\n"),
-        Fault::Write => write_all(sink, b"ce: write fault\n"),
-        Fault::Memory(_) => write_all(sink, b"ce: no memory\n"),
+        RunFault::TooLong => write_all(sink, b"ce: script too long\n"),
+        RunFault::Script(fault) => write_script_fault(fault, sink),
+        RunFault::Usage => write_all(sink, b"ce: usage: ce [--serial] [--load N]\n"),
+        RunFault::Read => write_all(sink, b"ce: read fault\n"),
+        RunFault::Write => write_all(sink, b"ce: write fault\n"),
+        RunFault::Memory(want) => write_no_memory(want, sink),
     }
+}
+
+/// Writes the line of want of memory.
+fn write_no_memory<K: Sink>(want: &NoMemory, sink: &mut K) -> Result<(), Failed>
+    ensures ok { OnOk result (K.written sink.new
+        ≡ append_known (K.written sink.old) (line_of (Memory want.now))) }
+    ensures part { OnErr result ((n : ℕ)
+        × (K.written sink.new
+        ≡ append_known (K.written sink.old) (take n (line_of (Memory want.now))))) }
+    ensures cause { HasCause (K.faults sink.old) (K.faults sink.new) result }
+{
+    let text = want.text().as_bytes();
+    write_pieces(sink, &[b"ce: ", text, b"\n"])
 }
 
 /// Writes the line of a script's fault.

@@ -10,8 +10,8 @@ mod seat;
 mod serial;
 
 pub use command::run_command;
-pub use ended::{Fault, RunEnd, write_fault};
-pub use program::{SCRIPT_LIMIT, serial_call, top};
+pub use ended::{RunEnd, RunFault, write_fault};
+pub use program::{serial_call, top};
 
 #[cfg(test)]
 mod tests;

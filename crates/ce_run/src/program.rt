@@ -3,30 +3,27 @@ ghost use Rattle.std.specs.Prelude.{◌≡◌, ◌↔◌, ◌⊎◌, ◌≤◌, 
 ghost use Rattle.std.specs.String.{string_bytes};
 ghost use Rattle.ce_io.specs.Faults.{HasRisen};
 ghost use Rattle.ce_io.specs.Whole.{reading, writing};
-ghost use Rattle.ce_words.specs.Line.{line_of};
+ghost use Rattle.ce_words.specs.Line.{asked_line};
 ghost use Rattle.ce_script.specs.Bounds.{IsWithinLimits};
 ghost use Rattle.ce_script.specs.Legal.{IsLegal};
 ghost use Rattle.ce_script.specs.Rounds.{serial};
 ghost use Rattle.ce_script.specs.Serial.{IsSerial};
-ghost use Rattle.ce_run.specs.Causes.{status_of_end, IsReadingFault, IsMemory, IsServed, HasRunToEnd, HasReported};
+ghost use Rattle.ce_run.specs.Causes.{status_of_end, IsReadingFault, IsNoMemory, IsServed, HasRunToEnd, HasReported};
 ghost use Rattle.ce_run.specs.Fault.{status_of};
 ghost use Rattle.ce_run.specs.Promise.{IsPromised, HasEnded, HasReadScript, HasRun, HasFinished, IsComplete, text_of};
 ghost use Rattle.ce_script.specs.Load.{load};
-ghost use Rattle.ce_run.specs.declared.ended.Fault.TheVariants.{Read, Usage, Write};
+ghost use Rattle.ce_run.specs.declared.ended.RunFault.TheVariants.{Read, Usage, Write};
 
-use crate::ended::{Fault, RunEnd};
+use crate::ended::{RunEnd, RunFault};
 use crate::serial::run_serial;
 use ce_gate::Gate;
 use ce_io::{ReadError, Sink, Source, read_to_end, write_all};
-use ce_model::NoMemory;
+use ce_model::{NoMemory, SCRIPT_LIMIT};
 use ce_script::{Record, Script, ScriptKind, make, read_script};
 use ce_trace::{write_report, write_summary};
-use ce_words::{Line, LineError, read_line};
+use ce_words::{CommandLine, CommandLineError, read_line};
 use std::alloc::Global;
 use std::thread::Threads;
-
-/// How many bytes a script may have.
-pub const SCRIPT_LIMIT: usize = 1_048_576;
 
 /// Runs the script that the source gives, and writes the report to the sink; or the load of a number, and writes its
 /// summary. `words` are the words of the command line behind the program's name: `--serial`, and `--load N` for a load.
@@ -58,7 +55,7 @@ pub fn serial_call<S: Source, K: Sink>(
     ensures ended { HasEnded (map string_bytes words.now)
         (reading S.left S.given S.faults source.old source.new)
         (writing K.written K.faults sink.old sink.new) result }
-    ensures headline { IfSome result.kept (HasRun (line_of (map string_bytes words.now))
+    ensures headline { IfSome result.kept (HasRun (asked_line (map string_bytes words.now))
         (reading S.left S.given S.faults source.old source.new)
         (writing K.written K.faults sink.old sink.new) result.fault) }
     ensures complete { IsComplete (map string_bytes words.now)
@@ -66,32 +63,37 @@ pub fn serial_call<S: Source, K: Sink>(
         (writing K.written K.faults sink.old sink.new) result.fault }
 {
     match load_asked(alloc, words) {
-        Err(fault) => refused(fault),
+        Err(fault) => refusal(fault),
         Ok(Some(seed)) => run_load(alloc, seed, sink),
         Ok(None) => match read_source(alloc, source) {
-            Err(fault) => refused(fault),
+            Err(fault) => refusal(fault),
             Ok(script) => run_script(alloc, &script, None, sink),
         },
     }
 }
 
 /// The load that a line with `--serial` asks for, if it asks for one; other lines are refused as `Usage`.
-fn load_asked(alloc: Global, words: &[String]) -> Result<Option<u32>, Fault>
+fn load_asked(alloc: Global, words: &[String]) -> Result<Option<u32>, RunFault>
     ensures served { IfOk result (λ _. IsServed (map string_bytes words.now)) }
-    ensures load { IfOk result (λ load. (line_of (map string_bytes words.now)).load ≡ load) }
+    ensures load { IfOk result (λ load. (asked_line (map string_bytes words.now)).load ≡ load) }
     ensures refused { IfErr result (λ fault. fault ≡ Usage
         → ¬ IsServed (map string_bytes words.now)) }
-    ensures fault { IfErr result (λ fault. (fault ≡ Usage) ⊎ IsMemory (Some fault)) }
+    ensures fault { IfErr result (λ fault. (fault ≡ Usage) ⊎ IsNoMemory (Some fault)) }
 {
     match read_line(alloc, words) {
-        Ok(Line { serial: true, load }) => Ok(load),
-        Ok(_) | Err(LineError::Refused) => Err(Fault::Usage),
-        Err(LineError::Memory(fault)) => Err(Fault::Memory(fault)),
+        Ok(
+            CommandLine {
+                is_serial: true,
+                load,
+            },
+        ) => Ok(load),
+        Ok(_) | Err(CommandLineError::Refused) => Err(RunFault::Usage),
+        Err(CommandLineError::Memory(fault)) => Err(RunFault::Memory(fault)),
     }
 }
 
 /// The end of a run that wrote nothing.
-pub(crate) fn refused(fault: Fault) -> RunEnd
+pub(crate) fn refusal(fault: RunFault) -> RunEnd
     requires { HasRunToEnd (Some fault) → ⊥ }
     ensures { result ≡ record { status = status_of fault; kept = None; fault = Some fault } }
 {
@@ -109,13 +111,13 @@ fn run_load<K: Sink>(alloc: Global, seed: u32, sink: &mut K) -> RunEnd
 {
     let script = match make(alloc, seed) {
         Ok(script) => script,
-        Err(fault) => return refused(Fault::Memory(fault)),
+        Err(fault) => return refusal(RunFault::Memory(fault)),
     };
     run_script(alloc, &script, Some(seed), sink)
 }
 
 /// Reads a script from a source.
-fn read_source<S: Source>(alloc: Global, source: &mut S) -> Result<Script, Fault>
+fn read_source<S: Source>(alloc: Global, source: &mut S) -> Result<Script, RunFault>
     ensures read { HasReadScript (reading S.left S.given S.faults source.old source.new) result }
     ensures within { IfOk result IsWithinLimits }
     ensures failed { IsErrOf result Read → HasRisen (S.faults source.old) (S.faults source.new) }
@@ -124,15 +126,15 @@ fn read_source<S: Source>(alloc: Global, source: &mut S) -> Result<Script, Fault
 {
     let text = match read_to_end(alloc, source, SCRIPT_LIMIT) {
         Ok(text) => text,
-        Err(ReadError::TooLong) => return Err(Fault::TooLong),
-        Err(ReadError::Read) => return Err(Fault::Read),
-        Err(ReadError::Memory(fault)) => return Err(Fault::Memory(fault)),
+        Err(ReadError::TooLong) => return Err(RunFault::TooLong),
+        Err(ReadError::Read) => return Err(RunFault::Read),
+        Err(ReadError::Memory(fault)) => return Err(RunFault::Memory(fault)),
     };
     match read_script(alloc, text.as_slice()) {
         Ok(script) => Ok(script),
         Err(fault) => match fault.kind {
-            ScriptKind::Memory(fault) => Err(Fault::Memory(fault)),
-            _ => Err(Fault::Script(fault)),
+            ScriptKind::Memory(fault) => Err(RunFault::Memory(fault)),
+            _ => Err(RunFault::Script(fault)),
         },
     }
 }
@@ -144,7 +146,7 @@ fn run_script<K: Sink>(alloc: Global, script: &Script, seed: Option<u32>, sink: 
 {
     match record_and_text(alloc, script, seed) {
         Ok((kept, text)) => write_text(kept, text, sink),
-        Err(fault) => refused(Fault::Memory(fault)),
+        Err(fault) => refusal(RunFault::Memory(fault)),
     }
 }
 
@@ -179,7 +181,7 @@ fn write_text<K: Sink>(kept: Record, text: Vec<u8>, sink: &mut K) -> RunEnd
 {
     let (status, fault) = match write_all(sink, text.as_slice()) {
         Ok(()) => (0, None),
-        Err(_) => (5, Some(Fault::Write)),
+        Err(_) => (5, Some(RunFault::Write)),
     };
     RunEnd {
         status,

@@ -18,7 +18,7 @@ use crate::seat::Seat;
 use ce_host::{Command, Host};
 use ce_machine::Machine;
 use ce_model::{Bytes, GREATEST_BLOCKS, NoMemory};
-use ce_script::{Name, Named, Record, Script, UserRecord};
+use ce_script::{Name, NamedImage, Record, Script, UserRecord};
 use rk_node::NodeBox;
 use rv_image::Image;
 use sqlite_items::Items;
@@ -115,7 +115,7 @@ fn open_machine(alloc: Global, script: &Script, dim: u32) -> Result<Machine<Node
 }
 
 /// The images of a script, by number.
-fn copy_images(alloc: Global, images: &[Named]) -> Result<Vec<Image>, NoMemory>
+fn copy_images(alloc: Global, images: &[NamedImage]) -> Result<Vec<Image>, NoMemory>
     ensures { IfOk result (λ copies. copies.items ≡ map (λ named. named.image) images.now) }
 {
     let mut copies = Vec::new(alloc);

@@ -6,9 +6,15 @@ mod rows;
 use super::*;
 use ce_gate::Open;
 use ce_io::{MemSink, MemSource};
-use rows::ROWS;
+use ce_model::SCRIPT_LIMIT;
+use rows::{
+    ANSWERS, DEAD, ENDLESS, GONE, HELLO, HELLO_WORDS, IMAGE_AS_BYTES, JUMPS, LONGEST_POLLER,
+    NO_FIT, NO_STATEMENTS, NO_USERS, NOT_CONTIGUOUS, NOTHING_ALLOWED, NUMBERS, REFUSED_COMMANDS,
+    RENAMING, Row, SIZES, STOP_CAUSES, TIE, TURN_LIMIT, UNBORN, USED_AGAIN, WINDOWS, XMSEND,
+};
 use std::alloc::Global;
 use std::io;
+use std::process::Abort;
 use std::test::Fail;
 use std::thread::Threads;
 
@@ -96,25 +102,79 @@ fn text(alloc: Global, parts: &[(&str, u32)]) -> Result<String, Fail> {
     Ok(text)
 }
 
+/// The script of a row has the row's report.
+fn holds<R: Threads + Sync + Abort>(rt: &R, alloc: Global, row: &Row) -> Result<(), Fail> {
+    let script = row.script.concat(alloc)?;
+    let ran = run_script(rt, alloc, script.as_str())?;
+    assert_eq!(rt; ran.status, 0, "{}", row.title);
+    assert_eq!(rt;
+        ran.written.as_slice(),
+        row.report.as_bytes(),
+        "{}",
+        row.title
+    );
+    assert_eq!(rt; ran.told.len(), 0, "{}", row.title);
+    Ok(())
+}
+
+/// Turns that are allowed, made, used up and shared.
 #[test]
-fn worked_rows(rt: HostRuntime) -> Result<(), Fail> {
-    for row in &ROWS {
-        let ran = run_script(&rt, rt.alloc(), row.script)?;
-        assert_eq!(rt; ran.status, 0, "{}", row.title);
-        assert_eq!(rt;
-            ran.written.as_slice(),
-            row.report.as_bytes(),
-            "{}",
-            row.title
-        );
-        assert_eq!(rt; ran.told.len(), 0, "{}", row.title);
+fn worked_turns(rt: HostRuntime) -> Result<(), Fail> {
+    for row in [
+        HELLO,
+        NOTHING_ALLOWED,
+        TIE,
+        ENDLESS,
+        TURN_LIMIT,
+        LONGEST_POLLER,
+    ] {
+        holds(&rt, rt.alloc(), &row)?;
     }
     Ok(())
 }
 
-const HELLO: &str =
-    "machine 0\nimage hello hex\n02A00513 00E00893 00000073 00D00893 00000073\nend\n\
-    user alice\ngetcube 0\nspawn hello 0 0\nrun 10\n";
+/// Blocks, windows and messages.
+#[test]
+fn worked_messages(rt: HostRuntime) -> Result<(), Fail> {
+    for row in [GONE, SIZES, WINDOWS, XMSEND, UNBORN, DEAD] {
+        holds(&rt, rt.alloc(), &row)?;
+    }
+    Ok(())
+}
+
+/// Cubes, and the numbers of their nodes.
+#[test]
+fn worked_cubes(rt: HostRuntime) -> Result<(), Fail> {
+    for row in [NO_FIT, NOT_CONTIGUOUS, RENAMING, USED_AGAIN, NUMBERS] {
+        holds(&rt, rt.alloc(), &row)?;
+    }
+    Ok(())
+}
+
+/// What commands and calls are answered, and why processes end.
+#[test]
+fn worked_answers(rt: HostRuntime) -> Result<(), Fail> {
+    for row in [JUMPS, REFUSED_COMMANDS, STOP_CAUSES, ANSWERS] {
+        holds(&rt, rt.alloc(), &row)?;
+    }
+    Ok(())
+}
+
+/// Scripts with hardly a statement, and an image of bytes.
+#[test]
+fn worked_texts(rt: HostRuntime) -> Result<(), Fail> {
+    for row in [IMAGE_AS_BYTES, NO_STATEMENTS, NO_USERS] {
+        holds(&rt, rt.alloc(), &row)?;
+    }
+    Ok(())
+}
+
+/// A script that runs hello, in pieces.
+const HELLO_SCRIPT: &[&str] = &[
+    "machine 0\nimage hello hex\n",
+    HELLO_WORDS,
+    "end\nuser alice\ngetcube 0\nspawn hello 0 0\nrun 10\n",
+];
 
 const HELLO_REPORT: &str =
     "machine 0\nuser alice\ngetcube 0\n= granted mask 0 base 0\nspawn hello 0 0\n= ok\n\
@@ -125,9 +185,10 @@ const HELLO_REPORT: &str =
 #[test]
 fn hello_by_both_calls(rt: HostRuntime) -> Result<(), Fail> {
     let alloc = rt.alloc();
+    let script = HELLO_SCRIPT.concat(alloc)?;
     for through_top in [true, false] {
         let words = words_of(alloc, &["--serial"])?;
-        let bytes = Vec::from_slice(alloc, HELLO.as_bytes())?;
+        let bytes = Vec::from_slice(alloc, script.as_bytes())?;
         let mut source = MemSource::new(bytes, Vec::new(alloc), 7);
         let mut sink = memory_sink(alloc, Vec::new(alloc), 7)?;
         let ended = if through_top {
@@ -244,8 +305,10 @@ fn usage(rt: HostRuntime) -> Result<(), Fail> {
         &[],
     ];
     let told = b"ce: usage: ce [--serial] [--load N]\n".as_slice();
+    let alloc = rt.alloc();
+    let script = HELLO_SCRIPT.concat(alloc)?;
     for line in lines {
-        let ran = run_line(&rt, rt.alloc(), line, HELLO.as_bytes(), SOUND)?;
+        let ran = run_line(&rt, alloc, line, script.as_bytes(), SOUND)?;
         assert_eq!(rt; ran.status, 2);
         assert_eq!(rt; ran.written.len(), 0);
         assert_eq!(rt; ran.told.as_slice(), told);
@@ -309,14 +372,20 @@ fn script_limits(rt: HostRuntime) -> Result<(), Fail> {
 #[test]
 fn an_image_of_the_greatest_length(rt: HostRuntime) -> Result<(), Fail> {
     let alloc = rt.alloc();
-    let head = "machine 0\nimage hello hex\n02A00513 00E00893 00000073 00D00893 00000073\n";
+    let head = "machine 0\nimage hello hex\n";
     let rest = "end\nuser alice\ngetcube 0\nspawn hello 0 0\nrun 10\n";
     let zeros = "00000000\n";
-    let script = text(alloc, &[(head, 1), (zeros, 30_715), (rest, 1)])?;
+    let script = text(
+        alloc,
+        &[(head, 1), (HELLO_WORDS, 1), (zeros, 30_715), (rest, 1)],
+    )?;
     let ran = run_script(&rt, alloc, script.as_str())?;
     assert_eq!(rt; ran.status, 0);
     assert_eq!(rt; ran.written.as_slice(), HELLO_REPORT.as_bytes());
-    let script = text(alloc, &[(head, 1), (zeros, 30_716), (rest, 1)])?;
+    let script = text(
+        alloc,
+        &[(head, 1), (HELLO_WORDS, 1), (zeros, 30_716), (rest, 1)],
+    )?;
     let ran = run_script(&rt, alloc, script.as_str())?;
     assert_eq!(rt; ran.status, 1);
     assert_eq!(rt; ran.told.as_slice(), b"ce: line 2: bad image\n".as_slice());
@@ -349,12 +418,13 @@ fn a_turn_of_the_most_notes(rt: HostRuntime) -> Result<(), Fail> {
 #[test]
 fn faults(rt: HostRuntime) -> Result<(), Fail> {
     let alloc = rt.alloc();
+    let script = HELLO_SCRIPT.concat(alloc)?;
     let broken_source = Ends {
         failing_read: &[0],
         failing_write: &[],
         most: 4096,
     };
-    let ran = run_line(&rt, alloc, &["--serial"], HELLO.as_bytes(), broken_source)?;
+    let ran = run_line(&rt, alloc, &["--serial"], script.as_bytes(), broken_source)?;
     assert_eq!(rt; ran.status, 3);
     assert_eq!(rt; ran.written.len(), 0);
     assert_eq!(rt; ran.told.as_slice(), b"ce: read fault\n".as_slice());
@@ -363,7 +433,7 @@ fn faults(rt: HostRuntime) -> Result<(), Fail> {
         failing_write: &[2],
         most: 8,
     };
-    let ran = run_line(&rt, alloc, &["--serial"], HELLO.as_bytes(), broken_sink)?;
+    let ran = run_line(&rt, alloc, &["--serial"], script.as_bytes(), broken_sink)?;
     assert_eq!(rt; ran.status, 5);
     assert_eq!(rt; ran.written.as_slice(), b"machine 0\nuser a".as_slice());
     assert_eq!(rt; ran.told.as_slice(), b"ce: write fault\n".as_slice());

@@ -2,7 +2,7 @@
 use Rattle.std.proofs.Common.{◌≡◌, ℕ, ◌+◌, ◌-◌, ◌≤◌, ◌<◌, List, [], ◌∷◌, ◌++◌, length, take, get_or, nat_lt, Bool, true, false, cond, ◌||◌, Option, Some, None, Bor, refl, sym, ap, subst, ◌∙◌, arith, append_assoc}
 use Rattle.std.proofs.lemmas.Bool.{ltb-true}
 use Rattle.std.proofs.lemmas.Bool.Decides.{nat_tests}
-use Rattle.std.proofs.lemmas.List.{length-append, length-take, take_at, append-nil, append_cancel_right}
+use Rattle.std.proofs.lemmas.List.{length-append, take_at, append-nil, append_cancel_right}
 use Rattle.std.proofs.lemmas.List.Sums.{split_at_first, passes_at_first}
 use Rattle.ce_text.proofs.Splitting.{split_cut, cut_pieces}
 use Rattle.std.proofs.lemmas.List.Folds.{list_any-append}
@@ -13,10 +13,10 @@ use Rattle.ce_text.specs.Bytes.{is_line_feed}
 use Rattle.ce_text.specs.Line.{cut}
 use Rattle.ce_script.specs.declared.reader.rest.Rest.{Rest}
 use Rattle.ce_script.specs.declared.reader.rest.Body.{Body}
-use Rattle.ce_script.specs.Lines.{Line}
-use Rattle.ce_script.specs.Statements.{is_end, body_in}
-use Rattle.ce_script.specs.ReadLines.{texts_left, numbered_lines, left_of, lines_left, size_of, reach_of, IsBodyIn, statements_from}
-use Rattle.ce_script.proofs.BodyLines.{left_shorter, line_at, joined, text_is, first_line, numbered_append}
+use Rattle.ce_script.specs.Lines.{Line, size_of}
+use Rattle.ce_script.specs.Statements.{is_end, found_body}
+use Rattle.ce_script.specs.ReadLines.{texts_left, numbered_lines, left_of, lines_left, reach_of, IsNext, IsBodyIn, remaining_statements}
+use Rattle.ce_script.proofs.BodyLines.{left, left_shorter, line_at, joined, text_is, first_line, numbered_append}
 use Rattle.ce_script.proofs.Outside.{past_body, body_there, body_missing}
 
 -- ---- pieces
@@ -89,13 +89,19 @@ pub record IsAt (done : List (List ℕ)) (all bytes : List ℕ) : Type 0 where
   pub joins : all ≡ joined done ++ bytes
   pub each : AllByRecursion IsPiece done
 
+-- what was passed before bytes that are left
+pub is_at : (done : List (List ℕ)) (all : List ℕ) (left : Option (Bor (List ℕ))) (bytes : List ℕ) → option_map (λ b. b.now) left ≡ Some bytes
+    → IfSome left (λ bytes. IsAt done all bytes.now) → IsAt done all bytes
+is_at done all None bytes e at = absurd cc
+is_at done all (Some it) bytes e at = let same : it.now ≡ bytes = cc in subst (IsAt done all) same at
+
 -- the search for the end of a body, at what is left
 pub record IsUpTo (rest : Rest) (all : List ℕ) (here : Rest) : Type 0 where
   pub done : List (List ℕ)
-  pub lines : lines_left rest ≡ numbered_lines (rest.before + 1) done ++ lines_left here
-  pub going : list_any is_end (numbered_lines (rest.before + 1) done) ≡ false
+  pub lines : lines_left rest ≡ numbered_lines (rest.line_count + 1) done ++ lines_left here
+  pub going : list_any is_end (numbered_lines (rest.line_count + 1) done) ≡ false
   pub bytes : IfSome here.text (λ bytes. IsAt done all bytes.now)
-  pub before : here.before ≡ rest.before + length done
+  pub before : here.line_count ≡ rest.line_count + length done
   pub reach : reach_of here ≤ reach_of rest
 
 -- ---- one line further
@@ -107,81 +113,79 @@ each_more : (texts : List (List ℕ)) (text : List ℕ) → AllByRecursion IsPie
 each_more [] text each is = (is, tt)
 each_more (one ∷ texts) text each is = (each.0, each_more texts text each.1 is)
 
-pub reach_shorter : (here next : Rest) (bytes : List ℕ) → left_of here ≡ Some bytes → next.before ≡ here.before + 1 → IfSome next.text (λ behind. length behind.now < length bytes) → reach_of next ≤ reach_of here
-reach_shorter here next bytes e before shorter = omega (arith, ap size_of e, before, left_shorter next.text (length bytes) shorter)
+pub reach_shorter : (here : Rest) (bytes : List ℕ) (behind : Option (Bor (List ℕ))) → left_of here ≡ Some bytes → IfSome behind (λ behind. length behind.now < length bytes)
+    → here.line_count + 1 + size_of (left behind) ≤ reach_of here
+reach_shorter here bytes behind e shorter = omega (arith, ap size_of e, left_shorter behind (length bytes) shorter)
 
-module _ (rest here next : Rest) (all bytes front : List ℕ) (up : IsUpTo rest all here) (is : left_of here ≡ Some bytes)
-    (parts : (front, left_of next) ≡ cut is_line_feed bytes) (before : next.before ≡ here.before + 1) (shorter : IfSome next.text (λ behind. length behind.now < length bytes)) where
+-- the lines that are left begin with the next one
+pub next_line : (here : Rest) (front : List ℕ) (next : Rest) → IsNext here front next → lines_left here ≡ line_at next.line_count front ∷ lines_left next
+next_line here front next step =
+    ap (λ (left : Option (List ℕ)). numbered_lines (here.line_count + 1) (texts_left left)) step.is
+    ∙ first_line (here.line_count + 1) step.bytes front (left_of next) step.parts
+    ∙ ap (λ (n : ℕ). line_at n front ∷ numbered_lines (n + 1) (texts_left (left_of next))) (sym step.before)
+
+module _ (rest here next : Rest) (all front : List ℕ) (up : IsUpTo rest all here) (step : IsNext here front next) where
   abbrev line : Line
-  line = line_at (here.before + 1) front
+  line = line_at next.line_count front
 
-  here_lines : lines_left here ≡ line ∷ lines_left next
-  here_lines =
-      ap (λ (left : Option (List ℕ)). numbered_lines (here.before + 1) (texts_left left)) is
-      ∙ first_line (here.before + 1) bytes front (left_of next) parts
-      ∙ ap (λ (n : ℕ). line ∷ numbered_lines (n + 1) (texts_left (left_of next))) (sym before)
+  further : reach_of next ≤ reach_of here
+  further = omega (arith, reach_shorter here step.bytes next.text step.is step.shorter, step.before)
 
-  pub all_lines : lines_left rest ≡ numbered_lines (rest.before + 1) up.done ++ line ∷ lines_left next
-  all_lines = up.lines ∙ ap (λ lines. numbered_lines (rest.before + 1) up.done ++ lines) here_lines
+  pub all_lines : lines_left rest ≡ numbered_lines (rest.line_count + 1) up.done ++ line ∷ lines_left next
+  all_lines = up.lines ∙ ap (λ lines. numbered_lines (rest.line_count + 1) up.done ++ lines) (next_line here front next step)
 
   -- the line is the end
-  pub body_found : (body : Body) → body.at ≡ rest.before → is_end line ≡ true → body.text.now ≡ joined up.done → AllByRecursion IsPiece up.done
-      → body.at + length body.text.now < reach_of rest → IsBodyIn rest body next
-  body_found body at ends text each room =
-      let lines = numbered_lines (rest.before + 1) up.done in
+  pub body_found : (body : Body) → body.line ≡ rest.line_count → is_end line ≡ true → body.text.now ≡ joined up.done → AllByRecursion IsPiece up.done → IsBodyIn rest body next
+  body_found body at ends text each =
+      let lines = numbered_lines (rest.line_count + 1) up.done in
       record {
         lines = lines;
-        here = ap body_in all_lines ∙ body_there lines (lines_left next) line up.going ends;
+        here = ap found_body all_lines ∙ body_there lines (lines_left next) line up.going ends;
         is = record {
-          text = text_is (rest.before + 1) up.done ∙ sym text;
-          last = rest.before + 1 + length up.done;
+          text = text_is (rest.line_count + 1) up.done ∙ sym text;
+          last = rest.line_count + 1 + length up.done;
           shown =
               ap (λ (n : ℕ). numbered_lines (n + 1) (slice_split is_line_feed body.text.now)) at
-              ∙ ap (λ (bytes : List ℕ). numbered_lines (rest.before + 1) (slice_split is_line_feed bytes)) text
-              ∙ ap (numbered_lines (rest.before + 1)) (split_joined up.done each)
-              ∙ numbered_append (rest.before + 1) up.done ([] ∷ []);
+              ∙ ap (λ (bytes : List ℕ). numbered_lines (rest.line_count + 1) (slice_split is_line_feed bytes)) text
+              ∙ ap (numbered_lines (rest.line_count + 1)) (split_joined up.done each)
+              ∙ numbered_append (rest.line_count + 1) up.done ([] ∷ []);
         };
         at = at;
-        past = ap (statements_from true) all_lines ∙ past_body lines (lines_left next) line up.going ends;
-        later = record { lines = omega (arith, up.before, before); reach = omega (arith, reach_shorter here next bytes is before shorter, up.reach) };
-        room = room;
+        past = ap (remaining_statements true) all_lines ∙ past_body lines (lines_left next) line up.going ends;
+        later = record { lines = omega (arith, up.before, step.before); reach = omega (arith, further, up.reach) };
       }
 
-  more_lines : numbered_lines (rest.before + 1) (up.done ++ front ∷ []) ≡ numbered_lines (rest.before + 1) up.done ++ line ∷ []
+  more_lines : numbered_lines (rest.line_count + 1) (up.done ++ front ∷ []) ≡ numbered_lines (rest.line_count + 1) up.done ++ line ∷ []
   more_lines =
-      let same : rest.before + 1 + length up.done ≡ here.before + 1 = omega (arith, up.before) in
-      numbered_append (rest.before + 1) up.done (front ∷ []) ∙ ap (λ (n : ℕ). numbered_lines (rest.before + 1) up.done ++ line_at n front ∷ []) same
+      let same : rest.line_count + 1 + length up.done ≡ next.line_count = omega (arith, up.before, step.before) in
+      numbered_append (rest.line_count + 1) up.done (front ∷ []) ∙ ap (λ (n : ℕ). numbered_lines (rest.line_count + 1) up.done ++ line_at n front ∷ []) same
 
   more_bytes : (left : Option (Bor (List ℕ))) → next.text ≡ left → IfSome here.text (λ bytes. IsAt up.done all bytes.now) → IfSome left (λ behind. IsAt (up.done ++ front ∷ []) all behind.now)
   more_bytes None e at = tt
   more_bytes (Some behind) e at =
-      let behind_is : (front, Some behind.now) ≡ cut is_line_feed bytes = ap (λ (it : Option (Bor (List ℕ))). (front, option_map (λ b. b.now) it)) (sym e) ∙ parts in
-      let here_at = some_at here.text is at in
+      let behind_is : (front, Some behind.now) ≡ cut is_line_feed step.bytes = ap (λ (it : Option (Bor (List ℕ))). (front, option_map (λ b. b.now) it)) (sym e) ∙ step.parts in
+      let here_at = is_at up.done all here.text step.bytes step.is at in
       record {
         joins =
             here_at.joins
-            ∙ ap (λ (left : List ℕ). joined up.done ++ left) (cut_bytes front behind.now bytes behind_is ∙ sym (append_assoc front (10 ∷ []) behind.now))
+            ∙ ap (λ (left : List ℕ). joined up.done ++ left) (cut_bytes front behind.now step.bytes behind_is ∙ sym (append_assoc front (10 ∷ []) behind.now))
             ∙ sym (append_assoc (joined up.done) (front ++ 10 ∷ []) behind.now)
             ∙ ap (λ (text : List ℕ). text ++ behind.now) (sym (joined_more up.done front));
-        each = each_more up.done front here_at.each (cut_piece front behind.now bytes behind_is);
+        each = each_more up.done front here_at.each (cut_piece front behind.now step.bytes behind_is);
       }
-    where
-      some_at : (left : Option (Bor (List ℕ))) → option_map (λ b. b.now) left ≡ Some bytes → IfSome left (λ bytes. IsAt up.done all bytes.now) → IsAt up.done all bytes
-      some_at None e at = absurd cc
-      some_at (Some it) e at = let same : it.now ≡ bytes = cc in subst (IsAt up.done all) same at
 
   -- the line is another
   pub body_goes_on : is_end line ≡ false → IsUpTo rest all next
   body_goes_on other =
       record {
         done = up.done ++ front ∷ [];
-        lines = all_lines ∙ sym (append_assoc (numbered_lines (rest.before + 1) up.done) (line ∷ []) (lines_left next)) ∙ ap (λ lines. lines ++ lines_left next) (sym more_lines);
+        lines = all_lines ∙ sym (append_assoc (numbered_lines (rest.line_count + 1) up.done) (line ∷ []) (lines_left next)) ∙ ap (λ lines. lines ++ lines_left next) (sym more_lines);
         going =
-            ap (list_any is_end) more_lines ∙ list_any-append is_end (numbered_lines (rest.before + 1) up.done) (line ∷ [])
+            ap (list_any is_end) more_lines ∙ list_any-append is_end (numbered_lines (rest.line_count + 1) up.done) (line ∷ [])
             ∙ ap (λ found. found || (is_end line || false)) up.going ∙ ap (λ ends. ends || false) other;
         bytes = more_bytes next.text refl up.bytes;
-        before = before ∙ omega (arith, up.before, length-append up.done (front ∷ []));
-        reach = omega (arith, reach_shorter here next bytes is before shorter, up.reach);
+        before = step.before ∙ omega (arith, up.before, length-append up.done (front ∷ []));
+        reach = omega (arith, further, up.reach);
       }
 
 -- the search begins
@@ -200,26 +204,18 @@ begins rest all e = record {
     at (Some it) e = record { joins = e; each = tt }
 
 -- nothing is left, and no end was found
-pub body_ended : (rest here : Rest) (all : List ℕ) → IsUpTo rest all here → left_of here ≡ None → body_in (lines_left rest) ≡ None
+pub body_ended : (rest here : Rest) (all : List ℕ) → IsUpTo rest all here → left_of here ≡ None → found_body (lines_left rest) ≡ None
 body_ended rest here all up none =
-    let lines = numbered_lines (rest.before + 1) up.done in
-    let empty : lines_left here ≡ [] = ap (λ (left : Option (List ℕ)). numbered_lines (here.before + 1) (texts_left left)) none in
+    let lines = numbered_lines (rest.line_count + 1) up.done in
+    let empty : lines_left here ≡ [] = ap (λ (left : Option (List ℕ)). numbered_lines (here.line_count + 1) (texts_left left)) none in
     let all_lines : lines_left rest ≡ lines = up.lines ∙ ap (λ rest. lines ++ rest) empty ∙ append-nil lines in
     body_missing (lines_left rest) (ap (list_any is_end) all_lines ∙ up.going)
 
-pub nothing_left : (rest : Rest) → left_of rest ≡ None → body_in (lines_left rest) ≡ None
-nothing_left rest none = body_missing (lines_left rest) (ap (λ (left : Option (List ℕ)). list_any is_end (numbered_lines (rest.before + 1) (texts_left left))) none)
+pub nothing_left : (rest : Rest) → left_of rest ≡ None → found_body (lines_left rest) ≡ None
+nothing_left rest none = body_missing (lines_left rest) (ap (λ (left : Option (List ℕ)). list_any is_end (numbered_lines (rest.line_count + 1) (texts_left left))) none)
 
 -- what stands before what is left
 pub taken : (all front bytes : List ℕ) → all ≡ front ++ bytes → take (length all - length bytes) all ≡ front
 taken all front bytes e =
     let count : length front ≡ length all - length bytes = omega (arith, ap length e, length-append front bytes) in
     ap (take (length all - length bytes)) e ∙ take_at front bytes (length all - length bytes) count
-
-pub is_at : (done : List (List ℕ)) (all : List ℕ) (left : Option (Bor (List ℕ))) (it : Bor (List ℕ)) → left ≡ Some it → IfSome left (λ bytes. IsAt done all bytes.now) → IsAt done all it.now
-is_at done all None it e at = absurd cc
-is_at done all (Some one) it e at = let same : one ≡ it = cc in subst (λ (b : Bor (List ℕ)). IsAt done all b.now) same at
-
--- a body ends before what is left of all
-pub room_left : (rest : Rest) (all bytes : List ℕ) → left_of rest ≡ Some all → rest.before + length (take (length all - length bytes) all) < reach_of rest
-room_left rest all bytes is = omega (arith, ap size_of is, length-take (length all - length bytes) all)

@@ -7,11 +7,11 @@ use Rattle.std.specs.Option.{option_or}
 use Rattle.std.specs.List.{list_any, slice_split}
 use Rattle.ce_text.specs.Bytes.{is_line_feed}
 use Rattle.ce_text.specs.Line.{cut, before_comment}
-use Rattle.ce_text.specs.Words.{words as words_between}
+use Rattle.ce_text.specs.Words.{words_between}
 use Rattle.ce_text.proofs.Splitting.{split_cut, split_behind, cut_pieces}
-use Rattle.ce_script.specs.Lines.{Line, words, has_bad_byte}
-use Rattle.ce_script.specs.Bodies.{has_bad_word, bytes_of, text_of}
-use Rattle.ce_script.specs.ReadLines.{texts_left, numbered_lines, size_of, with_empty}
+use Rattle.ce_script.specs.Lines.{Line, words, has_bad_byte, size_of}
+use Rattle.ce_script.specs.Bodies.{has_bad_word, body_bytes, text_of}
+use Rattle.ce_script.specs.ReadLines.{texts_left, numbered_lines, with_empty}
 
 -- the bytes that are left, if any
 abbrev pub left : Option (Bor (List ℕ)) → Option (List ℕ)
@@ -41,12 +41,12 @@ module _ (n : ℕ) (bytes front : List ℕ) (after : Option (List ℕ)) (parts :
   pub goes_on : (test : Line → Bool) → test (line_at n front) ≡ false → find test (numbered_lines n (slice_split is_line_feed bytes)) ≡ find test (numbered_lines (n + 1) (texts_left after))
   goes_on test e = ap (find test) (first_line n bytes front after parts) ∙ ap (λ here. cond here (Some (line_at n front)) (find test (numbered_lines (n + 1) (texts_left after)))) e
 
-  pub bytes_on : (read : List ℕ → Option (List ℕ)) → bytes_of read (numbered_lines n (slice_split is_line_feed bytes)) ≡ flat_map (λ word. unwrap_or (read word) []) (words (line_at n front)) ++ bytes_of read (numbered_lines (n + 1) (texts_left after))
-  unfolding bytes_of
-  bytes_on read = ap (bytes_of read) (first_line n bytes front after parts)
+  pub bytes_on : (read : List ℕ → Option (List ℕ)) → body_bytes read (numbered_lines n (slice_split is_line_feed bytes)) ≡ flat_map (λ word. unwrap_or (read word) []) (words (line_at n front)) ++ body_bytes read (numbered_lines (n + 1) (texts_left after))
+  unfolding body_bytes
+  bytes_on read = ap (body_bytes read) (first_line n bytes front after parts)
 
-pub no_bytes : (read : List ℕ → Option (List ℕ)) (n : ℕ) → bytes_of read (numbered_lines n []) ≡ []
-unfolding bytes_of
+pub no_bytes : (read : List ℕ → Option (List ℕ)) (n : ℕ) → body_bytes read (numbered_lines n []) ≡ []
+unfolding body_bytes
 no_bytes read n = refl
 
 -- ---- an empty line at the end
@@ -79,8 +79,8 @@ shown_bad_byte lines last = find_last has_bad_byte lines last (empty_plain last)
 pub shown_bad_word : (read : List ℕ → Option (List ℕ)) (lines : List Line) (last : ℕ) → find (has_bad_word read) (with_empty lines last) ≡ find (has_bad_word read) lines
 shown_bad_word read lines last = find_last (has_bad_word read) lines last (ap (list_any (λ word. is_none (read word))) (empty_words last))
 
-pub shown_bytes : (read : List ℕ → Option (List ℕ)) (lines : List Line) (last : ℕ) → bytes_of read (with_empty lines last) ≡ bytes_of read lines
-unfolding bytes_of
+pub shown_bytes : (read : List ℕ → Option (List ℕ)) (lines : List Line) (last : ℕ) → body_bytes read (with_empty lines last) ≡ body_bytes read lines
+unfolding body_bytes
 shown_bytes read lines last =
     let f : Line → List ℕ = λ line. flat_map (λ word. unwrap_or (read word) []) (words line) in
     flat_map-append f lines (line_at last [] ∷ [])

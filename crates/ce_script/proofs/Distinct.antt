@@ -4,8 +4,8 @@ use Rattle.std.proofs.lemmas.Bool.{not-true, or_parts}
 use Rattle.std.proofs.lemmas.Slice.Eq.{bytes_eq-Decides}
 use Rattle.std.specs.Prelude.{bytes_eq, filter}
 use Rattle.std.specs.List.{AllByRecursion, IsDistinct}
-use Rattle.ce_script.specs.Sayings.{distinct}
-use Rattle.ce_script.specs.Faults.{is_among}
+use Rattle.ce_script.specs.Sayings.{without_repeats}
+use Rattle.ce_script.specs.Faults.{is_one_name_of}
 use Rattle.ce_script.proofs.Spots.{each_of}
 
 -- ---- what holds of each
@@ -30,10 +30,10 @@ each_behind : {A : Type 0} (P : A → Type 0) (all : List A) (one : A) → AllBy
 each_behind P [] one each p = (p, tt)
 each_behind P (first ∷ others) one each p = (each.0, each_behind P others one each.1 p)
 
-pub distinct_each : (P : List ℕ → Type 0) (names : List (List ℕ)) → AllByRecursion P names → AllByRecursion P (distinct names)
+pub distinct_each : (P : List ℕ → Type 0) (names : List (List ℕ)) → AllByRecursion P names → AllByRecursion P (without_repeats names)
 distinct_each P [] each = tt
 distinct_each P (name ∷ names) each =
-    (each.0, filter_each P (λ other. not (bytes_eq name other)) (distinct names) (distinct_each P names each.1))
+    (each.0, filter_each P (λ other. not (bytes_eq name other)) (without_repeats names) (distinct_each P names each.1))
 
 -- ---- names, each where it first appears
 
@@ -46,13 +46,13 @@ filter_distinct test (name ∷ names) is =
       | false ↦ filter_distinct test names is.1
     ]
 
-pub distinct_are_distinct : (names : List (List ℕ)) → IsDistinct bytes_eq (distinct names)
+pub distinct_are_distinct : (names : List (List ℕ)) → IsDistinct bytes_eq (without_repeats names)
 unfolding IsDistinct
 distinct_are_distinct [] = tt
 distinct_are_distinct (name ∷ names) =
     let test : List ℕ → Bool = λ other. not (bytes_eq name other) in (
-      each_of (λ other. test other ≡ true) (λ other. bytes_eq name other ≡ false) (filter test (distinct names)) (λ other. not-true (bytes_eq name other)) (each_passes test (distinct names)),
-      filter_distinct test (distinct names) (distinct_are_distinct names),
+      each_of (λ other. test other ≡ true) (λ other. bytes_eq name other ≡ false) (filter test (without_repeats names)) (λ other. not-true (bytes_eq name other)) (each_passes test (without_repeats names)),
+      filter_distinct test (without_repeats names) (distinct_are_distinct names),
     )
 
 -- ---- one name more
@@ -64,9 +64,9 @@ flipped one other apart =
       | false ↦ λ _. refl
     ] refl
 
-pub distinct_behind : (names : List (List ℕ)) (name : List ℕ) → IsDistinct bytes_eq names → is_among names name ≡ false → IsDistinct bytes_eq (names ++ name ∷ [])
+pub distinct_behind : (names : List (List ℕ)) (name : List ℕ) → IsDistinct bytes_eq names → is_one_name_of names name ≡ false → IsDistinct bytes_eq (names ++ name ∷ [])
 unfolding IsDistinct
 distinct_behind [] name is apart = (tt, tt)
 distinct_behind (first ∷ names) name is apart =
-    let both = or_parts (bytes_eq name first) (is_among names name) apart in
+    let both = or_parts (bytes_eq name first) (is_one_name_of names name) apart in
     (each_behind (λ other. bytes_eq first other ≡ false) names name is.0 (flipped name first both.0), distinct_behind names name is.1 both.1)

@@ -5,16 +5,16 @@ use Rattle.std.proofs.lemmas.List.Sums.{count_by-le-length}
 use Rattle.rv_model.specs.declared.memory.NoMemory.{NoMemory}
 use Rattle.rv_model.specs.Image.{image_start}
 use Rattle.ce_text.specs.Bytes.{is_line_feed}
-use Rattle.ce_text.specs.Line.{without_outer_blanks, lines}
+use Rattle.ce_text.specs.Line.{without_outer_blanks, line_texts}
 use Rattle.rv_asm.specs.declared.fault.AsmKind.{AsmKind}
-use Rattle.rv_asm.specs.declared.fault.AsmKind.TheVariants as asm
+use Rattle.rv_asm.specs.declared.fault.AsmKind.TheVariants as kinds
 use Rattle.rv_asm.specs.declared.fault.AsmFault.{AsmFault}
 use Rattle.rv_asm.specs.declared.statement.Statement.{Statement}
 use Rattle.rv_asm.specs.declared.statement.PlacedStatement.{PlacedStatement}
 use Rattle.rv_asm.specs.declared.symbols.Symbol.{Symbol}
 use Rattle.rv_asm.specs.Names.{Names}
-use Rattle.rv_asm.specs.Faults.{◌>>=◌, refuse, Unless}
-use Rattle.rv_asm.specs.FirstPass.{LayoutSoFar, laid_of, nothing_laid, place, place_all, define, equ, lay, statement, labelled_statement, line_laid, at_line, lines_laid, first_pass}
+use Rattle.rv_asm.specs.Faults.{◌>>=◌, refusal, Unless}
+use Rattle.rv_asm.specs.FirstPass.{LayoutSoFar, layout_of, nothing_laid, layout_with_statement, layout_with_all, layout_with_name, layout_with_number, layout_with_statements, statement, labelled_statement, line_laid, at_line, lines_laid, first_pass}
 use Rattle.rv_asm.specs.SecondPass.{Part, parts_of, second_pass}
 use Rattle.rv_asm.specs.Assembly.{Assembly, entry_of, assembly_of}
 use Rattle.rv_asm.specs.Sizes.{size_of}
@@ -61,31 +61,31 @@ keeps_then : {E : Type 0} (line : ℕ) (laid : LayoutSoFar) (r : Result LayoutSo
 keeps_then line laid (Ok one) next first h = record { up = λ last e before. (h one).up last e (first.up one refl before) }
 keeps_then line laid (Err kind) next first h = refused line laid kind
 
-named : (line : ℕ) (laid : LayoutSoFar) (names : Names) → HasKept {E = AsmKind} line laid (Ok (laid_of names laid.statements laid.size))
+named : (line : ℕ) (laid : LayoutSoFar) (names : Names) → HasKept {E = AsmKind} line laid (Ok (layout_of names laid.statements laid.size))
 named line laid names = keeps_ok line laid _ (λ h. h)
 
-placed : (line : ℕ) (laid : LayoutSoFar) (it : Statement) (size : ℕ) → HasKept {E = AsmKind} line laid (Ok (laid_of laid.names (laid.statements ++ record { line = line; statement = it } ∷ []) size))
+placed : (line : ℕ) (laid : LayoutSoFar) (it : Statement) (size : ℕ) → HasKept {E = AsmKind} line laid (Ok (layout_of laid.names (laid.statements ++ record { line = line; statement = it } ∷ []) size))
 placed line laid it size = keeps_ok line laid _ (λ h. up_push line laid.statements (record { line = line; statement = it }) h (omega arith))
 
-place_keeps : (line : ℕ) (laid : LayoutSoFar) (it : Statement) → HasKept line laid (place line laid it)
-unfolding place
+place_keeps : (line : ℕ) (laid : LayoutSoFar) (it : Statement) → HasKept line laid (layout_with_statement line laid it)
+unfolding layout_with_statement
 place_keeps line laid it = search (keeps_next, placed)
 
-place_all_keeps : (line : ℕ) (laid : LayoutSoFar) (these : List Statement) → HasKept line laid (place_all line laid these)
-unfolding place_all
+place_all_keeps : (line : ℕ) (laid : LayoutSoFar) (these : List Statement) → HasKept line laid (layout_with_all line laid these)
+unfolding layout_with_all
 place_all_keeps line laid [] = keeps_ok line laid laid (λ h. h)
-place_all_keeps line laid (it ∷ these) = keeps_then line laid (place line laid it) _ (place_keeps line laid it) (λ one. place_all_keeps line one these)
+place_all_keeps line laid (it ∷ these) = keeps_then line laid (layout_with_statement line laid it) _ (place_keeps line laid it) (λ one. place_all_keeps line one these)
 
-define_keeps : (line : ℕ) (laid : LayoutSoFar) (name : List ℕ) (symbol : Symbol) → HasKept line laid (define laid name symbol)
-unfolding define
+define_keeps : (line : ℕ) (laid : LayoutSoFar) (name : List ℕ) (symbol : Symbol) → HasKept line laid (layout_with_name laid name symbol)
+unfolding layout_with_name
 define_keeps line laid name symbol = search (keeps_next, named)
 
-equ_keeps : (line : ℕ) (laid : LayoutSoFar) (operands : List ℕ) → HasKept line laid (equ laid operands)
-unfolding equ
+equ_keeps : (line : ℕ) (laid : LayoutSoFar) (operands : List ℕ) → HasKept line laid (layout_with_number laid operands)
+unfolding layout_with_number
 equ_keeps line laid operands = search (keeps_next, define_keeps)
 
-lay_keeps : (line : ℕ) (laid : LayoutSoFar) (word operands : List ℕ) → HasKept line laid (lay line laid word operands)
-unfolding lay
+lay_keeps : (line : ℕ) (laid : LayoutSoFar) (word operands : List ℕ) → HasKept line laid (layout_with_statements line laid word operands)
+unfolding layout_with_statements
 lay_keeps line laid word operands = search (keeps_next, place_all_keeps)
 
 either_keeps : (line : ℕ) (laid : LayoutSoFar) (test : Bool) (first second : Result LayoutSoFar AsmKind) → HasKept line laid first → HasKept line laid second → HasKept line laid (cond test first second)
@@ -164,7 +164,7 @@ then_line {A} {B} (Err one) next last fault first second e =
     let same : one.line ≡ fault.line = ap (line_in {A = B}) e in
     omega (arith, same, le)
 
-entry_line : (test : Bool) (last : ℕ) (fault : AsmFault) → at_line 0 (refuse test asm.Entry) ≡ Err fault → fault.line ≤ last
+entry_line : (test : Bool) (last : ℕ) (fault : AsmFault) → at_line 0 (refusal test kinds.Entry) ≡ Err fault → fault.line ≤ last
 entry_line true last fault e =
     let same : 0 ≡ fault.line = ap (line_in {A = Unit {0}}) e in
     omega (arith, same)
@@ -173,41 +173,41 @@ entry_line false last fault e = absurd cc
 -- what comes behind the second pass
 abbrev entered : LayoutSoFar → List Part → Result Assembly AsmFault
 entered laid parts =
-    at_line 0 (refuse (not (is_entry (entry_of laid.names) laid.size)) asm.Entry) >>= λ begins. Ok (record { entry = entry_of laid.names; parts = parts })
+    at_line 0 (refusal (not (is_entry (entry_of laid.names) laid.size)) kinds.Entry) >>= λ begins. Ok (record { entry = entry_of laid.names; parts = parts })
 
 entered_line : (laid : LayoutSoFar) (parts : List Part) (last : ℕ) (fault : AsmFault) → entered laid parts ≡ Err fault → fault.line ≤ last
 entered_line laid parts last fault e =
     let test = not (is_entry (entry_of laid.names) laid.size) in
-    then_line (at_line 0 (refuse test asm.Entry)) (λ begins. Ok (record { entry = entry_of laid.names; parts = parts })) last fault
+    then_line (at_line 0 (refusal test kinds.Entry)) (λ begins. Ok (record { entry = entry_of laid.names; parts = parts })) last fault
     (entry_line test last) (λ begins here other. absurd cc) e
 
 -- what comes behind the first pass
 abbrev behind_first : LayoutSoFar → Result Assembly AsmFault
 behind_first laid = second_pass laid.names image_start laid.statements >>= entered laid
 
-assembled_line : (text : List ℕ) (fault : AsmFault) → assembly_of text ≡ Err fault → fault.line ≤ 0 + length (lines text)
+assembled_line : (text : List ℕ) (fault : AsmFault) → assembly_of text ≡ Err fault → fault.line ≤ 0 + length (line_texts text)
 unfolding assembly_of first_pass
 assembled_line text fault e =
-    let last = 0 + length (lines text) in
-    let all = all_lines 0 nothing_laid (lines text) in
-    then_line (lines_laid 0 nothing_laid (lines text)) behind_first last fault all.fault
+    let last = 0 + length (line_texts text) in
+    let all = all_lines 0 nothing_laid (line_texts text) in
+    then_line (lines_laid 0 nothing_laid (line_texts text)) behind_first last fault all.fault
     (λ laid is. then_line (second_pass laid.names image_start laid.statements) (entered laid) last fault
     (λ one. second_line laid.names image_start last laid.statements one (all.up laid is tt))
     (λ parts there. entered_line laid parts last fault))
     e
 
-fewer : (text : List ℕ) → length (lines text) ≤ length text + 1
+fewer : (text : List ℕ) → length (line_texts text) ≤ length text + 1
 fewer text =
     let n = length-slice_split is_line_feed text in
     let le = count_by-le-length is_line_feed text in
     omega (arith, n, le)
 
-known : {P : Type 0} (kind : AsmKind) → ((want : NoMemory) → kind ≡ asm.Memory want → ⊥) → Unless kind P → P
-known (asm.Memory want) not h = absurd (not want refl)
+known : {P : Type 0} (kind : AsmKind) → ((want : NoMemory) → kind ≡ kinds.Memory want → ⊥) → Unless kind P → P
+known (kinds.Memory want) not h = absurd (not want refl)
 known kind not h = h
 
 -- there are no more lines than bytes and one
-pub fault_line : (text : List ℕ) (fault : AsmFault) → ((want : NoMemory) → fault.kind ≡ asm.Memory want → ⊥) → Unless fault.kind (assembly_of text ≡ Err fault) → fault.line ≤ length text + 1
+pub fault_line : (text : List ℕ) (fault : AsmFault) → ((want : NoMemory) → fault.kind ≡ kinds.Memory want → ⊥) → Unless fault.kind (assembly_of text ≡ Err fault) → fault.line ≤ length text + 1
 fault_line text fault not h =
     let le = assembled_line text fault (known fault.kind not h) in
     let few = fewer text in

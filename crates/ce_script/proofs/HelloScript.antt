@@ -3,7 +3,7 @@ use Rattle.std.proofs.Common.{ℕ, List, [], ◌∷◌, Some, refl, codes}
 use Rattle.rv_model.specs.Image.{image_parts}
 use Rattle.ce_host.specs.declared.command.Command.TheVariants.{Getcube, Spawn, Run}
 use Rattle.ce_script.specs.declared.script.Script.{Script}
-use Rattle.ce_script.specs.Sayings.{dimension, images, commands, command_in}
+use Rattle.ce_script.specs.Sayings.{dimension, images, commands, command_of_statement}
 use Rattle.ce_script.specs.Scripts.{IsScript}
 use Rattle.ce_script.proofs.Computing.{text, grammar}
 use Rattle.ce_script.proofs.FirstFaults.{hello_is_right}
@@ -25,5 +25,5 @@ hello_said = record {
 }
 
 pub hello_is_script : IsScript hello hello_said
-unfolding grammar dimension images commands command_in
+unfolding grammar dimension images commands command_of_statement
 hello_is_script = record { no_fault = hello_is_right; dim = refl; images = refl; users = refl; commands = refl }

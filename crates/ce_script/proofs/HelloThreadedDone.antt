@@ -5,21 +5,21 @@ use Rattle.rv_model.specs.Image.{ImageParts}
 use Rattle.ce_model.specs.declared.topology.TheConstants.{HOST}
 use Rattle.ce_model.specs.declared.entry.Entry.{Entry}
 use Rattle.ce_model.specs.declared.entry.What.TheVariants.{Arm, Look, Note, Take}
-use Rattle.ce_model.specs.declared.entry.LookResult.TheVariants.{Quiet as FoundQuiet}
+use Rattle.ce_model.specs.declared.entry.LookResult.TheVariants as look_result
 use Rattle.ce_model.specs.declared.entry.TakeResult.TheVariants.{Start, Idle}
 use Rattle.ce_host.specs.declared.answer.Answer.TheVariants.{Quiet}
 use Rattle.ce_script.specs.Rounds.{threaded, joined_lists, is_take, IsTurn, is_dispatch, IsShare, IsThreadedRound}
 use Rattle.ce_script.specs.Commands.{IsRun}
-use Rattle.ce_script.proofs.Rows.{two_rounds, by}
+use Rattle.ce_script.proofs.Rows.{two_rounds, entry_of}
 
 abbrev started : Entry
-started = by 0 0 (Take 0 0 None (Start 0 0))
+started = entry_of 0 0 (Take 0 0 None (Start 0 0))
 
 abbrev noted : Entry
-noted = by 0 0 (Note 0 42)
+noted = entry_of 0 0 (Note 0 42)
 
 abbrev idle : Entry
-idle = by 0 0 (Take 0 1 None Idle)
+idle = entry_of 0 0 (Take 0 1 None Idle)
 
 -- the entries of a node among others
 abbrev of_node : ℕ → List Entry → List Entry
@@ -65,18 +65,18 @@ idle_is_round = record { nodes = (lit< tt, tt); shares = idle_shares }
 
 -- the round with work ends idle, and the last round is idle
 pub hello_ran : (image : ImageParts) → IsRun threaded (record { user = 0; dim = 0; images = image ∷ [] }) 10 Quiet
-    (by 0 HOST (Arm 10) ∷ (work_entries ++ (idle_entries ++ by 0 HOST (Look FoundQuiet) ∷ [])))
+    (entry_of 0 HOST (Arm 10) ∷ (work_entries ++ (idle_entries ++ entry_of 0 HOST (Look look_result.Quiet) ∷ [])))
 hello_ran image = two_rounds threaded 0 image 10 work_entries idle_entries (work_is_round, refl) (idle_is_round, refl)
 
 -- ---- two nodes at once
 
 -- node 1 has nothing to do and says so in the middle of node 0's turn
 abbrev pub mixed_entries : List Entry
-mixed_entries = started ∷ by 0 1 (Take 0 0 None Idle) ∷ noted ∷ idle ∷ []
+mixed_entries = started ∷ entry_of 0 1 (Take 0 0 None Idle) ∷ noted ∷ idle ∷ []
 
 mixed_shares : (r : ℕ) → r < 2 ^ 1 → IsShare r (of_node r mixed_entries)
 mixed_shares zero below = work_share
-mixed_shares (suc zero) below = share_of_one 1 (by 0 1 (Take 0 0 None Idle)) (refl, tt, (refl, tt)) refl
+mixed_shares (suc zero) below = share_of_one 1 (entry_of 0 1 (Take 0 0 None Idle)) (refl, tt, (refl, tt)) refl
 mixed_shares (suc (suc r)) below = absurd (omega (arith, below))
 
 pub mixed_is_round : IsThreadedRound 1 mixed_entries

@@ -13,7 +13,7 @@ use Rattle.std.specs.Map.{update}
 use Rattle.ce_text.specs.declared.names.NameTable.{NameTable}
 use Rattle.ce_text.specs.Names.{meanings_of}
 use Rattle.ce_script.specs.declared.script.ScriptKind.TheVariants.{NameTaken}
-use Rattle.ce_script.specs.Faults.{fault_where, is_among, operand_fault}
+use Rattle.ce_script.specs.Faults.{kind_where, is_one_name_of, operand_fault}
 use Rattle.ce_script.specs.Places.{IsIndexOf}
 use Rattle.ce_script.specs.Standing.{new_image_fault}
 use Rattle.ce_script.specs.Verbs.{NewImage}
@@ -72,8 +72,8 @@ index_more old new names name place is none last e other =
 pub no_place : (names : List (List ℕ)) (name : List ℕ) → new_image_fault names name ≡ None → position (bytes_eq name) names ≡ None
 no_place names name e =
     let named = (or_none (operand_fault names NewImage name) _ e).0 in
-    let free = (or_none _ (fault_where (is_among names name) NameTaken) named).1 in
-    by (position (bytes_eq name) names) (among_place names name ∙ refused_none (is_among names name) NameTaken free)
+    let free = (or_none _ (kind_where (is_one_name_of names name) NameTaken) named).1 in
+    by (position (bytes_eq name) names) (among_place names name ∙ refused_none (is_one_name_of names name) NameTaken free)
   where
     by : (found : Option ℕ) → is_some found ≡ false → found ≡ None
     by None e = refl

@@ -9,9 +9,9 @@ use Rattle.ce_script.specs.declared.grammar.Verb.{Verb}
 use Rattle.ce_script.specs.declared.grammar.Verb.TheVariants.{Machine, Image, User}
 use Rattle.ce_script.specs.Lines.{Spot, spots, words}
 use Rattle.ce_script.specs.Verbs.{verb_of, is_machine, is_image, is_user, operands_of}
-use Rattle.ce_script.specs.Statements.{Statement, operand, is_of}
-use Rattle.ce_script.specs.Bodies.{fault_at}
-use Rattle.ce_script.specs.Sayings.{of_kind, names_in}
+use Rattle.ce_script.specs.Statements.{Statement, operand, has_verb_kind}
+use Rattle.ce_script.specs.Bodies.{located_fault}
+use Rattle.ce_script.specs.Sayings.{of_kind, stated_names}
 use Rattle.ce_script.specs.Faults.{expected_operands, lacks_machine, lacks_user, placed_fault, operands_fault, is_one_too_many, line_faults, line_fault, image_fault, statement_fault}
 use Rattle.ce_script.proofs.Spots.{or_none, map_none, each_none, each_mapped_none, refused_none, each_of}
 
@@ -27,7 +27,7 @@ pub record IsRight (spot : Spot Statement) : Type 0 where
 right : (spot : Spot Statement) → statement_fault spot ≡ None → IsRight spot
 unfolding line_fault operands_fault
 right spot e =
-    let line = map_none (fault_at spot.here.line.number) (line_fault spot) (or_none (option_map (fault_at spot.here.line.number) (line_fault spot)) (image_fault spot.here) e).0 in
+    let line = map_none (located_fault spot.here.line.number) (line_fault spot) (or_none (option_map (located_fault spot.here.line.number) (line_fault spot)) (image_fault spot.here) e).0 in
     let rows = each_none (line_faults spot) line in
     record {
       machine = refused_none _ _ rows.1.1.1.0;
@@ -67,5 +67,5 @@ user_alone other e = absurd cc
 
 -- ---- names
 
-pub names_append : (kind : Verb → Bool) (before more : List Statement) → names_in (of_kind kind (before ++ more)) ≡ names_in (of_kind kind before) ++ names_in (of_kind kind more)
-names_append kind before more = ap names_in (filter-append (is_of kind) before more) ∙ map-append (operand 1) (of_kind kind before) (of_kind kind more)
+pub names_append : (kind : Verb → Bool) (before more : List Statement) → stated_names (of_kind kind (before ++ more)) ≡ stated_names (of_kind kind before) ++ stated_names (of_kind kind more)
+names_append kind before more = ap stated_names (filter-append (has_verb_kind kind) before more) ∙ map-append (operand 1) (of_kind kind before) (of_kind kind more)

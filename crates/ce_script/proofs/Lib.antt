@@ -26,7 +26,6 @@ pub mod NoFitDone
 pub mod OneScript
 pub mod Numbers
 pub mod OperandFaults
-pub mod Others
 pub mod Outside
 pub mod Indexing
 pub mod RingImage

@@ -2,8 +2,9 @@
 use Rattle.std.proofs.Common.{ℕ, ◌<◌, ◌≤◌, List, [], ◌∷◌, ◌++◌, length, map, flat_map, lit<, lit≤, refl}
 use Rattle.std.specs.List.{AllByRecursion, IsDistinct}
 use Rattle.ce_model.specs.Limits.{greatest_dim, greatest_count, greatest_users, greatest_images, block_room}
+use Rattle.ce_text.specs.Name as text
 use Rattle.ce_script.specs.Names.{is_name, name_room}
-use Rattle.ce_script.specs.Load.{load, load_commands, load_message, number_after, commands_of}
+use Rattle.ce_script.specs.Load.{load, load_commands, load_message, load_number, numbered_commands}
 use Rattle.ce_script.specs.Bounds.{IsOwnCommandWithin, IsWithinLimits}
 use Rattle.ce_script.proofs.MadeLoads.{message_short}
 
@@ -19,14 +20,14 @@ own_within k message own short =
     ((own, lit≤ tt), ((own, lit< tt), ((own, lit< tt), ((own, lit< tt), ((own, lit< tt), ((own, short), ((own, lit≤ tt), ((own, tt), tt))))))))
 
 -- the commands of these users
-all_within : (seed : ℕ) (users : List ℕ) → AllByRecursion (λ k. k < 4) users → AllByRecursion (IsOwnCommandWithin 4 1) (flat_map (commands_of seed) users)
+all_within : (seed : ℕ) (users : List ℕ) → AllByRecursion (λ k. k < 4) users → AllByRecursion (IsOwnCommandWithin 4 1) (flat_map (numbered_commands seed) users)
 all_within seed [] each = tt
 all_within seed (k ∷ users) each =
-    append (IsOwnCommandWithin 4 1) (commands_of seed k) (flat_map (commands_of seed) users)
-    (own_within k (load_message seed k) each.0 (message_short (number_after seed k))) (all_within seed users each.1)
+    append (IsOwnCommandWithin 4 1) (numbered_commands seed k) (flat_map (numbered_commands seed) users)
+    (own_within k (load_message seed k) each.0 (message_short (load_number seed k))) (all_within seed users each.1)
 
 pub load_within : (seed : ℕ) → IsWithinLimits (load seed)
-unfolding load greatest_dim greatest_users greatest_images is_name name_room IsDistinct
+unfolding load greatest_dim greatest_users greatest_images is_name name_room text.is_name IsDistinct
 load_within seed = record {
   dim = lit≤ tt;
   users = lit≤ tt;

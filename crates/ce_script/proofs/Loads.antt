@@ -1,6 +1,6 @@
 -- The load of seed 0, computed.
 use Rattle.std.proofs.Common.{◌≡◌, ℕ, List, [], ◌∷◌, ◌++◌, None, refl, codes}
-use Rattle.ce_script.specs.Sayings.{dimension, images, commands, command_in}
+use Rattle.ce_script.specs.Sayings.{dimension, images, commands, command_of_statement}
 use Rattle.ce_script.specs.Faults.{first_fault}
 use Rattle.ce_script.specs.Scripts.{IsScript}
 use Rattle.ce_script.specs.Load.{ring_lines, ring_image, load, load_message}
@@ -50,5 +50,5 @@ load_0_is_right = refl
 
 -- it is the load
 load_0_is_load : IsScript load_0 (load 0)
-unfolding load ring_image load_0 grammar assembler dimension images commands command_in
+unfolding load ring_image load_0 grammar assembler dimension images commands command_of_statement
 load_0_is_load = record { no_fault = load_0_is_right; dim = refl; images = refl; users = refl; commands = refl }

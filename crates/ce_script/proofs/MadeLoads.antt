@@ -6,11 +6,11 @@ use Rattle.std.proofs.lemmas.List.FromFn.{map-range_with_len_more}
 use Rattle.ce_host.specs.declared.command.Command.{Command}
 use Rattle.ce_host.specs.declared.command.Command.TheVariants.{Spawn}
 use Rattle.ce_model.specs.Limits.{block_room}
-use Rattle.ce_script.specs.Load.{place, hand_overs, next_number, number_after, commands_of}
+use Rattle.ce_script.specs.Load.{place, hand_overs, next_number, load_number, numbered_commands}
 
 -- the commands of the first users
 abbrev pub commands_below : ℕ → ℕ → List (ℕ × Command)
-commands_below seed count = flat_map (commands_of seed) (range_with_len 0 count)
+commands_below seed count = flat_map (numbered_commands seed) (range_with_len 0 count)
 
 flat_map-more : {X : Type 0} (f : ℕ → List X) (a n : ℕ) → flat_map f (range_with_len a (suc n)) ≡ flat_map f (range_with_len a n) ++ f (a + n)
 flat_map-more f a zero = append-nil (f a) ∙ ap f (omega arith)
@@ -20,12 +20,12 @@ flat_map-more f a (suc n) =
     ∙ ap (λ k. (f a ++ flat_map f (range_with_len (a + 1) n)) ++ f k) (omega arith)
 
 -- one user more
-pub commands-more : (seed count : ℕ) → commands_below seed (count + 1) ≡ commands_below seed count ++ commands_of seed count
-commands-more seed count = ap (commands_below seed) (add-one count) ∙ flat_map-more (commands_of seed) 0 count ∙ ap (λ k. commands_below seed count ++ commands_of seed k) (omega arith)
+pub commands-more : (seed count : ℕ) → commands_below seed (count + 1) ≡ commands_below seed count ++ numbered_commands seed count
+commands-more seed count = ap (commands_below seed) (add-one count) ∙ flat_map-more (numbered_commands seed) 0 count ∙ ap (λ k. commands_below seed count ++ numbered_commands seed k) (omega arith)
 
 -- its number
-pub number-more : (seed count number : ℕ) → number ≡ number_after seed count → next_number number ≡ number_after seed (count + 1)
-number-more seed count number e = ap next_number e ∙ ap (number_after seed) (sym (add-one count))
+pub number-more : (seed count number : ℕ) → number ≡ load_number seed count → next_number number ≡ load_number seed (count + 1)
+number-more seed count number e = ap next_number e ∙ ap (load_number seed) (sym (add-one count))
 
 -- a user's command that starts the program on a node
 abbrev pub start_on : ℕ → ℕ → ℕ × Command

@@ -5,8 +5,8 @@ use Rattle.std.proofs.lemmas.Slice.Eq.{bytes_eq-Decides}
 use Rattle.std.proofs.lemmas.List.Folds.{list_any-append}
 use Rattle.std.specs.Prelude.{bytes_eq, filter, unwrap_or}
 use Rattle.std.specs.List.{list_any, position_or_len, last_or}
-use Rattle.ce_script.specs.Sayings.{number_of, distinct}
-use Rattle.ce_script.specs.Faults.{is_among}
+use Rattle.ce_script.specs.Sayings.{name_number, without_repeats}
+use Rattle.ce_script.specs.Faults.{is_one_name_of}
 
 -- ---- a name and itself
 
@@ -31,7 +31,7 @@ first_below {A} test (one ∷ others) e =
     ] e
 
 -- the number of a name that is among names is that of one of them
-pub number_below : (names : List (List ℕ)) (name : List ℕ) → is_among names name ≡ true → number_of name names < length names
+pub number_below : (names : List (List ℕ)) (name : List ℕ) → is_one_name_of names name ≡ true → name_number name names < length names
 number_below names name e =
     let below = first_below (bytes_eq name) names e in
     let P : Bool → Type 0 = λ test. unwrap_or (cond test (Some (position_or_len (bytes_eq name) names)) None) 0 < length names in
@@ -39,35 +39,35 @@ number_below names name e =
 
 -- ---- more names
 
-pub among_front : (names more : List (List ℕ)) (name : List ℕ) → is_among names name ≡ true → is_among (names ++ more) name ≡ true
-among_front names more name e = list_any-append (bytes_eq name) names more ∙ ap (λ here. here || is_among more name) e
+pub among_front : (names more : List (List ℕ)) (name : List ℕ) → is_one_name_of names name ≡ true → is_one_name_of (names ++ more) name ≡ true
+among_front names more name e = list_any-append (bytes_eq name) names more ∙ ap (λ here. here || is_one_name_of more name) e
 
 -- ---- names, each where it first appears
 
-pub filter_keeps : (one name : List ℕ) (names : List (List ℕ)) → bytes_eq name one ≡ false → is_among names name ≡ true → is_among (filter (λ other. not (bytes_eq one other)) names) name ≡ true
+pub filter_keeps : (one name : List ℕ) (names : List (List ℕ)) → bytes_eq name one ≡ false → is_one_name_of names name ≡ true → is_one_name_of (filter (λ other. not (bytes_eq one other)) names) name ≡ true
 filter_keeps one name [] apart e = absurd cc
 filter_keeps one name (next ∷ names) apart e =
     let others = filter (λ other. not (bytes_eq one other)) names in
-    elim (bytes_eq one next) as (λ gone. bytes_eq one next ≡ gone → is_among (cond (not gone) (next ∷ others) others) name ≡ true) [
+    elim (bytes_eq one next) as (λ gone. bytes_eq one next ≡ gone → is_one_name_of (cond (not gone) (next ∷ others) others) name ≡ true) [
       | true ↦ λ there. filter_keeps one name names apart
-          (sym (ap (λ here. here || is_among names name) apart) ∙ ap (λ it. bytes_eq name it || is_among names name) (equal one next there) ∙ e)
-      | false ↦ λ _. elim (bytes_eq name next) as (λ here. here || is_among names name ≡ true → here || is_among others name ≡ true) [
+          (sym (ap (λ here. here || is_one_name_of names name) apart) ∙ ap (λ it. bytes_eq name it || is_one_name_of names name) (equal one next there) ∙ e)
+      | false ↦ λ _. elim (bytes_eq name next) as (λ here. here || is_one_name_of names name ≡ true → here || is_one_name_of others name ≡ true) [
         | true ↦ λ _. refl
         | false ↦ λ later. filter_keeps one name names apart later
       ] e
     ] refl
 
-pub among_distinct : (names : List (List ℕ)) (name : List ℕ) → is_among names name ≡ true → is_among (distinct names) name ≡ true
+pub among_distinct : (names : List (List ℕ)) (name : List ℕ) → is_one_name_of names name ≡ true → is_one_name_of (without_repeats names) name ≡ true
 among_distinct [] name e = absurd cc
 among_distinct (one ∷ names) name e =
-    elim (bytes_eq name one) as (λ here. bytes_eq name one ≡ here → here || is_among names name ≡ true → here || is_among (filter (λ other. not (bytes_eq one other)) (distinct names)) name ≡ true) [
+    elim (bytes_eq name one) as (λ here. bytes_eq name one ≡ here → here || is_one_name_of names name ≡ true → here || is_one_name_of (filter (λ other. not (bytes_eq one other)) (without_repeats names)) name ≡ true) [
       | true ↦ λ found _. refl
-      | false ↦ λ apart later. filter_keeps one name (distinct names) apart (among_distinct names name later)
+      | false ↦ λ apart later. filter_keeps one name (without_repeats names) apart (among_distinct names name later)
     ] refl e
 
 -- ---- the last name
 
-pub last_among : (name : List ℕ) (names : List (List ℕ)) → is_among (name ∷ names) (unwrap_or (last_or (Some name) names) []) ≡ true
+pub last_among : (name : List ℕ) (names : List (List ℕ)) → is_one_name_of (name ∷ names) (unwrap_or (last_or (Some name) names) []) ≡ true
 last_among name [] = ap (λ here. here || false) (same name)
 last_among name (next ∷ names) =
     ap (λ later. bytes_eq (unwrap_or (last_or (Some next) names) []) name || later) (last_among next names) ∙ or_true _

@@ -6,7 +6,7 @@ use Rattle.ce_model.specs.Machine.{after}
 use Rattle.ce_host.specs.declared.command.Command.{Command}
 use Rattle.ce_host.specs.declared.command.Command.TheVariants.{Getcube, Peek, Freecube}
 use Rattle.ce_host.specs.declared.answer.Answer.{Answer}
-use Rattle.ce_host.specs.declared.answer.Answer.TheVariants.{None as Nothing, Granted, Peeked, Freed}
+use Rattle.ce_host.specs.declared.answer.Answer.TheVariants as answers
 use Rattle.ce_script.specs.Rounds.{RoundKind}
 use Rattle.ce_script.specs.Moments.{moments, holding}
 use Rattle.ce_script.specs.Doings.{Doing, AreDoings, AreRefusedExactly}
@@ -19,18 +19,18 @@ doing = doing_in the_record.history
 
 -- user a's entries aren't next to one another in the history
 abbrev a_doings : List Doing
-a_doings = doing (Getcube 0) (Granted (subcube 0 0)) 0 1 ∷ doing Freecube Freed 3 2 ∷ []
+a_doings = doing (Getcube 0) (answers.Granted (subcube 0 0)) 0 1 ∷ doing Freecube answers.Freed 3 2 ∷ []
 
 abbrev d_doings : List Doing
 d_doings =
-    doing (Getcube 1) Nothing 5 1
-    ∷ doing Peek (Peeked (record { free = 2; grants = grant 1 ∷ grant 2 ∷ [] })) 6 1 ∷ []
+    doing (Getcube 1) answers.None 5 1
+    ∷ doing Peek (answers.Peeked (record { free = 2; grants = grant 1 ∷ grant 2 ∷ [] })) 6 1 ∷ []
 
-pub a_did : (kind : RoundKind) → AreDoings kind (machine_of the_script) the_record.history 0 ((Getcube 0, Granted (subcube 0 0)) ∷ (Freecube, Freed) ∷ []) a_doings
+pub a_did : (kind : RoundKind) → AreDoings kind (machine_of the_script) the_record.history 0 ((Getcube 0, answers.Granted (subcube 0 0)) ∷ (Freecube, answers.Freed) ∷ []) a_doings
 unfolding moments holding
 a_did kind = record { replies = refl; entries = refl; each = ((Some (subcube 0 0), refl, refl), ((refl, refl), tt)) }
 
-pub d_did : (kind : RoundKind) → AreDoings kind (machine_of the_script) the_record.history 3 ((Getcube 1, Nothing) ∷ (Peek, Peeked (record { free = 2; grants = grant 1 ∷ grant 2 ∷ [] })) ∷ []) d_doings
+pub d_did : (kind : RoundKind) → AreDoings kind (machine_of the_script) the_record.history 3 ((Getcube 1, answers.None) ∷ (Peek, answers.Peeked (record { free = 2; grants = grant 1 ∷ grant 2 ∷ [] })) ∷ []) d_doings
 unfolding moments holding after extract deposit greatest_dim
 d_did kind = record {
   replies = refl;

@@ -1,7 +1,7 @@
 -- Every text has a first fault or is exactly one script.
 use Rattle.std.proofs.Common.{◌≡◌, ◌⊎◌, inl, inr, ℕ, List, Option, Some, None, refl, ap, ◌∙◌}
 use Rattle.ce_host.specs.declared.command.Command.{Command}
-use Rattle.ce_script.specs.declared.script.Named.{Named}
+use Rattle.ce_script.specs.declared.script.NamedImage.{NamedImage}
 use Rattle.ce_script.specs.declared.script.Script.{Script}
 use Rattle.ce_script.specs.declared.script.ScriptFault.{ScriptFault}
 use Rattle.ce_script.specs.Statements.{statements}
@@ -9,7 +9,7 @@ use Rattle.ce_script.specs.Sayings.{dimension, images, users, commands}
 use Rattle.ce_script.specs.Faults.{first_fault}
 use Rattle.ce_script.specs.Scripts.{IsScript, HasFault, IsOneScript}
 
-abbrev script : Option ℕ → List Named → List (List ℕ) → List (ℕ × Command) → Script
+abbrev script : Option ℕ → List NamedImage → List (List ℕ) → List (ℕ × Command) → Script
 script dim images users commands = record { dim = dim; images = images; users = users; commands = commands }
 
 -- the script that the statements of a text say

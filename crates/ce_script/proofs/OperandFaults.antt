@@ -2,17 +2,18 @@
 use Rattle.std.proofs.Common.{◌≡◌, ℕ, ◌+◌, List, [], ◌∷◌, Option, Some, None, refl, sym, ap, ◌∙◌}
 use Rattle.std.specs.Prelude.{is_none, unwrap_or}
 use Rattle.std.specs.Option.{option_or}
+use Rattle.ce_model.specs.declared.limits.TheConstants.{GREATEST_DIMENSION, GREATEST_COUNT}
 use Rattle.ce_model.specs.Limits.{greatest_dim, greatest_count}
 use Rattle.ce_model.specs.declared.topology.Place.{Place}
-use Rattle.ce_host.specs.declared.command.Command.TheVariants as made
+use Rattle.ce_host.specs.declared.command.Command.TheVariants as command
 use Rattle.ce_script.specs.declared.grammar.Verb.TheVariants.{Machine, Getcube, Peek, Freecube, Trace, Spawn, Kill, Send, Run, Recv, Dump}
 use Rattle.ce_script.specs.declared.script.ScriptKind.{ScriptKind}
 use Rattle.ce_script.specs.declared.script.ScriptKind.TheVariants.{BadNumber, BadHex}
-use Rattle.ce_script.specs.Spellings.{greatest_number, number_to, data_in}
+use Rattle.ce_script.specs.Spellings.{greatest_number, bounded_number, data_in}
 use Rattle.ce_script.specs.Verbs.{OldImage}
 use Rattle.ce_script.specs.Statements.{Statement, operand}
-use Rattle.ce_script.specs.Sayings.{number_of, place_at, command_by}
-use Rattle.ce_script.specs.Faults.{first_some, fault_where, operand_fault}
+use Rattle.ce_script.specs.Sayings.{name_number, operand_place, command_of_verb}
+use Rattle.ce_script.specs.Faults.{first_some, kind_where, operand_fault}
 use Rattle.ce_script.specs.Reading.{operands_judged}
 
 or_none : {A : Type 0} (one : Option A) → option_or one None ≡ one
@@ -25,28 +26,28 @@ or_assoc (Some x) two three = refl
 
 -- the number at a place is none, or above this
 abbrev pub number_fault : ℕ → ℕ → Statement → Option ScriptKind
-number_fault place most here = fault_where (is_none (number_to most (operand place here))) BadNumber
+number_fault place most here = kind_where (is_none (bounded_number most (operand place here))) BadNumber
 
 -- the numbers of a place
 abbrev pub place_fault_at : ℕ → Statement → Option ScriptKind
 place_fault_at place here = first_some (number_fault place greatest_number here ∷ number_fault (place + 1) greatest_number here ∷ [])
 
 module _ (names : List (List ℕ)) (here : Statement) where
-  pub machine_fault : operands_judged names Machine here ≡ number_fault 1 6 here
+  pub machine_fault : operands_judged names Machine here ≡ number_fault 1 GREATEST_DIMENSION here
   unfolding operands_judged greatest_dim
-  machine_fault = or_none (number_fault 1 6 here)
+  machine_fault = or_none (number_fault 1 GREATEST_DIMENSION here)
 
-  pub getcube_fault : operands_judged names Getcube here ≡ number_fault 1 6 here
+  pub getcube_fault : operands_judged names Getcube here ≡ number_fault 1 GREATEST_DIMENSION here
   unfolding operands_judged greatest_dim
-  getcube_fault = or_none (number_fault 1 6 here)
+  getcube_fault = or_none (number_fault 1 GREATEST_DIMENSION here)
 
-  pub run_fault : operands_judged names Run here ≡ number_fault 1 1000000 here
+  pub run_fault : operands_judged names Run here ≡ number_fault 1 GREATEST_COUNT here
   unfolding operands_judged greatest_count
-  run_fault = or_none (number_fault 1 1000000 here)
+  run_fault = or_none (number_fault 1 GREATEST_COUNT here)
 
-  pub recv_fault : operands_judged names Recv here ≡ number_fault 1 1000000 here
+  pub recv_fault : operands_judged names Recv here ≡ number_fault 1 GREATEST_COUNT here
   unfolding operands_judged greatest_count
-  recv_fault = or_none (number_fault 1 1000000 here)
+  recv_fault = or_none (number_fault 1 GREATEST_COUNT here)
 
   pub kill_fault : operands_judged names Kill here ≡ place_fault_at 1 here
   unfolding operands_judged
@@ -61,21 +62,21 @@ module _ (names : List (List ℕ)) (here : Statement) where
   spawn_fault = refl
 
   -- the command of a spawn line
-  pub spawn_there : (image : ℕ) (to : Place) → (operand_fault names OldImage (operand 1 here) ≡ None) × (Some (number_of (operand 1 here) names) ≡ Some image)
-      → (place_fault_at 2 here ≡ None) × (Some (place_at 2 here) ≡ Some to)
-      → (operands_judged names Spawn here ≡ None) × (command_by Spawn names here ≡ Some (made.Spawn image to))
+  pub spawn_there : (image : ℕ) (to : Place) → (operand_fault names OldImage (operand 1 here) ≡ None) × (Some (name_number (operand 1 here) names) ≡ Some image)
+      → (place_fault_at 2 here ≡ None) × (Some (operand_place 2 here) ≡ Some to)
+      → (operands_judged names Spawn here ≡ None) × (command_of_verb Spawn names here ≡ Some (command.Spawn image to))
   spawn_there image to named placed = (
     spawn_fault ∙ ap (λ one. option_or one (place_fault_at 2 here)) named.0 ∙ placed.0,
-    ap (λ (found : Option ℕ). Some (made.Spawn (unwrap_or found 0) (place_at 2 here))) named.1
-        ∙ ap (λ (found : Option Place). Some (made.Spawn image (unwrap_or found (place_at 2 here)))) placed.1,
+    ap (λ (found : Option ℕ). Some (command.Spawn (unwrap_or found 0) (operand_place 2 here))) named.1
+        ∙ ap (λ (found : Option Place). Some (command.Spawn image (unwrap_or found (operand_place 2 here)))) placed.1,
   )
 
-  pub send_fault : operands_judged names Send here ≡ option_or (place_fault_at 1 here) (fault_where (is_none (data_in (operand 3 here))) BadHex)
+  pub send_fault : operands_judged names Send here ≡ option_or (place_fault_at 1 here) (kind_where (is_none (data_in (operand 3 here))) BadHex)
   unfolding operands_judged
   send_fault =
       let node = number_fault 1 greatest_number here in
       let pid = number_fault 2 greatest_number here in
-      let hex = fault_where (is_none (data_in (operand 3 here))) BadHex in
+      let hex = kind_where (is_none (data_in (operand 3 here))) BadHex in
       ap (λ last. option_or node (option_or pid last)) (or_none hex)
       ∙ ap (λ rest. option_or node (option_or rest hex)) (sym (or_none pid))
       ∙ sym (or_assoc node (option_or pid None) hex)

@@ -5,9 +5,9 @@ use Rattle.std.proofs.lemmas.List.{reverse-append, length-reverse, length-append
 use Rattle.std.proofs.lemmas.List.Folds.{list_any-append}
 use Rattle.std.specs.Prelude.{filter_map, reverse}
 use Rattle.std.specs.List.{list_any, cons_option, suffix_len, prefix_len, before_first, position_or_len}
-use Rattle.ce_script.specs.Lines.{Line, spots_behind, lines, words}
-use Rattle.ce_script.specs.Statements.{is_end, begins_image, is_inside, body_in, statement_of, statement_at, statements}
-use Rattle.ce_script.specs.ReadLines.{inside_behind, statements_from}
+use Rattle.ce_script.specs.Lines.{Line, later_spots, lines, words}
+use Rattle.ce_script.specs.Statements.{is_end, begins_image, is_inside, found_body, line_statement, standing_statement, statements}
+use Rattle.ce_script.specs.ReadLines.{inside_behind, remaining_statements}
 
 -- ---- inside an image, one line further
 
@@ -42,38 +42,38 @@ inside_more before line =
     ∙ after_by before line (is_end line) (suffix_len goes before) (omega (arith, suffix_short goes (reverse before), length-reverse before))
 
 -- the statements of lines that stand behind others
-statements_behind : (before behind : List Line) → filter_map statement_at (spots_behind before behind) ≡ statements_from (is_inside before) behind
-unfolding statements_from statement_at
+statements_behind : (before behind : List Line) → filter_map standing_statement (later_spots before behind) ≡ remaining_statements (is_inside before) behind
+unfolding remaining_statements standing_statement
 statements_behind before [] = refl
 statements_behind before (line ∷ behind) =
-    let others = statements_behind (before ++ line ∷ []) behind ∙ ap (λ inside. statements_from inside behind) (inside_more before line) in
-    elim ((length (words line) == 0) || is_inside before) as (λ test. cons_option (cond test None (Some (statement_of (record { before = before; here = line; behind = behind })))) (filter_map statement_at (spots_behind (before ++ line ∷ []) behind)) ≡ cond test (statements_from (inside_behind (is_inside before) line) behind) (record { line = line; body = cond (begins_image line) (body_in behind) None } ∷ statements_from (inside_behind (is_inside before) line) behind)) [
+    let others = statements_behind (before ++ line ∷ []) behind ∙ ap (λ inside. remaining_statements inside behind) (inside_more before line) in
+    elim ((length (words line) == 0) || is_inside before) as (λ test. cons_option (cond test None (Some (line_statement (record { before = before; here = line; behind = behind })))) (filter_map standing_statement (later_spots (before ++ line ∷ []) behind)) ≡ cond test (remaining_statements (inside_behind (is_inside before) line) behind) (record { line = line; body = cond (begins_image line) (found_body behind) None } ∷ remaining_statements (inside_behind (is_inside before) line) behind)) [
       | true ↦ others
-      | false ↦ ap (λ rest. record { line = line; body = cond (begins_image line) (body_in behind) None } ∷ rest) others
+      | false ↦ ap (λ rest. record { line = line; body = cond (begins_image line) (found_body behind) None } ∷ rest) others
     ]
 
-pub from_outside : (text : List ℕ) → statements text ≡ statements_from false (lines text)
+pub from_outside : (text : List ℕ) → statements text ≡ remaining_statements false (lines text)
 unfolding statements
 from_outside text = statements_behind [] (lines text)
 
 -- ---- behind a body
 
-inside_goes : (line : Line) (behind : List Line) → statements_from true (line ∷ behind) ≡ statements_from (inside_behind true line) behind
-unfolding statements_from
+inside_goes : (line : Line) (behind : List Line) → remaining_statements true (line ∷ behind) ≡ remaining_statements (inside_behind true line) behind
+unfolding remaining_statements
 inside_goes line behind =
-    elim (length (words line) == 0) as (λ empty. cond (empty || true) (statements_from (inside_behind true line) behind) (record { line = line; body = cond (begins_image line) (body_in behind) None } ∷ statements_from (inside_behind true line) behind) ≡ statements_from (inside_behind true line) behind) [
+    elim (length (words line) == 0) as (λ empty. cond (empty || true) (remaining_statements (inside_behind true line) behind) (record { line = line; body = cond (begins_image line) (found_body behind) None } ∷ remaining_statements (inside_behind true line) behind) ≡ remaining_statements (inside_behind true line) behind) [
       | true ↦ refl
       | false ↦ refl
     ]
 
 -- the lines of a body and its end say nothing
-pub past_body : (body behind : List Line) (end : Line) → list_any is_end body ≡ false → is_end end ≡ true → statements_from true (body ++ end ∷ behind) ≡ statements_from false behind
+pub past_body : (body behind : List Line) (end : Line) → list_any is_end body ≡ false → is_end end ≡ true → remaining_statements true (body ++ end ∷ behind) ≡ remaining_statements false behind
 past_body [] behind end none e =
-    inside_goes end behind ∙ ap (λ ends. statements_from (cond ends false (true || begins_image end)) behind) e
+    inside_goes end behind ∙ ap (λ ends. remaining_statements (cond ends false (true || begins_image end)) behind) e
 past_body (line ∷ body) behind end none e =
     let both = or_parts (is_end line) (list_any is_end body) none in
     inside_goes line (body ++ end ∷ behind)
-    ∙ ap (λ ends. statements_from (cond ends false (true || begins_image line)) (body ++ end ∷ behind)) both.0
+    ∙ ap (λ ends. remaining_statements (cond ends false (true || begins_image line)) (body ++ end ∷ behind)) both.0
     ∙ past_body body behind end both.1 e
 
 first_end : (body behind : List Line) (end : Line) → list_any is_end body ≡ false → is_end end ≡ true → position_or_len is_end (body ++ end ∷ behind) ≡ length body
@@ -88,12 +88,12 @@ some_end body behind end none e =
     list_any-append is_end body (end ∷ behind) ∙ ap (λ found. found || (is_end end || list_any is_end behind)) none ∙ ap (λ ends. ends || list_any is_end behind) e
 
 -- the body of an image, where its lines and its end are known
-pub body_there : (body behind : List Line) (end : Line) → list_any is_end body ≡ false → is_end end ≡ true → body_in (body ++ end ∷ behind) ≡ Some body
-unfolding body_in
+pub body_there : (body behind : List Line) (end : Line) → list_any is_end body ≡ false → is_end end ≡ true → found_body (body ++ end ∷ behind) ≡ Some body
+unfolding found_body
 body_there body behind end none e =
     ap (λ found. cond found (Some (before_first is_end (body ++ end ∷ behind))) None) (some_end body behind end none e)
     ∙ ap Some (take_at body (end ∷ behind) (position_or_len is_end (body ++ end ∷ behind)) (sym (first_end body behind end none e)))
 
-pub body_missing : (behind : List Line) → list_any is_end behind ≡ false → body_in behind ≡ None
-unfolding body_in
+pub body_missing : (behind : List Line) → list_any is_end behind ≡ false → found_body behind ≡ None
+unfolding found_body
 body_missing behind none = ap (λ found. cond found (Some (before_first is_end behind)) None) none

@@ -6,20 +6,20 @@ use Rattle.rv_model.specs.declared.stop.Stop.TheVariants.{Gone}
 use Rattle.hex.specs.Hex.{encode_with}
 use Rattle.ce_model.specs.declared.process.Status.TheVariants.{Stopped}
 use Rattle.ce_model.specs.declared.topology.TheConstants.{HOST}
-use Rattle.ce_model.specs.declared.entry.What.TheVariants.{Getcube as GetcubeMade, Arm, Look, HostTake, Send as SendMade, Spawn as SpawnMade, Take}
-use Rattle.ce_model.specs.declared.entry.LookResult.TheVariants.{Quiet as FoundQuiet}
+use Rattle.ce_model.specs.declared.entry.What.TheVariants as whats
+use Rattle.ce_model.specs.declared.entry.LookResult.TheVariants as look_result
 use Rattle.ce_model.specs.declared.entry.TakeResult.TheVariants.{Start, Idle}
 use Rattle.ce_model.specs.Limits.{host_home, greatest_dim}
-use Rattle.ce_model.specs.Subcubes.{extract, relative}
+use Rattle.ce_model.specs.Subcubes.{extract, relative_number}
 use Rattle.ce_model.specs.Views.{view}
 use Rattle.ce_host.specs.declared.command.Command.{Command}
 use Rattle.ce_host.specs.declared.answer.Answer.{Answer}
 use Rattle.ce_host.specs.declared.command.Command.TheVariants.{Getcube, Spawn, Run, Recv, Dump, Trace}
-use Rattle.ce_host.specs.declared.answer.Answer.TheVariants.{Granted, Ok as Done, Quiet, Message, State, Entries}
+use Rattle.ce_host.specs.declared.answer.Answer.TheVariants as answers
 use Rattle.ce_script.specs.declared.record.Record.{Record}
 use Rattle.ce_script.specs.declared.script.Script.{Script}
 use Rattle.ce_script.specs.Texts.{report}
-use Rattle.ce_script.proofs.Rows.{lines, by, place, block, subcube}
+use Rattle.ce_script.proofs.Rows.{lines, entry_of, place, block, subcube}
 
 abbrev pub the_script : ImageParts → Script
 the_script image = record {
@@ -34,15 +34,15 @@ message = 7 ∷ 0 ∷ 0 ∷ 0 ∷ 0 ∷ 0 ∷ 0 ∷ 0 ∷ []
 
 abbrev pub alice_done : List (Command × Answer)
 alice_done =
-    (Getcube 0, Granted (subcube 0 0)) ∷ (Spawn 0 (place 0 0), Done) ∷ (Run 10, Quiet)
-    ∷ (Dump (place 0 0), State (Stopped (Gone 0x8000_0000))) ∷ (Recv 0, Message (place 0 0) message) ∷ (Trace, Entries 8) ∷ []
+    (Getcube 0, answers.Granted (subcube 0 0)) ∷ (Spawn 0 (place 0 0), answers.Ok) ∷ (Run 10, answers.Quiet)
+    ∷ (Dump (place 0 0), answers.State (Stopped (Gone 0x8000_0000))) ∷ (Recv 0, answers.Message (place 0 0) message) ∷ (Trace, answers.Entries 8) ∷ []
 
 abbrev pub the_record : Record
 the_record = record {
   users = record { name = codes "alice"; done = alice_done } ∷ [];
-  history = by 0 HOST (GetcubeMade 0 (Some (subcube 0 0))) ∷ by 0 HOST (SpawnMade 0 0 (place 0 0) true) ∷ by 0 HOST (Arm 10)
-      ∷ by 0 0 (Take 0 0 None (Start 0 0)) ∷ by 0 0 (SendMade 0 0 ((place HOST 0, block 0 0) ∷ []) message)
-      ∷ by 0 0 (Take 0 1 None Idle) ∷ by 0 HOST (Look FoundQuiet) ∷ by 0 HOST (Arm 0) ∷ by 0 HOST (HostTake (Some 0)) ∷ [];
+  history = entry_of 0 HOST (whats.Getcube 0 (Some (subcube 0 0))) ∷ entry_of 0 HOST (whats.Spawn 0 0 (place 0 0) true) ∷ entry_of 0 HOST (whats.Arm 10)
+      ∷ entry_of 0 0 (whats.Take 0 0 None (Start 0 0)) ∷ entry_of 0 0 (whats.Send 0 0 ((place HOST 0, block 0 0) ∷ []) message)
+      ∷ entry_of 0 0 (whats.Take 0 1 None Idle) ∷ entry_of 0 HOST (whats.Look look_result.Quiet) ∷ entry_of 0 HOST (whats.Arm 0) ∷ entry_of 0 HOST (whats.HostTake (Some 0)) ∷ [];
 }
 
 abbrev pub the_report : List ℕ
@@ -55,5 +55,5 @@ the_report = lines (
     ∷ codes "host arm 0" ∷ codes "host get 0" ∷ codes "end" ∷ [])
 
 pub gone_is_reported : (image : ImageParts) → report (the_script image) the_record ≡ the_report
-unfolding report view relative extract digits encode_with host_home greatest_dim
+unfolding report view relative_number extract digits encode_with host_home greatest_dim
 gone_is_reported image = refl

@@ -4,17 +4,17 @@ use Rattle.std.specs.Fmt.{digits}
 use Rattle.rv_model.specs.Image.{ImageParts}
 use Rattle.ce_model.specs.Limits.{greatest_dim}
 use Rattle.ce_model.specs.declared.topology.TheConstants.{HOST}
-use Rattle.ce_model.specs.declared.entry.What.TheVariants.{Getcube as GetcubeMade, Arm, Look, Spawn as SpawnMade, Note, Take}
-use Rattle.ce_model.specs.declared.entry.LookResult.TheVariants.{Quiet as FoundQuiet}
+use Rattle.ce_model.specs.declared.entry.What.TheVariants as whats
+use Rattle.ce_model.specs.declared.entry.LookResult.TheVariants as look_result
 use Rattle.ce_model.specs.declared.entry.TakeResult.TheVariants.{Start, Idle}
-use Rattle.ce_model.specs.Subcubes.{extract, relative}
+use Rattle.ce_model.specs.Subcubes.{extract, relative_number}
 use Rattle.ce_model.specs.Views.{view}
 use Rattle.ce_host.specs.declared.command.Command.TheVariants.{Getcube, Spawn, Run}
-use Rattle.ce_host.specs.declared.answer.Answer.TheVariants.{Granted, Ok as Done, Quiet}
+use Rattle.ce_host.specs.declared.answer.Answer.TheVariants as answers
 use Rattle.ce_script.specs.declared.record.Record.{Record}
 use Rattle.ce_script.specs.declared.script.Script.{Script}
 use Rattle.ce_script.specs.Texts.{report}
-use Rattle.ce_script.proofs.Rows.{lines, by, place, subcube}
+use Rattle.ce_script.proofs.Rows.{lines, entry_of, place, subcube}
 
 abbrev pub the_script : ImageParts → Script
 the_script image = record {
@@ -28,11 +28,11 @@ abbrev pub the_record : Record
 the_record = record {
   users = record {
     name = codes "alice";
-    done = (Getcube 0, Granted (subcube 0 0)) ∷ (Spawn 0 (place 0 0), Done) ∷ (Run 10, Quiet) ∷ [];
+    done = (Getcube 0, answers.Granted (subcube 0 0)) ∷ (Spawn 0 (place 0 0), answers.Ok) ∷ (Run 10, answers.Quiet) ∷ [];
   } ∷ [];
-  history = by 0 HOST (GetcubeMade 0 (Some (subcube 0 0))) ∷ by 0 HOST (SpawnMade 0 0 (place 0 0) true) ∷ by 0 HOST (Arm 10)
-      ∷ by 0 0 (Take 0 0 None (Start 0 0)) ∷ by 0 0 (Note 0 42) ∷ by 0 0 (Take 0 1 None Idle) ∷ by 0 0 (Take 0 1 None Idle)
-      ∷ by 0 HOST (Look FoundQuiet) ∷ [];
+  history = entry_of 0 HOST (whats.Getcube 0 (Some (subcube 0 0))) ∷ entry_of 0 HOST (whats.Spawn 0 0 (place 0 0) true) ∷ entry_of 0 HOST (whats.Arm 10)
+      ∷ entry_of 0 0 (whats.Take 0 0 None (Start 0 0)) ∷ entry_of 0 0 (whats.Note 0 42) ∷ entry_of 0 0 (whats.Take 0 1 None Idle) ∷ entry_of 0 0 (whats.Take 0 1 None Idle)
+      ∷ entry_of 0 HOST (whats.Look look_result.Quiet) ∷ [];
 }
 
 abbrev pub the_report : List ℕ
@@ -43,5 +43,5 @@ the_report = lines (
     ∷ codes "node 0 take 0 1 - idle" ∷ codes "host look quiet" ∷ codes "end" ∷ [])
 
 pub hello_is_reported : (image : ImageParts) → report (the_script image) the_record ≡ the_report
-unfolding report view relative extract digits greatest_dim
+unfolding report view relative_number extract digits greatest_dim
 hello_is_reported image = refl

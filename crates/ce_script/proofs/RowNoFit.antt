@@ -3,17 +3,17 @@ use Rattle.std.proofs.Common.{◌≡◌, ℕ, List, [], ◌∷◌, Some, None, c
 use Rattle.std.specs.Fmt.{digits}
 use Rattle.ce_model.specs.Limits.{greatest_dim}
 use Rattle.ce_model.specs.declared.topology.TheConstants.{HOST}
-use Rattle.ce_model.specs.declared.entry.What.TheVariants.{Getcube as GetcubeMade, Peek as PeekMade, Drain, Freecube as FreecubeMade}
-use Rattle.ce_model.specs.Subcubes.{extract, relative}
+use Rattle.ce_model.specs.declared.entry.What.TheVariants as whats
+use Rattle.ce_model.specs.Subcubes.{extract, relative_number}
 use Rattle.ce_model.specs.Views.{view}
 use Rattle.ce_daemon.specs.declared.grant.Grant.{Grant}
 use Rattle.ce_host.specs.declared.command.Command.TheVariants.{Getcube, Peek, Freecube}
-use Rattle.ce_host.specs.declared.answer.Answer.TheVariants.{None as Nothing, Granted, Peeked, Freed}
+use Rattle.ce_host.specs.declared.answer.Answer.TheVariants as answers
 use Rattle.ce_script.specs.declared.record.UserRecord.{UserRecord}
 use Rattle.ce_script.specs.declared.record.Record.{Record}
 use Rattle.ce_script.specs.declared.script.Script.{Script}
 use Rattle.ce_script.specs.Texts.{report}
-use Rattle.ce_script.proofs.Rows.{lines, by, subcube}
+use Rattle.ce_script.proofs.Rows.{lines, entry_of, subcube}
 
 abbrev pub the_script : Script
 the_script = record {
@@ -29,18 +29,18 @@ grant number = record { number = number; user = number; dim = 0; sub = subcube 0
 
 abbrev pub users : List UserRecord
 users =
-    record { name = codes "a"; done = (Getcube 0, Granted (subcube 0 0)) ∷ (Freecube, Freed) ∷ [] }
-    ∷ record { name = codes "b"; done = (Getcube 0, Granted (subcube 0 1)) ∷ [] }
-    ∷ record { name = codes "c"; done = (Getcube 0, Granted (subcube 0 2)) ∷ [] }
-    ∷ record { name = codes "d"; done = (Getcube 1, Nothing) ∷ (Peek, Peeked (record { free = 2; grants = grant 1 ∷ grant 2 ∷ [] })) ∷ [] }
+    record { name = codes "a"; done = (Getcube 0, answers.Granted (subcube 0 0)) ∷ (Freecube, answers.Freed) ∷ [] }
+    ∷ record { name = codes "b"; done = (Getcube 0, answers.Granted (subcube 0 1)) ∷ [] }
+    ∷ record { name = codes "c"; done = (Getcube 0, answers.Granted (subcube 0 2)) ∷ [] }
+    ∷ record { name = codes "d"; done = (Getcube 1, answers.None) ∷ (Peek, answers.Peeked (record { free = 2; grants = grant 1 ∷ grant 2 ∷ [] })) ∷ [] }
     ∷ []
 
 abbrev pub the_record : Record
 the_record = record {
   users = users;
-  history = by 0 HOST (GetcubeMade 0 (Some (subcube 0 0))) ∷ by 1 HOST (GetcubeMade 0 (Some (subcube 0 1)))
-      ∷ by 2 HOST (GetcubeMade 0 (Some (subcube 0 2))) ∷ by 0 HOST Drain ∷ by 0 HOST FreecubeMade ∷ by 3 HOST (GetcubeMade 1 None)
-      ∷ by 3 HOST PeekMade ∷ [];
+  history = entry_of 0 HOST (whats.Getcube 0 (Some (subcube 0 0))) ∷ entry_of 1 HOST (whats.Getcube 0 (Some (subcube 0 1)))
+      ∷ entry_of 2 HOST (whats.Getcube 0 (Some (subcube 0 2))) ∷ entry_of 0 HOST whats.Drain ∷ entry_of 0 HOST whats.Freecube ∷ entry_of 3 HOST (whats.Getcube 1 None)
+      ∷ entry_of 3 HOST whats.Peek ∷ [];
 }
 
 abbrev pub the_report : List ℕ
@@ -52,5 +52,5 @@ the_report = lines (
     ∷ codes "cube 1 user b dim 0 mask 0 base 1" ∷ codes "cube 2 user c dim 0 mask 0 base 2" ∷ codes "end" ∷ [])
 
 pub no_fit_is_reported : report the_script the_record ≡ the_report
-unfolding report view relative extract digits greatest_dim
+unfolding report view relative_number extract digits greatest_dim
 no_fit_is_reported = refl

@@ -5,20 +5,20 @@ use Rattle.rv_model.specs.Image.{ImageParts}
 use Rattle.hex.specs.Hex.{encode_with}
 use Rattle.ce_model.specs.declared.topology.TheConstants.{HOST}
 use Rattle.ce_model.specs.declared.entry.What.{What}
-use Rattle.ce_model.specs.declared.entry.What.TheVariants.{Getcube as GetcubeMade, Arm, Look, HostTake, Send as SendMade, Spawn as SpawnMade, Take}
-use Rattle.ce_model.specs.declared.entry.LookResult.TheVariants.{Quiet as FoundQuiet}
+use Rattle.ce_model.specs.declared.entry.What.TheVariants as whats
+use Rattle.ce_model.specs.declared.entry.LookResult.TheVariants as look_result
 use Rattle.ce_model.specs.declared.entry.TakeResult.TheVariants.{Start, Mail, Idle}
 use Rattle.ce_model.specs.Limits.{host_home, greatest_dim}
-use Rattle.ce_model.specs.Subcubes.{extract, relative}
+use Rattle.ce_model.specs.Subcubes.{extract, relative_number}
 use Rattle.ce_model.specs.Views.{view}
 use Rattle.ce_host.specs.declared.command.Command.{Command}
 use Rattle.ce_host.specs.declared.answer.Answer.{Answer}
 use Rattle.ce_host.specs.declared.command.Command.TheVariants.{Getcube, Send, Spawn, Recv}
-use Rattle.ce_host.specs.declared.answer.Answer.TheVariants.{None as Nothing, Granted, Ok as Done, Message}
+use Rattle.ce_host.specs.declared.answer.Answer.TheVariants as answers
 use Rattle.ce_script.specs.declared.record.Record.{Record}
 use Rattle.ce_script.specs.declared.script.Script.{Script}
 use Rattle.ce_script.specs.Texts.{report}
-use Rattle.ce_script.proofs.Rows.{first_bytes, second_bytes, lines, by, place, block, subcube}
+use Rattle.ce_script.proofs.Rows.{first_bytes, second_bytes, lines, entry_of, place, block, subcube}
 
 abbrev pub the_script : ImageParts → Script
 the_script image = record {
@@ -31,27 +31,27 @@ the_script image = record {
 
 -- the host sends its block of this index, and the process sends it back
 abbrev pub sent : ℕ → List ℕ → ℕ → What
-sent index bytes first = SendMade 0 first ((place 0 0, block 256 index) ∷ []) bytes
+sent index bytes first = whats.Send 0 first ((place 0 0, block 256 index) ∷ []) bytes
 
 abbrev pub sent_back : ℕ → List ℕ → ℕ → What
-sent_back index bytes first = SendMade 0 first ((place HOST 0, block 256 index) ∷ []) bytes
+sent_back index bytes first = whats.Send 0 first ((place HOST 0, block 256 index) ∷ []) bytes
 
 abbrev pub alice_done : List (Command × Answer)
 alice_done =
-    (Getcube 0, Granted (subcube 0 0)) ∷ (Send (place 0 0) first_bytes, Done) ∷ (Send (place 0 0) second_bytes, Done) ∷ (Spawn 0 (place 0 0), Done)
-    ∷ (Recv 100, Message (place 0 0) first_bytes) ∷ (Recv 100, Message (place 0 0) second_bytes) ∷ (Recv 100, Nothing) ∷ []
+    (Getcube 0, answers.Granted (subcube 0 0)) ∷ (Send (place 0 0) first_bytes, answers.Ok) ∷ (Send (place 0 0) second_bytes, answers.Ok) ∷ (Spawn 0 (place 0 0), answers.Ok)
+    ∷ (Recv 100, answers.Message (place 0 0) first_bytes) ∷ (Recv 100, answers.Message (place 0 0) second_bytes) ∷ (Recv 100, answers.None) ∷ []
 
 abbrev pub the_record : Record
 the_record = record {
   users = record { name = codes "alice"; done = alice_done } ∷ [];
-  history = by 0 HOST (GetcubeMade 0 (Some (subcube 0 0))) ∷ by 0 HOST (sent 0 first_bytes 0) ∷ by 0 HOST (sent 1 second_bytes 1)
-      ∷ by 0 HOST (SpawnMade 0 0 (place 0 0) true)
-      ∷ by 0 HOST (Arm 100) ∷ by 0 HOST (HostTake None) ∷ by 0 0 (Take 0 0 None (Start 0 0)) ∷ by 0 HOST (HostTake None)
-      ∷ by 0 0 (Take 1 0 None (Mail 0 0)) ∷ by 0 0 (sent_back 0 first_bytes 2) ∷ by 0 HOST (HostTake (Some 2))
-      ∷ by 0 HOST (Arm 100) ∷ by 0 HOST (HostTake None) ∷ by 0 0 (Take 1 0 None (Mail 0 1)) ∷ by 0 0 (sent_back 1 second_bytes 3)
-      ∷ by 0 HOST (HostTake (Some 3))
-      ∷ by 0 HOST (Arm 100) ∷ by 0 HOST (HostTake None) ∷ by 0 0 (Take 1 0 None Idle) ∷ by 0 HOST (HostTake None)
-      ∷ by 0 HOST (Look FoundQuiet) ∷ [];
+  history = entry_of 0 HOST (whats.Getcube 0 (Some (subcube 0 0))) ∷ entry_of 0 HOST (sent 0 first_bytes 0) ∷ entry_of 0 HOST (sent 1 second_bytes 1)
+      ∷ entry_of 0 HOST (whats.Spawn 0 0 (place 0 0) true)
+      ∷ entry_of 0 HOST (whats.Arm 100) ∷ entry_of 0 HOST (whats.HostTake None) ∷ entry_of 0 0 (whats.Take 0 0 None (Start 0 0)) ∷ entry_of 0 HOST (whats.HostTake None)
+      ∷ entry_of 0 0 (whats.Take 1 0 None (Mail 0 0)) ∷ entry_of 0 0 (sent_back 0 first_bytes 2) ∷ entry_of 0 HOST (whats.HostTake (Some 2))
+      ∷ entry_of 0 HOST (whats.Arm 100) ∷ entry_of 0 HOST (whats.HostTake None) ∷ entry_of 0 0 (whats.Take 1 0 None (Mail 0 1)) ∷ entry_of 0 0 (sent_back 1 second_bytes 3)
+      ∷ entry_of 0 HOST (whats.HostTake (Some 3))
+      ∷ entry_of 0 HOST (whats.Arm 100) ∷ entry_of 0 HOST (whats.HostTake None) ∷ entry_of 0 0 (whats.Take 1 0 None Idle) ∷ entry_of 0 HOST (whats.HostTake None)
+      ∷ entry_of 0 HOST (whats.Look look_result.Quiet) ∷ [];
 }
 
 abbrev pub the_report : List ℕ
@@ -67,5 +67,5 @@ the_report = lines (
     ∷ codes "end" ∷ [])
 
 pub unborn_is_reported : (image : ImageParts) → report (the_script image) the_record ≡ the_report
-unfolding report view relative extract digits encode_with host_home greatest_dim
+unfolding report view relative_number extract digits encode_with host_home greatest_dim
 unborn_is_reported image = refl

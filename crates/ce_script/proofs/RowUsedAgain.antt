@@ -6,14 +6,14 @@ use Rattle.rv_model.specs.Image.{ImageParts}
 use Rattle.hex.specs.Hex.{encode_with}
 pub use Rattle.ce_script.proofs.Rows.{first_bytes, second_bytes, third_bytes}
 use Rattle.ce_model.specs.Limits.{host_home, greatest_dim}
-use Rattle.ce_model.specs.Subcubes.{extract, relative}
+use Rattle.ce_model.specs.Subcubes.{extract, relative_number}
 use Rattle.ce_model.specs.Views.{view}
 use Rattle.ce_model.proofs.Rows.UsedAgain.{first_cube, second_cube}
 pub use Rattle.ce_model.proofs.Rows.UsedAgain.{first_sends as alice_sends}
 use Rattle.ce_host.specs.declared.command.Command.{Command}
 use Rattle.ce_host.specs.declared.command.Command.TheVariants.{Getcube, Send, Freecube, Spawn, Run}
 use Rattle.ce_host.specs.declared.answer.Answer.{Answer}
-use Rattle.ce_host.specs.declared.answer.Answer.TheVariants.{Granted, Freed, Ok as Done, Quiet}
+use Rattle.ce_host.specs.declared.answer.Answer.TheVariants as answers
 use Rattle.ce_script.specs.declared.record.Record.{Record}
 use Rattle.ce_script.specs.declared.script.Script.{Script}
 use Rattle.ce_script.specs.Texts.{report}
@@ -30,11 +30,11 @@ the_script image = record {
 
 abbrev pub alice_done : List (Command × Answer)
 alice_done =
-    (Getcube 0, Granted (subcube 0 0)) ∷ (Send (place 0 0) first_bytes, Done) ∷ (Send (place 0 0) second_bytes, Done) ∷ (Send (place 0 0) third_bytes, Done)
-    ∷ (Freecube, Freed) ∷ []
+    (Getcube 0, answers.Granted (subcube 0 0)) ∷ (Send (place 0 0) first_bytes, answers.Ok) ∷ (Send (place 0 0) second_bytes, answers.Ok) ∷ (Send (place 0 0) third_bytes, answers.Ok)
+    ∷ (Freecube, answers.Freed) ∷ []
 
 abbrev pub bob_done : List (Command × Answer)
-bob_done = (Getcube 0, Granted (subcube 0 0)) ∷ (Spawn 0 (place 0 0), Done) ∷ (Run 10, Quiet) ∷ []
+bob_done = (Getcube 0, answers.Granted (subcube 0 0)) ∷ (Spawn 0 (place 0 0), answers.Ok) ∷ (Run 10, answers.Quiet) ∷ []
 
 abbrev pub the_record : Record
 the_record = record {
@@ -53,5 +53,5 @@ the_report = lines (
     ∷ codes "end" ∷ [])
 
 pub used_again_is_reported : (image : ImageParts) → report (the_script image) the_record ≡ the_report
-unfolding report view relative extract digits encode_with host_home greatest_dim
+unfolding report view relative_number extract digits encode_with host_home greatest_dim
 used_again_is_reported image = refl

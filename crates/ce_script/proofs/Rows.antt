@@ -4,8 +4,8 @@ use Rattle.rv_model.specs.Image.{ImageParts}
 use Rattle.ce_model.specs.declared.topology.TheConstants.{HOST}
 use Rattle.ce_model.specs.declared.entry.Entry.{Entry}
 use Rattle.ce_model.specs.declared.entry.What.TheVariants.{Arm, Look}
-use Rattle.ce_model.specs.declared.entry.LookResult.TheVariants.{Quiet as FoundQuiet}
-pub use Rattle.ce_model.specs.Literals.{of_actor as by, place, block, sub_at as subcube, aa as first_bytes, bb as second_bytes, cc_ as third_bytes}
+use Rattle.ce_model.specs.declared.entry.LookResult.TheVariants as look_result
+pub use Rattle.ce_model.specs.Literals.{entry_of, place, block, subcube, first_bytes, second_bytes, third_bytes}
 use Rattle.ce_model.specs.Cube.{Cube, opening, next_call}
 use Rattle.ce_host.specs.declared.command.Command.{Command}
 use Rattle.ce_host.specs.declared.answer.Answer.{Answer}
@@ -39,11 +39,11 @@ turns_over user image t asks (suc r) below = absurd (omega (arith, below))
 
 -- a run of one round with work and one without, whose look finds the cube quiet
 pub two_rounds : (kind : RoundKind) (user : ℕ) (image : ImageParts) (count : ℕ) (work idle : List Entry) → IsRoundWithWork kind 0 work → IsRoundWithoutWork kind 0 idle
-    → IsRun kind (one_cube user image) count Quiet (by user HOST (Arm count) ∷ (joined_lists (work ∷ []) ++ (idle ++ by user HOST (Look FoundQuiet) ∷ [])))
+    → IsRun kind (one_cube user image) count Quiet (entry_of user HOST (Arm count) ∷ (joined_lists (work ∷ []) ++ (idle ++ entry_of user HOST (Look look_result.Quiet) ∷ [])))
 two_rounds kind user image count work idle with_work without_work = record {
   rounds = work ∷ [];
   last = idle;
-  found = FoundQuiet;
+  found = look_result.Quiet;
   with_work = (with_work, tt);
   without_work = without_work;
   entries = refl;

@@ -5,8 +5,8 @@ use Rattle.std.specs.Prelude.{filter_map, option_map}
 use Rattle.std.specs.List.{AllByRecursion, cons_option}
 use Rattle.std.specs.Option.{option_or}
 use Rattle.ce_script.specs.declared.script.ScriptKind.{ScriptKind}
-use Rattle.ce_script.specs.Lines.{Spot, spots_behind}
-use Rattle.ce_script.specs.Faults.{first_some, fault_where}
+use Rattle.ce_script.specs.Lines.{Spot, later_spots}
+use Rattle.ce_script.specs.Faults.{first_some, kind_where}
 
 -- ---- options
 
@@ -27,7 +27,7 @@ each_mapped_none f [] e = tt
 each_mapped_none f (one ∷ others) e =
     let both = or_none (f one) (first_some (map f others)) e in (both.0, each_mapped_none f others both.1)
 
-pub refused_none : (test : Bool) (kind : ScriptKind) → fault_where test kind ≡ None → test ≡ false
+pub refused_none : (test : Bool) (kind : ScriptKind) → kind_where test kind ≡ None → test ≡ false
 refused_none true kind e = absurd cc
 refused_none false kind e = refl
 
@@ -53,14 +53,14 @@ each_made {A} {B} f Q (one ∷ others) each =
 -- ---- spots
 
 -- each spot has all of the list
-pub each_whole : {A : Type 0} (before list : List A) → AllByRecursion (λ spot. spot.before ++ spot.here ∷ spot.behind ≡ before ++ list) (spots_behind before list)
+pub each_whole : {A : Type 0} (before list : List A) → AllByRecursion (λ spot. spot.before ++ spot.here ∷ spot.behind ≡ before ++ list) (later_spots before list)
 each_whole before [] = tt
 each_whole {A} before (here ∷ behind) =
-    let P : List A → Type 0 = λ whole. AllByRecursion (λ spot. spot.before ++ spot.here ∷ spot.behind ≡ whole) (spots_behind (before ++ here ∷ []) behind) in
+    let P : List A → Type 0 = λ whole. AllByRecursion (λ spot. spot.before ++ spot.here ∷ spot.behind ≡ whole) (later_spots (before ++ here ∷ []) behind) in
     (refl, subst P (append_assoc before (here ∷ []) behind) (each_whole (before ++ here ∷ []) behind))
 
 -- what holds of each spot holds of the last
-pub last_spot : {A : Type 0} (P : Spot A → Type 0) (before : List A) (here : A) (behind : List A) → AllByRecursion P (spots_behind before (here ∷ behind))
+pub last_spot : {A : Type 0} (P : Spot A → Type 0) (before : List A) (here : A) (behind : List A) → AllByRecursion P (later_spots before (here ∷ behind))
     → (spot : Spot A) × P spot × (spot.before ++ spot.here ∷ [] ≡ before ++ here ∷ behind)
 last_spot P before here [] each = (record { before = before; here = here; behind = [] }, each.0, refl)
 last_spot P before here (next ∷ behind) each =

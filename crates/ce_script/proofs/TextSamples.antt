@@ -6,20 +6,20 @@ use Rattle.rv_model.specs.declared.stop.Stop.TheVariants.{Exited, Killed, Illega
 use Rattle.hex.specs.Hex.{encode_with}
 use Rattle.ce_model.specs.declared.process.Status.TheVariants.{Unborn, Running, Asking, Polling, Stopped}
 use Rattle.ce_model.specs.declared.topology.TheConstants.{HOST}
-use Rattle.ce_model.specs.declared.entry.What.TheVariants.{Arm, Look, HostTake, Send as SendMade, Spawn as SpawnMade, Kill as KillMade, Note, Take}
-use Rattle.ce_model.specs.declared.entry.LookResult.TheVariants.{Quiet as FoundQuiet, Spent as FoundSpent, Busy}
-use Rattle.ce_model.specs.declared.entry.KillFound.TheVariants.{Killed as FoundKilled, Unused as FoundUnused, Already as FoundAlready}
-use Rattle.ce_model.specs.declared.entry.TakeResult.TheVariants.{Start, Mail, Kill as GivenKill, Poll, Idle, Spent as GivenSpent}
+use Rattle.ce_model.specs.declared.entry.What.TheVariants as whats
+use Rattle.ce_model.specs.declared.entry.LookResult.TheVariants as look_result
+use Rattle.ce_model.specs.declared.entry.KillFound.TheVariants as kill_found
+use Rattle.ce_model.specs.declared.entry.TakeResult.TheVariants as take_result
 use Rattle.ce_model.specs.Limits.{host_home}
 use Rattle.ce_host.specs.declared.command.Command.TheVariants.{Getcube, Peek, Freecube, Spawn, Kill, Send, Run, Recv, Dump, Trace}
-use Rattle.ce_host.specs.declared.answer.Answer.TheVariants.{NoCube, Held, None as Nothing, Granted, Peeked, Freed, Ok as Done, NoPlace, Used, Unused, Already, NoStore, Quiet, Spent, Message, State, Entries}
+use Rattle.ce_host.specs.declared.answer.Answer.TheVariants as answers
 use Rattle.ce_script.specs.declared.record.Record.{Record}
 use Rattle.ce_script.specs.declared.script.Script.{Script}
 use Rattle.ce_script.specs.TextParts.{line}
 use Rattle.ce_script.specs.CommandText.{command_words, reply_text}
 use Rattle.ce_script.specs.EntryText.{entry_line}
 use Rattle.ce_script.specs.Texts.{summary}
-use Rattle.ce_script.proofs.Rows.{lines, by, place, block, subcube}
+use Rattle.ce_script.proofs.Rows.{lines, entry_of, place, block, subcube}
 
 -- one image, and two users
 abbrev a_script : ImageParts → Script
@@ -27,8 +27,8 @@ a_script image = record { dim = Some 2; images = record { name = codes "ring"; i
 
 abbrev a_record : Record
 a_record = record {
-  users = record { name = codes "u0"; done = (Recv 100, Message (place 3 0) (0x6F ∷ 0x1A ∷ [])) ∷ (Freecube, Freed) ∷ [] }
-      ∷ record { name = codes "u1"; done = (Getcube 2, Granted (subcube 3 0)) ∷ (Recv 100, Spent) ∷ [] } ∷ [];
+  users = record { name = codes "u0"; done = (Recv 100, answers.Message (place 3 0) (0x6F ∷ 0x1A ∷ [])) ∷ (Freecube, answers.Freed) ∷ [] }
+      ∷ record { name = codes "u1"; done = (Getcube 2, answers.Granted (subcube 3 0)) ∷ (Recv 100, answers.Spent) ∷ [] } ∷ [];
   history = [];
 }
 
@@ -47,12 +47,12 @@ commands_text image = refl
 
 -- the replies that name no process
 replies_text :
-    line (reply_text a_record NoCube ∷ []) ++ line (reply_text a_record Held ∷ []) ++ line (reply_text a_record Nothing ∷ [])
-    ++ line (reply_text a_record (Granted (subcube 5 2)) ∷ []) ++ line (reply_text a_record Freed ∷ []) ++ line (reply_text a_record Done ∷ [])
-    ++ line (reply_text a_record NoPlace ∷ []) ++ line (reply_text a_record Used ∷ []) ++ line (reply_text a_record Unused ∷ [])
-    ++ line (reply_text a_record Already ∷ []) ++ line (reply_text a_record NoStore ∷ []) ++ line (reply_text a_record Quiet ∷ [])
-    ++ line (reply_text a_record Spent ∷ []) ++ line (reply_text a_record (Message (place 3 1) []) ∷ [])
-    ++ line (reply_text a_record (Entries 8) ∷ []) ++ line (reply_text a_record (Peeked (record { free = 64; grants = [] })) ∷ [])
+    line (reply_text a_record answers.NoCube ∷ []) ++ line (reply_text a_record answers.Held ∷ []) ++ line (reply_text a_record answers.None ∷ [])
+    ++ line (reply_text a_record (answers.Granted (subcube 5 2)) ∷ []) ++ line (reply_text a_record answers.Freed ∷ []) ++ line (reply_text a_record answers.Ok ∷ [])
+    ++ line (reply_text a_record answers.NoPlace ∷ []) ++ line (reply_text a_record answers.Used ∷ []) ++ line (reply_text a_record answers.Unused ∷ [])
+    ++ line (reply_text a_record answers.Already ∷ []) ++ line (reply_text a_record answers.NoStore ∷ []) ++ line (reply_text a_record answers.Quiet ∷ [])
+    ++ line (reply_text a_record answers.Spent ∷ []) ++ line (reply_text a_record (answers.Message (place 3 1) []) ∷ [])
+    ++ line (reply_text a_record (answers.Entries 8) ∷ []) ++ line (reply_text a_record (answers.Peeked (record { free = 64; grants = [] })) ∷ [])
     ≡ lines (codes "no cube" ∷ codes "held" ∷ codes "none" ∷ codes "granted mask 5 base 2" ∷ codes "freed" ∷ codes "ok" ∷ codes "no place"
     ∷ codes "used" ∷ codes "unused" ∷ codes "already" ∷ codes "no store" ∷ codes "quiet" ∷ codes "spent" ∷ codes "message 3.1 -"
     ∷ codes "entries 8" ∷ codes "free 64" ∷ [])
@@ -61,17 +61,17 @@ replies_text = refl
 
 -- what a process does, and why it stopped
 states_text :
-    line (reply_text a_record (State Unborn) ∷ []) ++ line (reply_text a_record (State Running) ∷ [])
-    ++ line (reply_text a_record (State Asking) ∷ []) ++ line (reply_text a_record (State Polling) ∷ [])
-    ++ line (reply_text a_record (State (Stopped (Exited 4_294_967_295))) ∷ []) ++ line (reply_text a_record (State (Stopped Killed)) ∷ [])
-    ++ line (reply_text a_record (State (Stopped (Illegal 0x1_0004 0xFFFF_FFFF))) ∷ [])
-    ++ line (reply_text a_record (State (Stopped (Fetch 0x2))) ∷ []) ++ line (reply_text a_record (State (Stopped (Target 0x1_0008))) ∷ [])
-    ++ line (reply_text a_record (State (Stopped (Misaligned 0x1_0001))) ∷ []) ++ line (reply_text a_record (State (Stopped (Unmapped 0))) ∷ [])
-    ++ line (reply_text a_record (State (Stopped (Gone 0x8000_0000))) ∷ [])
-    ++ line (reply_text a_record (State (Stopped (PastEnd 0x8001_0000))) ∷ [])
-    ++ line (reply_text a_record (State (Stopped (NotABlock 0xABCD_EF12))) ∷ []) ++ line (reply_text a_record (State (Stopped (Break 0x1_0000))) ∷ [])
-    ++ line (reply_text a_record (State (Stopped (NoCall 15))) ∷ []) ++ line (reply_text a_record (State (Stopped TurnSpent)) ∷ [])
-    ++ line (reply_text a_record (State (Stopped WindowsSpent)) ∷ [])
+    line (reply_text a_record (answers.State Unborn) ∷ []) ++ line (reply_text a_record (answers.State Running) ∷ [])
+    ++ line (reply_text a_record (answers.State Asking) ∷ []) ++ line (reply_text a_record (answers.State Polling) ∷ [])
+    ++ line (reply_text a_record (answers.State (Stopped (Exited 4_294_967_295))) ∷ []) ++ line (reply_text a_record (answers.State (Stopped Killed)) ∷ [])
+    ++ line (reply_text a_record (answers.State (Stopped (Illegal 0x1_0004 0xFFFF_FFFF))) ∷ [])
+    ++ line (reply_text a_record (answers.State (Stopped (Fetch 0x2))) ∷ []) ++ line (reply_text a_record (answers.State (Stopped (Target 0x1_0008))) ∷ [])
+    ++ line (reply_text a_record (answers.State (Stopped (Misaligned 0x1_0001))) ∷ []) ++ line (reply_text a_record (answers.State (Stopped (Unmapped 0))) ∷ [])
+    ++ line (reply_text a_record (answers.State (Stopped (Gone 0x8000_0000))) ∷ [])
+    ++ line (reply_text a_record (answers.State (Stopped (PastEnd 0x8001_0000))) ∷ [])
+    ++ line (reply_text a_record (answers.State (Stopped (NotABlock 0xABCD_EF12))) ∷ []) ++ line (reply_text a_record (answers.State (Stopped (Break 0x1_0000))) ∷ [])
+    ++ line (reply_text a_record (answers.State (Stopped (NoCall 15))) ∷ []) ++ line (reply_text a_record (answers.State (Stopped TurnSpent)) ∷ [])
+    ++ line (reply_text a_record (answers.State (Stopped WindowsSpent)) ∷ [])
     ≡ lines (codes "unborn" ∷ codes "running" ∷ codes "asking" ∷ codes "polling" ∷ codes "stopped exited 4294967295" ∷ codes "stopped killed"
     ∷ codes "stopped illegal 0x00010004 0xffffffff" ∷ codes "stopped fetch 0x00000002" ∷ codes "stopped target 0x00010008"
     ∷ codes "stopped misaligned 0x00010001" ∷ codes "stopped unmapped 0x00000000" ∷ codes "stopped gone 0x80000000"
@@ -82,17 +82,17 @@ states_text = refl
 
 -- every entry of a trace
 entries_text : (image : ImageParts) →
-    entry_line (a_script image) (by 0 HOST (Arm 10)) ++ entry_line (a_script image) (by 0 HOST (Look FoundQuiet))
-    ++ entry_line (a_script image) (by 0 HOST (Look FoundSpent)) ++ entry_line (a_script image) (by 0 HOST (Look Busy))
-    ++ entry_line (a_script image) (by 0 HOST (HostTake None)) ++ entry_line (a_script image) (by 0 HOST (HostTake (Some 12)))
-    ++ entry_line (a_script image) (by 0 3 (SendMade 1 7 ((place 0 1, block 0 0) ∷ (place HOST 0, block 256 31) ∷ []) []))
-    ++ entry_line (a_script image) (by 0 0 (SpawnMade 2 0 (place 1 5) false))
-    ++ entry_line (a_script image) (by 0 HOST (KillMade 0 (place 0 0) FoundKilled))
-    ++ entry_line (a_script image) (by 0 2 (KillMade 7 (place 3 0) FoundUnused))
-    ++ entry_line (a_script image) (by 0 2 (KillMade 7 (place 3 0) FoundAlready)) ++ entry_line (a_script image) (by 0 1 (Note 4 42))
-    ++ entry_line (a_script image) (by 0 1 (Take 3 4 (Some 1) (Start 2 0))) ++ entry_line (a_script image) (by 0 1 (Take 0 0 None (Mail 6 9)))
-    ++ entry_line (a_script image) (by 0 1 (Take 0 0 None (GivenKill 5))) ++ entry_line (a_script image) (by 0 1 (Take 1 0 (Some 0) (Poll 0)))
-    ++ entry_line (a_script image) (by 0 1 (Take 0 255 None Idle)) ++ entry_line (a_script image) (by 0 1 (Take 0 0 None GivenSpent))
+    entry_line (a_script image) (entry_of 0 HOST (whats.Arm 10)) ++ entry_line (a_script image) (entry_of 0 HOST (whats.Look look_result.Quiet))
+    ++ entry_line (a_script image) (entry_of 0 HOST (whats.Look look_result.Spent)) ++ entry_line (a_script image) (entry_of 0 HOST (whats.Look look_result.Busy))
+    ++ entry_line (a_script image) (entry_of 0 HOST (whats.HostTake None)) ++ entry_line (a_script image) (entry_of 0 HOST (whats.HostTake (Some 12)))
+    ++ entry_line (a_script image) (entry_of 0 3 (whats.Send 1 7 ((place 0 1, block 0 0) ∷ (place HOST 0, block 256 31) ∷ []) []))
+    ++ entry_line (a_script image) (entry_of 0 0 (whats.Spawn 2 0 (place 1 5) false))
+    ++ entry_line (a_script image) (entry_of 0 HOST (whats.Kill 0 (place 0 0) kill_found.Killed))
+    ++ entry_line (a_script image) (entry_of 0 2 (whats.Kill 7 (place 3 0) kill_found.Unused))
+    ++ entry_line (a_script image) (entry_of 0 2 (whats.Kill 7 (place 3 0) kill_found.Already)) ++ entry_line (a_script image) (entry_of 0 1 (whats.Note 4 42))
+    ++ entry_line (a_script image) (entry_of 0 1 (whats.Take 3 4 (Some 1) (take_result.Start 2 0))) ++ entry_line (a_script image) (entry_of 0 1 (whats.Take 0 0 None (take_result.Mail 6 9)))
+    ++ entry_line (a_script image) (entry_of 0 1 (whats.Take 0 0 None (take_result.Kill 5))) ++ entry_line (a_script image) (entry_of 0 1 (whats.Take 1 0 (Some 0) (take_result.Poll 0)))
+    ++ entry_line (a_script image) (entry_of 0 1 (whats.Take 0 255 None take_result.Idle)) ++ entry_line (a_script image) (entry_of 0 1 (whats.Take 0 0 None take_result.Spent))
     ≡ lines (codes "host arm 10" ∷ codes "host look quiet" ∷ codes "host look spent" ∷ codes "host look busy" ∷ codes "host get -"
     ∷ codes "host get 12" ∷ codes "node 3 send 1 7 0.1=0.0,host.0=host.31 -" ∷ codes "node 0 spawn 2 ring 1.5 used"
     ∷ codes "host kill 0 0.0 ok" ∷ codes "node 2 kill 7 3.0 unused" ∷ codes "node 2 kill 7 3.0 already" ∷ codes "node 1 note 4 42"

@@ -7,11 +7,11 @@ use Rattle.ce_model.specs.declared.entry.Entry.{Entry}
 use Rattle.ce_model.specs.declared.entry.What.TheVariants.{Arm, Spawn, Take}
 use Rattle.ce_model.specs.declared.entry.TakeResult.TheVariants.{Start, Idle}
 use Rattle.ce_model.specs.Limits.{process_count, home_blocks, host_home, greatest_dim}
-use Rattle.ce_model.specs.Subcubes.{extract, deposit, relative, subcubes, first_free}
+use Rattle.ce_model.specs.Subcubes.{extract, deposit, relative_number, subcubes, first_free}
 use Rattle.ce_model.specs.Answers.{answer, is_quiet}
-use Rattle.ce_model.specs.Trace.{sent_to, taken_by, waiting_items, spawned_ids, killed_ids, mark, allowed_dispatches, made_dispatches, parcels}
+use Rattle.ce_model.specs.Trace.{sent_items, taken_results, waiting_items, spawned_ids, killed_ids, mark, allowed_dispatches, made_dispatches, parcels}
 use Rattle.ce_model.specs.Views.{view}
-use Rattle.ce_model.specs.Cube.{Cube, opening, state, hoststore, HostCall, Solo, acts, whole_trace, solo_from, solo, next_entry, start_image, allow, look_round, IsAlone}
+use Rattle.ce_model.specs.Cube.{Cube, opening, state, hoststore, HostCall, Solo, next_solo, whole_trace, continued_solo, solo, next_entry, start_image, allow, look_round, IsAlone}
 use Rattle.ce_model.specs.Owners.{IsOwned}
 use Rattle.ce_model.specs.Order.{IsInOrder}
 use Rattle.ce_model.specs.Machine.{IsLawful, after}
@@ -20,11 +20,11 @@ use Rattle.ce_script.specs.Rounds.{serial}
 use Rattle.ce_script.specs.Moments.{moments, holding}
 use Rattle.ce_host.specs.declared.command.Command.TheVariants.{Getcube}
 use Rattle.ce_host.specs.declared.answer.Answer.{Answer}
-use Rattle.ce_host.specs.declared.answer.Answer.TheVariants.{Held, None as Nothing}
+use Rattle.ce_host.specs.declared.answer.Answer.TheVariants as answers
 use Rattle.ce_script.specs.Doings.{IsRefusedExactly, Doing, AreRefusedExactly}
-use Rattle.ce_script.specs.Legal.{EachCube, IsLegal, images_of, machine_of}
+use Rattle.ce_script.specs.Legal.{EachCube, IsLegal, script_images, machine_of}
 use Rattle.ce_script.specs.Serial.{IsSerial}
-use Rattle.ce_script.proofs.Rows.{first_bytes, second_bytes, third_bytes, doing_in, by, place}
+use Rattle.ce_script.proofs.Rows.{first_bytes, second_bytes, third_bytes, doing_in, entry_of, place}
 use Rattle.ce_script.proofs.RowUsedAgain.{the_script, the_record, alice_sends}
 use Rattle.ce_script.proofs.UsedAgainDone.{HasSaidRow, alice_doings, bob_doings, bob_cube, bob_trace, is_kept, alice_did, bob_did}
 
@@ -48,27 +48,27 @@ abbrev alice_trace : List Entry
 alice_trace = alice_sends 0 first_bytes ∷ alice_sends 1 second_bytes ∷ alice_sends 2 third_bytes ∷ []
 
 alice_alone : (image : ImageParts) → IsAlone (alice_cube image) alice_trace
-unfolding solo solo_from next_entry hoststore answer waiting_items sent_to taken_by spawned_ids killed_ids mark allowed_dispatches made_dispatches parcels process_count home_blocks host_home
+unfolding solo continued_solo next_entry hoststore answer waiting_items sent_items taken_results spawned_ids killed_ids mark allowed_dispatches made_dispatches parcels process_count home_blocks host_home
 alice_alone image = refl
 
 -- bob's cube in the middle of its run
 abbrev now_at : List Entry → List HostCall → Solo
-now_at trace asked = record { trace = trace; asked = asked }
+now_at trace asked = record { trace = trace; calls_left = asked }
 
 abbrev spawned_entry : Entry
-spawned_entry = by 1 HOST (Spawn 0 0 (place 0 0) true)
+spawned_entry = entry_of 1 HOST (Spawn 0 0 (place 0 0) true)
 
 abbrev armed_entry : Entry
-armed_entry = by 1 HOST (Arm 10)
+armed_entry = entry_of 1 HOST (Arm 10)
 
 abbrev started_entry : Entry
-started_entry = by 1 0 (Take 0 0 None (Start 0 0))
+started_entry = entry_of 1 0 (Take 0 0 None (Start 0 0))
 
 abbrev rested_entry : Entry
-rested_entry = by 1 0 (Take 1 0 None Idle)
+rested_entry = entry_of 1 0 (Take 1 0 None Idle)
 
 abbrev bob_acts : ImageParts → Solo → ℕ → Option Solo
-bob_acts image now actor = acts (bob_cube image) (opening (bob_cube image)) now actor
+bob_acts image now actor = next_solo (bob_cube image) (opening (bob_cube image)) now actor
 
 abbrev spawned_now : Solo
 spawned_now = now_at (spawned_entry ∷ []) (allow 10 ∷ look_round ∷ [])
@@ -83,38 +83,38 @@ abbrev rested_now : Solo
 rested_now = now_at (spawned_entry ∷ armed_entry ∷ started_entry ∷ rested_entry ∷ []) (look_round ∷ [])
 
 spawns : (image : ImageParts) → bob_acts image (now_at [] (start_image 0 (place 0 0) ∷ allow 10 ∷ look_round ∷ [])) HOST ≡ Some spawned_now
-unfolding next_entry hoststore answer waiting_items sent_to taken_by spawned_ids killed_ids mark allowed_dispatches made_dispatches parcels process_count home_blocks host_home
+unfolding next_entry hoststore answer waiting_items sent_items taken_results spawned_ids killed_ids mark allowed_dispatches made_dispatches parcels process_count home_blocks host_home
 spawns image = refl
 
 arms : (image : ImageParts) → bob_acts image spawned_now HOST ≡ Some armed_now
-unfolding next_entry hoststore answer waiting_items sent_to taken_by spawned_ids killed_ids mark allowed_dispatches made_dispatches parcels home_blocks host_home
+unfolding next_entry hoststore answer waiting_items sent_items taken_results spawned_ids killed_ids mark allowed_dispatches made_dispatches parcels home_blocks host_home
 arms image = refl
 
 starts : (image : ImageParts) → HasSaidRow image → bob_acts image armed_now 0 ≡ Some started_now
-unfolding next_entry state hoststore answer waiting_items sent_to taken_by spawned_ids killed_ids mark allowed_dispatches made_dispatches parcels home_blocks host_home
+unfolding next_entry state hoststore answer waiting_items sent_items taken_results spawned_ids killed_ids mark allowed_dispatches made_dispatches parcels home_blocks host_home
 starts image h = rw h.asks refl
 
 rests : (image : ImageParts) → HasSaidRow image → bob_acts image started_now 0 ≡ Some rested_now
-unfolding next_entry state hoststore answer waiting_items sent_to taken_by spawned_ids killed_ids mark allowed_dispatches made_dispatches parcels home_blocks host_home
+unfolding next_entry state hoststore answer waiting_items sent_items taken_results spawned_ids killed_ids mark allowed_dispatches made_dispatches parcels home_blocks host_home
 rests image h = rw h.waits refl
 
 looks : (image : ImageParts) → bob_acts image rested_now HOST ≡ Some (now_at bob_trace [])
-unfolding next_entry hoststore answer is_quiet waiting_items sent_to taken_by spawned_ids killed_ids mark allowed_dispatches made_dispatches parcels home_blocks host_home
+unfolding next_entry hoststore answer is_quiet waiting_items sent_items taken_results spawned_ids killed_ids mark allowed_dispatches made_dispatches parcels home_blocks host_home
 looks image = refl
 
 bob_alone : (image : ImageParts) → HasSaidRow image → IsAlone (bob_cube image) bob_trace
-unfolding solo solo_from
+unfolding solo continued_solo
 bob_alone image h =
     let cube = bob_cube image in
-    let go : Option Solo → List ℕ → Option (List Entry) = λ now schedule. option_and_then (λ (end : Solo). whole_trace end.trace end.asked) (fold (λ now' actor. option_and_then (λ solo. acts cube (opening cube) solo actor) now') now schedule) in
+    let go : Option Solo → List ℕ → Option (List Entry) = λ now schedule. option_and_then (λ (end : Solo). whole_trace end.trace end.calls_left) (fold (λ now' actor. option_and_then (λ solo. next_solo cube (opening cube) solo actor) now') now schedule) in
     ap (λ now. go now (HOST ∷ 0 ∷ 0 ∷ HOST ∷ [])) (spawns image)
     ∙ ap (λ now. go now (0 ∷ 0 ∷ HOST ∷ [])) (arms image)
     ∙ ap (λ now. go now (0 ∷ HOST ∷ [])) (starts image h)
     ∙ ap (λ now. go now (HOST ∷ [])) (rests image h)
     ∙ ap (λ now. go now []) (looks image)
 
-are_alone : (image : ImageParts) → HasSaidRow image → EachCube IsAlone (images_of (the_script image)) the_record.history
-unfolding view extract relative host_home greatest_dim
+are_alone : (image : ImageParts) → HasSaidRow image → EachCube IsAlone (script_images (the_script image)) the_record.history
+unfolding view extract relative_number host_home greatest_dim
 are_alone image h = (alice_alone image, (bob_alone image h, tt))
 
 -- ---- the record
@@ -127,8 +127,8 @@ abbrev doings_by : ℕ → List Doing
 doings_by user = if user == 0 then alice_doings else bob_doings
 
 pub is_legal : (image : ImageParts) → HasSaidRow image
-    → EachCube (λ cube t. IsOwned cube (opening cube) t) (images_of (the_script image)) the_record.history
-    → EachCube (λ cube t. IsInOrder (opening cube).standing t) (images_of (the_script image)) the_record.history
+    → EachCube (λ cube t. IsOwned cube (opening cube) t) (script_images (the_script image)) the_record.history
+    → EachCube (λ cube t. IsInOrder (opening cube).standing t) (script_images (the_script image)) the_record.history
     → IsLegal serial (the_script image) the_record
 is_legal image h owned in_order = record {
   doings = doings_by;
@@ -157,9 +157,9 @@ abbrev answered_with : Answer → Doing
 answered_with answer = doing_in the_record.history (Getcube 0) answer 0 1
 
 -- it can't be answered that no subcube is free, nor that alice holds a cube
-pub none_is_not_allowed : (image : ImageParts) → IsRefusedExactly (machine_of (the_script image)) None 0 (answered_with Nothing) → ⊥
+pub none_is_not_allowed : (image : ImageParts) → IsRefusedExactly (machine_of (the_script image)) None 0 (answered_with answers.None) → ⊥
 unfolding moments after first_free subcubes extract deposit greatest_dim
 none_is_not_allowed image h = let found = (h.none.0 refl).1 in absurd (cc)
 
-pub held_is_not_allowed : (image : ImageParts) → IsRefusedExactly (machine_of (the_script image)) None 0 (answered_with Held) → ⊥
+pub held_is_not_allowed : (image : ImageParts) → IsRefusedExactly (machine_of (the_script image)) None 0 (answered_with answers.Held) → ⊥
 held_is_not_allowed image h = let found = h.held.0 refl in absurd (cc)

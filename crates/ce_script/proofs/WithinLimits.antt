@@ -11,16 +11,16 @@ use Rattle.ce_model.specs.Limits.{greatest_dim, greatest_count, greatest_users, 
 use Rattle.ce_host.specs.declared.command.Command.{Command}
 use Rattle.ce_script.specs.declared.grammar.Verb.{Verb}
 use Rattle.ce_script.specs.declared.grammar.Verb.TheVariants.{Machine, Image, User, Getcube, Peek, Freecube, Spawn, Kill, Send, Run, Recv, Dump, Trace}
-use Rattle.ce_script.specs.declared.script.Named.{Named}
+use Rattle.ce_script.specs.declared.script.NamedImage.{NamedImage}
 use Rattle.ce_script.specs.declared.script.Script.{Script}
 use Rattle.ce_script.specs.declared.script.ScriptKind.TheVariants.{BadNumber, UnknownImage}
-use Rattle.ce_script.specs.Lines.{Spot, spots, spots_behind, words}
+use Rattle.ce_script.specs.Lines.{Spot, spots, later_spots, words}
 use Rattle.ce_text.specs.Number.{are_digits, number_of_digits}
-use Rattle.ce_script.specs.Spellings.{are_byte_digits, digit_bytes, number_digits, greatest_number, number_to, bytes_in, data_in}
+use Rattle.ce_script.specs.Spellings.{are_byte_digits, digit_bytes, number_digits, greatest_number, bounded_number, written_bytes, data_in}
 use Rattle.ce_script.specs.Verbs.{verb_of, is_machine, is_image, is_user, is_command, Number, OldImage}
-use Rattle.ce_script.specs.Statements.{Statement, operand, is_of, statements}
-use Rattle.ce_script.specs.Sayings.{of_kind, names_in, number_of, number_at, image_said, distinct, dimension, images, image_names, users, command_by, command_in, last_user, command_at, commands}
-use Rattle.ce_script.specs.Faults.{is_among, operand_fault, statement_fault, first_fault}
+use Rattle.ce_script.specs.Statements.{Statement, operand, has_verb_kind, statements}
+use Rattle.ce_script.specs.Sayings.{of_kind, stated_names, name_number, operand_number, image_said, without_repeats, dimension, images, image_names, users, command_of_verb, command_of_statement, last_user, numbered_command, commands}
+use Rattle.ce_script.specs.Faults.{is_one_name_of, operand_fault, statement_fault, first_fault}
 use Rattle.ce_script.specs.Scripts.{IsScript}
 use Rattle.ce_script.specs.Bounds.{AreNames, IsCommandWithin, IsOwnCommandWithin, IsWithinLimits}
 use Rattle.ce_script.proofs.Spots.{or_none, each_mapped_none, refused_none, each_of, each_both, each_made, each_whole, last_spot}
@@ -42,16 +42,16 @@ number_within true false n most e = absurd cc
 number_within false few n most e = absurd cc
 
 -- a number that was not refused is at most this
-at_most : (most : ℕ) (names : List (List ℕ)) (word : List ℕ) → operand_fault names (Number most) word ≡ None → unwrap_or (number_to greatest_number word) 0 ≤ most
-unfolding number_to number_of_digits
+at_most : (most : ℕ) (names : List (List ℕ)) (word : List ℕ) → operand_fault names (Number most) word ≡ None → unwrap_or (bounded_number greatest_number word) 0 ≤ most
+unfolding bounded_number number_of_digits
 at_most most names word e =
-    number_within (nat_le (length word) number_digits) (are_digits 10 word) (digits_value 10 word) most (refused_none (is_none (number_to most word)) BadNumber e)
+    number_within (nat_le (length word) number_digits) (are_digits 10 word) (digits_value 10 word) most (refused_none (is_none (bounded_number most word)) BadNumber e)
 
 -- the image of a name that was not refused is one of those
-old_image : (before more : List (List ℕ)) (word : List ℕ) → operand_fault before OldImage word ≡ None → number_of word (before ++ more) < length (before ++ more)
+old_image : (before more : List (List ℕ)) (word : List ℕ) → operand_fault before OldImage word ≡ None → name_number word (before ++ more) < length (before ++ more)
 old_image before more word e =
-    let unknown = refused_none (not (is_among before word)) UnknownImage (or_none _ _ e).1 in
-    number_below (before ++ more) word (among_front before more word (not-false (is_among before word) unknown))
+    let unknown = refused_none (not (is_one_name_of before word)) UnknownImage (or_none _ _ e).1 in
+    number_below (before ++ more) word (among_front before more word (not-false (is_one_name_of before word) unknown))
 
 pub two_each : (digits : List ℕ) → 2 * length (digit_bytes digits) ≤ length digits
 two_each [] = omega arith
@@ -70,7 +70,7 @@ below n most e = grind (arith, nat_tests)
 
 -- no message has more bytes than a block can hold
 data_within : (word : List ℕ) → length (unwrap_or (data_in word) []) ≤ block_room
-unfolding data_in bytes_in
+unfolding data_in written_bytes
 data_within word =
     data_by (bytes_eq word (codes "-")) (nat_le (length word) (2 * block_room)) (are_byte_digits word) word block_room (below (length word) (2 * block_room))
 
@@ -84,7 +84,7 @@ none one e = cc
 
 -- the command of a statement keeps the limits, where these images stand before it and these more behind
 command_within : (spot : Spot Statement) (verb : Verb) (more : List (List ℕ)) (command : Command) → IsRight spot → verb_of (words spot.here.line) ≡ Some verb
-    → command_by verb (image_names spot.before ++ more) spot.here ≡ Some command → IsCommandWithin (length (image_names spot.before ++ more)) command
+    → command_of_verb verb (image_names spot.before ++ more) spot.here ≡ Some command → IsCommandWithin (length (image_names spot.before ++ more)) command
 command_within spot Machine more command is v e = absurd (none command e)
 command_within spot Image more command is v e = absurd (none command e)
 command_within spot User more command is v e = absurd (none command e)
@@ -110,23 +110,23 @@ command_within spot Trace more command is v e = subst (IsCommandWithin (length (
 
 -- ---- users
 
-there_is : (kind : Verb → Bool) (all : List Statement) → list_any (is_of kind) all ≡ true
+there_is : (kind : Verb → Bool) (all : List Statement) → list_any (has_verb_kind kind) all ≡ true
     → (one : Statement) × (others : List Statement) × (of_kind kind all ≡ one ∷ others)
 there_is kind [] e = absurd cc
 there_is kind (one ∷ others) e =
-    elim (is_of kind one) as (λ b. b || list_any (is_of kind) others ≡ true → (first : Statement) × (rest : List Statement) × (cond b (one ∷ of_kind kind others) (of_kind kind others) ≡ first ∷ rest)) [
+    elim (has_verb_kind kind one) as (λ b. b || list_any (has_verb_kind kind) others ≡ true → (first : Statement) × (rest : List Statement) × (cond b (one ∷ of_kind kind others) (of_kind kind others) ≡ first ∷ rest)) [
       | true ↦ λ _. (one, of_kind kind others, refl)
       | false ↦ λ later. there_is kind others later
     ] e
 
 -- the last user is among the users, where there is one
-pub last_user_among : (before : List Statement) → list_any (is_of is_user) before ≡ true → is_among (names_in (of_kind is_user before)) (last_user before) ≡ true
+pub last_user_among : (before : List Statement) → list_any (has_verb_kind is_user) before ≡ true → is_one_name_of (stated_names (of_kind is_user before)) (last_user before) ≡ true
 last_user_among before e =
     let found = there_is is_user before e in
-    let P : List Statement → Type 0 = λ those. is_among (names_in those) (unwrap_or (last_or None (names_in those)) []) ≡ true in
-    subst P (sym found.2) (last_among (operand 1 found.0) (names_in found.1))
+    let P : List Statement → Type 0 = λ those. is_one_name_of (stated_names those) (unwrap_or (last_or None (stated_names those)) []) ≡ true in
+    subst P (sym found.2) (last_among (operand 1 found.0) (stated_names found.1))
 
-is_said : (verb : Verb) (images : List (List ℕ)) (statement : Statement) (command : Command) → command_by verb images statement ≡ Some command → is_command verb ≡ true
+is_said : (verb : Verb) (images : List (List ℕ)) (statement : Statement) (command : Command) → command_of_verb verb images statement ≡ Some command → is_command verb ≡ true
 is_said Machine images statement command e = absurd (none command e)
 is_said Image images statement command e = absurd (none command e)
 is_said User images statement command e = absurd (none command e)
@@ -139,16 +139,16 @@ both_false false b e h = absurd cc
 
 -- the user of a command is one of the users
 user_within : (spot : Spot Statement) (verb : Verb) → IsRight spot → verb_of (words spot.here.line) ≡ Some verb → is_command verb ≡ true
-    → number_of (last_user spot.before) (users (spot.before ++ spot.here ∷ spot.behind)) < length (users (spot.before ++ spot.here ∷ spot.behind))
+    → name_number (last_user spot.before) (users (spot.before ++ spot.here ∷ spot.behind)) < length (users (spot.before ++ spot.here ∷ spot.behind))
 unfolding users
 user_within spot verb is v says =
-    let more = names_in (of_kind is_user (spot.here ∷ spot.behind)) in
+    let more = stated_names (of_kind is_user (spot.here ∷ spot.behind)) in
     let said = ap (λ found. option_map_or is_command found false) v ∙ says in
-    let there = last_user_among spot.before (both_false (is_of is_command spot.here) (list_any (is_of is_user) spot.before) is.user said) in
-    let among = among_front (names_in (of_kind is_user spot.before)) more (last_user spot.before) there in
-    let P : List (List ℕ) → Type 0 = λ names. number_of (last_user spot.before) (distinct names) < length (distinct names) in
+    let there = last_user_among spot.before (both_false (has_verb_kind is_command spot.here) (list_any (has_verb_kind is_user) spot.before) is.user said) in
+    let among = among_front (stated_names (of_kind is_user spot.before)) more (last_user spot.before) there in
+    let P : List (List ℕ) → Type 0 = λ names. name_number (last_user spot.before) (without_repeats names) < length (without_repeats names) in
     subst P (sym (names_append is_user spot.before (spot.here ∷ spot.behind)))
-    (number_below (distinct (names_in (of_kind is_user spot.before) ++ more)) (last_user spot.before) (among_distinct (names_in (of_kind is_user spot.before) ++ more) (last_user spot.before) among))
+    (number_below (without_repeats (stated_names (of_kind is_user spot.before) ++ more)) (last_user spot.before) (among_distinct (stated_names (of_kind is_user spot.before) ++ more) (last_user spot.before) among))
 
 pub images_append : (before more : List Statement) → image_names (before ++ more) ≡ image_names before ++ image_names more
 unfolding image_names
@@ -163,14 +163,14 @@ chained f None made e = absurd (none made e)
 chained f (Some one) made e = (one, refl, e)
 
 -- a command among all statements is one of the users', and keeps the limits
-own_within : (spot : Spot Statement) → IsRight spot → (own : ℕ × Command) → command_at (spot.before ++ spot.here ∷ spot.behind) spot ≡ Some own
+own_within : (spot : Spot Statement) → IsRight spot → (own : ℕ × Command) → numbered_command (spot.before ++ spot.here ∷ spot.behind) spot ≡ Some own
     → IsOwnCommandWithin (length (users (spot.before ++ spot.here ∷ spot.behind))) (length (image_names (spot.before ++ spot.here ∷ spot.behind))) own
-unfolding command_in
+unfolding command_of_statement
 own_within spot is own e =
     let all = spot.before ++ spot.here ∷ spot.behind in
-    let made = mapped (λ command. (number_of (last_user spot.before) (users all), command)) (command_in (image_names all) spot.here) own e in
-    let found = chained (λ verb. command_by verb (image_names all) spot.here) (verb_of (words spot.here.line)) made.0 made.1 in
-    let P : List (List ℕ) → Type 0 = λ images. command_by found.0 images spot.here ≡ Some made.0 → IsCommandWithin (length images) made.0 in
+    let made = mapped (λ command. (name_number (last_user spot.before) (users all), command)) (command_of_statement (image_names all) spot.here) own e in
+    let found = chained (λ verb. command_of_verb verb (image_names all) spot.here) (verb_of (words spot.here.line)) made.0 made.1 in
+    let P : List (List ℕ) → Type 0 = λ images. command_of_verb found.0 images spot.here ≡ Some made.0 → IsCommandWithin (length images) made.0 in
     let within = subst P (sym (images_append spot.before (spot.here ∷ spot.behind)))
     (command_within spot found.0 (image_names (spot.here ∷ spot.behind)) made.0 is found.1) found.2 in
     subst (IsOwnCommandWithin (length (users all)) (length (image_names all))) made.2
@@ -182,10 +182,10 @@ each_own_within all each =
     let IsWhole : Spot Statement → Type 0 = λ spot. spot.before ++ spot.here ∷ spot.behind ≡ all in
     let IsWithin : ℕ × Command → Type 0 = IsOwnCommandWithin (length (users all)) (length (image_names all)) in
     let IsKnown : Spot Statement → Type 0 = λ spot. IsRight spot × IsWhole spot in
-    let IsMadeWithin : Spot Statement → Type 0 = λ spot. (own : ℕ × Command) → command_at all spot ≡ Some own → IsWithin own in
-    each_made (command_at all) IsWithin (spots all)
+    let IsMadeWithin : Spot Statement → Type 0 = λ spot. (own : ℕ × Command) → numbered_command all spot ≡ Some own → IsWithin own in
+    each_made (numbered_command all) IsWithin (spots all)
     (each_of IsKnown IsMadeWithin (spots all)
-    (λ spot known own e. subst (λ (every : List Statement). command_at every spot ≡ Some own → IsOwnCommandWithin (length (users every)) (length (image_names every)) own) known.1 (own_within spot known.0 own) e)
+    (λ spot known own e. subst (λ (every : List Statement). numbered_command every spot ≡ Some own → IsOwnCommandWithin (length (users every)) (length (image_names every)) own) known.1 (own_within spot known.0 own) e)
     (each_both IsRight IsWhole (spots all) each (each_whole [] all)))
 
 -- ---- how many users and images
@@ -204,7 +204,7 @@ few (first ∷ others) each =
 
 -- ---- the machine
 
-found_spot : {A : Type 0} (P : Spot A → Type 0) (test : A → Bool) (before list : List A) → AllByRecursion P (spots_behind before list)
+found_spot : {A : Type 0} (P : Spot A → Type 0) (test : A → Bool) (before list : List A) → AllByRecursion P (later_spots before list)
     → IfSome (find test list) (λ one. (spot : Spot A) × P spot × (spot.here ≡ one) × (test one ≡ true))
 found_spot P test before [] each = tt
 found_spot {A} P test before (here ∷ behind) each =
@@ -213,17 +213,17 @@ found_spot {A} P test before (here ∷ behind) each =
       | false ↦ λ _. found_spot P test (before ++ here ∷ []) behind each.1
     ] refl
 
-dim_of : (found : Option Statement) → IfSome found (λ one. (spot : Spot Statement) × IsRight spot × (spot.here ≡ one) × (is_of is_machine one ≡ true))
-    → IfSome (option_map (number_at 1) found) (λ dim. dim ≤ greatest_dim)
+dim_of : (found : Option Statement) → IfSome found (λ one. (spot : Spot Statement) × IsRight spot × (spot.here ≡ one) × (has_verb_kind is_machine one ≡ true))
+    → IfSome (option_map (operand_number 1) found) (λ dim. dim ≤ greatest_dim)
 dim_of None known = tt
 dim_of (Some one) known =
-    let here = the_verb is_machine Machine machine_alone (verb_of (words known.0.here.line)) (ap (is_of is_machine) known.2 ∙ known.3) in
-    subst (λ (statement : Statement). number_at 1 statement ≤ greatest_dim) known.2
+    let here = the_verb is_machine Machine machine_alone (verb_of (words known.0.here.line)) (ap (has_verb_kind is_machine) known.2 ∙ known.3) in
+    subst (λ (statement : Statement). operand_number 1 statement ≤ greatest_dim) known.2
     (at_most greatest_dim (image_names known.0.before) (operand 1 known.0.here) (operands_right known.0 Machine here known.1).0)
 
 dim_within : (all : List Statement) → AllByRecursion IsRight (spots all) → IfSome (dimension all) (λ dim. dim ≤ greatest_dim)
 unfolding dimension
-dim_within all each = dim_of (find (is_of is_machine) all) (found_spot IsRight (is_of is_machine) [] all each)
+dim_within all each = dim_of (find (has_verb_kind is_machine) all) (found_spot IsRight (has_verb_kind is_machine) [] all each)
 
 first_is_machine : (is : Bool) → not is && not false ≡ false → is ≡ true
 first_is_machine true e = refl
@@ -233,9 +233,9 @@ no_machine : (all : List Statement) → AllByRecursion IsRight (spots all) → d
 unfolding dimension
 no_machine [] each e = refl
 no_machine (first ∷ others) each e =
-    let machine = first_is_machine (is_of is_machine first) each.0.machine in
-    let P : Bool → Type 0 = λ is. option_map (number_at 1) (cond is (Some first) (find (is_of is_machine) others)) ≡ None in
-    absurd (none (number_at 1 first) (sym (subst P machine e)))
+    let machine = first_is_machine (has_verb_kind is_machine first) each.0.machine in
+    let P : Bool → Type 0 = λ is. option_map (operand_number 1) (cond is (Some first) (find (has_verb_kind is_machine) others)) ≡ None in
+    absurd (none (operand_number 1 first) (sym (subst P machine e)))
 
 -- ---- the script
 
@@ -243,7 +243,7 @@ none_at_all : (all : List Statement) → all ≡ [] → (images all ≡ []) × (
 unfolding images users commands
 none_at_all all e = (ap images e, ap users e, ap commands e)
 
-named_alike : (all : List Statement) → map (λ (named : Named). named.name) (map (λ (one : Statement). record { name = operand 1 one; image = image_said one }) all) ≡ names_in all
+named_alike : (all : List Statement) → map (λ (named : NamedImage). named.name) (map (λ (one : Statement). record { name = operand 1 one; image = image_said one }) all) ≡ stated_names all
 named_alike [] = refl
 named_alike (one ∷ others) = ap (λ names. operand 1 one ∷ names) (named_alike others)
 
@@ -251,7 +251,7 @@ same_count : (all : List Statement) → length (images all) ≡ length (image_na
 unfolding images image_names
 same_count all = length-map (of_kind is_image all) _ ∙ sym (length-map (of_kind is_image all) (operand 1))
 
-same_names : (all : List Statement) → map (λ (named : Named). named.name) (images all) ≡ image_names all
+same_names : (all : List Statement) → map (λ (named : NamedImage). named.name) (images all) ≡ image_names all
 unfolding images image_names
 same_names all = named_alike (of_kind is_image all)
 
@@ -272,7 +272,7 @@ within_limits text script is =
       users = subst (λ (users : List (List ℕ)). length users ≤ greatest_users) (sym is.users) counts.0;
       user_names = subst AreNames (sym is.users) (user_names_are all each);
       images = subst (λ (n : ℕ). n ≤ greatest_images) (sym image_count) counts.1;
-      image_names = subst AreNames (sym (ap (map (λ (named : Named). named.name)) is.images ∙ same_names all)) (image_names_are all each);
+      image_names = subst AreNames (sym (ap (map (λ (named : NamedImage). named.name)) is.images ∙ same_names all)) (image_names_are all each);
       commands = subst (λ said. AreWithin (length script.users) (length script.images) said) (sym is.commands)
           (subst (λ (n : ℕ). AreWithin n (length script.images) (commands all)) (sym (ap length is.users))
           (subst (λ (n : ℕ). AreWithin (length (users all)) n (commands all)) (sym image_count) (each_own_within all each)));

@@ -12,18 +12,18 @@ use Rattle.ce_script.specs.declared.script.ScriptFault.{ScriptFault}
 use Rattle.ce_script.specs.declared.script.ScriptKind.{ScriptKind}
 use Rattle.ce_script.specs.declared.script.ScriptKind.TheVariants.{BadByte, Assembly, BadImage}
 use Rattle.ce_script.specs.Lines.{Line, words, has_bad_byte}
-use Rattle.ce_script.specs.Spellings.{bytes_in, instruction_in}
+use Rattle.ce_script.specs.Spellings.{written_bytes, instruction_in}
 use Rattle.ce_script.specs.AssemblyImage.{assembly_image}
 
 -- ---- faults
 
 -- a fault of this kind at this line
-abbrev pub fault_at : ℕ → ScriptKind → ScriptFault
-fault_at line kind = record { line = line; kind = kind }
+abbrev pub located_fault : ℕ → ScriptKind → ScriptFault
+located_fault line kind = record { line = line; kind = kind }
 
 -- a fault of this kind at the first line that passes a test
-abbrev pub fault_where : (Line → Bool) → ScriptKind → List Line → Option ScriptFault
-fault_where test kind body = option_map (λ line. fault_at line.number kind) (find test body)
+abbrev pub first_line_fault : (Line → Bool) → ScriptKind → List Line → Option ScriptFault
+first_line_fault test kind body = option_map (λ line. located_fault line.number kind) (find test body)
 
 -- ---- words of digits
 
@@ -32,8 +32,8 @@ abbrev pub has_bad_word : (List ℕ → Option (List ℕ)) → Line → Bool
 has_bad_word read line = list_any (λ word. is_none (read word)) (words line)
 
 -- what the words of all lines are read as, one behind the other
-unfoldable pub bytes_of : (List ℕ → Option (List ℕ)) → List Line → List ℕ
-bytes_of read body =
+unfoldable pub body_bytes : (List ℕ → Option (List ℕ)) → List Line → List ℕ
+body_bytes read body =
     flat_map (λ line. flat_map (λ word. unwrap_or (read word) []) (words line)) body
 
 -- ---- assembly
@@ -52,30 +52,30 @@ image_or_nothing (Ok image) = image
 image_or_nothing (Err fault) = nothing_loaded
 
 -- the fault of an assembly text, as one of the script in which the text stands behind the line `at`
-abbrev pub fault_behind : ℕ → Result ImageParts AsmFault → Option ScriptFault
-fault_behind at (Ok image) = None
-fault_behind at (Err fault) = Some (fault_at (at + fault.line) (Assembly fault.kind))
+abbrev pub assembly_fault : ℕ → Result ImageParts AsmFault → Option ScriptFault
+assembly_fault at (Ok image) = None
+assembly_fault at (Err fault) = Some (located_fault (at + fault.line) (Assembly fault.kind))
 
 -- ---- bodies
 
 -- The image that a body without fault describes. `hex`: the instruction words lie from the start of the image on, and the first one
 -- runs first; `asm`: the body is an assembly text; `rki`: the words are the image's bytes in RKI1.
-unfoldable pub image_in : ImageForm → List Line → ImageParts
-image_in Hex body = image_parts image_start (bytes_of instruction_in body) 0
-image_in Asm body = image_or_nothing (assembly_image (text_of body))
-image_in Rki body = fields_of (bytes_of bytes_in body)
+unfoldable pub form_image : ImageForm → List Line → ImageParts
+form_image Hex body = image_parts image_start (body_bytes instruction_in body) 0
+form_image Asm body = image_or_nothing (assembly_image (text_of body))
+form_image Rki body = fields_of (body_bytes written_bytes body)
 
 -- why the body of the image on line `at` describes none
 unfoldable pub form_fault : ImageForm → ℕ → List Line → Option ScriptFault
 form_fault Hex at body =
-    option_or (fault_where (has_bad_word instruction_in) BadImage body)
-    (option_map (λ cause. fault_at at BadImage) (parts_fault (image_in Hex body)))
-form_fault Asm at body = fault_behind at (assembly_image (text_of body))
+    option_or (first_line_fault (has_bad_word instruction_in) BadImage body)
+    (option_map (λ cause. located_fault at BadImage) (parts_fault (form_image Hex body)))
+form_fault Asm at body = assembly_fault at (assembly_image (text_of body))
 form_fault Rki at body =
-    option_or (fault_where (has_bad_word bytes_in) BadImage body)
-    (option_map (λ cause. fault_at at BadImage) (fault_of (bytes_of bytes_in body)))
+    option_or (first_line_fault (has_bad_word written_bytes) BadImage body)
+    (option_map (λ cause. located_fault at BadImage) (fault_of (body_bytes written_bytes body)))
 
 -- the first fault of the body of the image on line `at`: a bad byte comes before all else
 unfoldable pub body_fault : ImageForm → ℕ → List Line → Option ScriptFault
 body_fault form at body =
-    option_or (fault_where has_bad_byte BadByte body) (form_fault form at body)
+    option_or (first_line_fault has_bad_byte BadByte body) (form_fault form at body)

@@ -10,7 +10,7 @@ use Rattle.ce_daemon.specs.declared.grant.PeekResult.{PeekResult}
 use Rattle.ce_host.specs.declared.command.Command.{Command}
 use Rattle.ce_host.specs.declared.command.Command.TheVariants.{Getcube, Peek, Freecube, Spawn, Kill, Send, Run, Recv, Dump, Trace}
 use Rattle.ce_host.specs.declared.answer.Answer.{Answer}
-use Rattle.ce_host.specs.declared.answer.Answer.TheVariants.{NoCube, Held, None as Nothing, Granted, Peeked as PeekFound, Freed, Ok as Done, NoPlace, Used, Unused, Already, NoStore, Quiet, Spent, Message, State, Entries}
+use Rattle.ce_host.specs.declared.answer.Answer.TheVariants as answers
 use Rattle.ce_script.specs.declared.record.Record.{Record}
 use Rattle.ce_script.specs.declared.script.Script.{Script}
 use Rattle.ce_script.specs.TextParts.{words, image_name, user_name, word_text, bytes_text, place_text, subcube_words}
@@ -71,21 +71,21 @@ peeked_text kept found =
     words (codes "free" ∷ decimal found.free ∷ []) ++ flat_map (grant_text kept) found.grants
 
 abbrev pub reply_text : Record → Answer → List ℕ
-reply_text kept NoCube = codes "no cube"
-reply_text kept Held = codes "held"
-reply_text kept Nothing = codes "none"
-reply_text kept (Granted sub) = words (codes "granted" ∷ subcube_words sub)
-reply_text kept (PeekFound found) = peeked_text kept found
-reply_text kept Freed = codes "freed"
-reply_text kept Done = codes "ok"
-reply_text kept NoPlace = codes "no place"
-reply_text kept Used = codes "used"
-reply_text kept Unused = codes "unused"
-reply_text kept Already = codes "already"
-reply_text kept NoStore = codes "no store"
-reply_text kept Quiet = codes "quiet"
-reply_text kept Spent = codes "spent"
-reply_text kept (Message from bytes) =
+reply_text kept answers.NoCube = codes "no cube"
+reply_text kept answers.Held = codes "held"
+reply_text kept answers.None = codes "none"
+reply_text kept (answers.Granted sub) = words (codes "granted" ∷ subcube_words sub)
+reply_text kept (answers.Peeked found) = peeked_text kept found
+reply_text kept answers.Freed = codes "freed"
+reply_text kept answers.Ok = codes "ok"
+reply_text kept answers.NoPlace = codes "no place"
+reply_text kept answers.Used = codes "used"
+reply_text kept answers.Unused = codes "unused"
+reply_text kept answers.Already = codes "already"
+reply_text kept answers.NoStore = codes "no store"
+reply_text kept answers.Quiet = codes "quiet"
+reply_text kept answers.Spent = codes "spent"
+reply_text kept (answers.Message from bytes) =
     words (codes "message" ∷ place_text from ∷ bytes_text bytes ∷ [])
-reply_text kept (State status) = words (status_words status)
-reply_text kept (Entries count) = words (codes "entries" ∷ decimal count ∷ [])
+reply_text kept (answers.State status) = words (status_words status)
+reply_text kept (answers.Entries count) = words (codes "entries" ∷ decimal count ∷ [])

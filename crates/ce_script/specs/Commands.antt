@@ -7,22 +7,22 @@ use Rattle.ce_model.specs.declared.topology.BlockId.{BlockId}
 use Rattle.ce_model.specs.declared.topology.Subcube.{Subcube}
 use Rattle.ce_model.specs.declared.entry.Entry.{Entry}
 use Rattle.ce_model.specs.declared.entry.What.{What}
-use Rattle.ce_model.specs.declared.entry.What.TheVariants.{Getcube as GetcubeMade, Peek as PeekMade, Drain, Freecube as FreecubeMade, Arm, Look, HostTake, Send as SendMade, Spawn as SpawnMade, Kill as KillMade}
+use Rattle.ce_model.specs.declared.entry.What.TheVariants as whats
 use Rattle.ce_model.specs.declared.entry.LookResult.{LookResult}
-use Rattle.ce_model.specs.declared.entry.LookResult.TheVariants.{Quiet as FoundQuiet, Spent as FoundSpent, Busy}
+use Rattle.ce_model.specs.declared.entry.LookResult.TheVariants as look_result
 use Rattle.ce_model.specs.declared.entry.KillFound.{KillFound}
-use Rattle.ce_model.specs.declared.entry.KillFound.TheVariants.{Killed, Unused as FoundUnused, Already as FoundAlready}
+use Rattle.ce_model.specs.declared.entry.KillFound.TheVariants as kill_found
 use Rattle.ce_model.specs.Parcels.{Parcel, Item}
 use Rattle.ce_model.specs.Node.{is_place, process_at}
 use Rattle.ce_model.specs.Renaming.{entry_inward}
-use Rattle.ce_model.specs.Trace.{sent_to}
+use Rattle.ce_model.specs.Trace.{sent_items}
 use Rattle.ce_model.specs.Cube.{Cube, CubeState, opening, hoststore, parcel_numbered, rest}
 use Rattle.ce_model.specs.Machine.{MachineParts, after, cube_of}
 use Rattle.ce_daemon.specs.Peeks.{peek_result}
 use Rattle.ce_host.specs.declared.command.Command.{Command}
 use Rattle.ce_host.specs.declared.command.Command.TheVariants.{Getcube, Peek, Freecube, Spawn, Kill, Send, Run, Recv, Dump, Trace}
 use Rattle.ce_host.specs.declared.answer.Answer.{Answer}
-use Rattle.ce_host.specs.declared.answer.Answer.TheVariants.{NoCube, Held, None as Nothing, Granted, Peeked as PeekFound, Freed, Ok as Done, NoPlace, Used, Unused, Already, NoStore, Quiet, Spent, Message, State, Entries}
+use Rattle.ce_host.specs.declared.answer.Answer.TheVariants as answers
 use Rattle.ce_script.specs.Rounds.{RoundKind, joined_lists, IsRoundWithWork, IsRoundWithoutWork, AreTurnsOver}
 use Rattle.ce_script.specs.Moments.{Moment, entries_of, Holding}
 
@@ -38,61 +38,61 @@ IsAtOnce reply answer segment = (answer ≡ reply) × (segment ≡ [])
 
 -- what a getcube is answered, by the subcube that its entry grants
 abbrev pub getcube_reply : Option Subcube → Answer
-getcube_reply None = Nothing
-getcube_reply (Some sub) = Granted sub
+getcube_reply None = answers.None
+getcube_reply (Some sub) = answers.Granted sub
 
 -- `getcube`: the cube that its entry grants, or none; where one is held already it makes no entry
 abbrev pub IsGetcube : ℕ → Option Holding → ℕ → Answer → List Entry → Type 0
 IsGetcube user None dim answer entries =
-    (sub : Option Subcube) × (entries ≡ by_host user (GetcubeMade dim sub) ∷ [])
+    (sub : Option Subcube) × (entries ≡ by_host user (whats.Getcube dim sub) ∷ [])
     × (answer ≡ getcube_reply sub)
-IsGetcube user (Some held) dim answer entries = IsAtOnce Held answer entries
+IsGetcube user (Some held) dim answer entries = IsAtOnce answers.Held answer entries
 
 -- `peek`
 abbrev pub IsPeek : MachineParts → ℕ → Answer → List Moment → Type 0
 IsPeek machine user answer moments =
     (before : List Entry)
-    × (moments ≡ record { before = before; entry = by_host user PeekMade } ∷ [])
-    × (answer ≡ PeekFound (peek_result machine (after before)))
+    × (moments ≡ record { before = before; entry = by_host user whats.Peek } ∷ [])
+    × (answer ≡ answers.Peeked (peek_result machine (after before)))
 
 -- ---- at a place
 
 -- at what is no place of the cube a command makes no entry, and at a place this holds of it
 abbrev pub IsAtPlace : Bool → Answer → List Entry → Type 0 → Type 0
 IsAtPlace true answer segment P = P
-IsAtPlace false answer segment P = IsAtOnce NoPlace answer segment
+IsAtPlace false answer segment P = IsAtOnce answers.NoPlace answer segment
 
 -- `spawn`, by whether the id was fresh
 abbrev pub IsSpawn : ℕ → ℕ → Place → Answer → List Entry → Type 0
 IsSpawn user image to answer segment =
-    (fresh : Bool) × (segment ≡ by_host user (SpawnMade 0 image to fresh) ∷ [])
-    × (answer ≡ (if fresh then Done else Used))
+    (fresh : Bool) × (segment ≡ by_host user (whats.Spawn 0 image to fresh) ∷ [])
+    × (answer ≡ (if fresh then answers.Ok else answers.Used))
 
 -- `kill`, by what it found
 abbrev pub kill_reply : KillFound → Answer
-kill_reply Killed = Done
-kill_reply FoundUnused = Unused
-kill_reply FoundAlready = Already
+kill_reply kill_found.Killed = answers.Ok
+kill_reply kill_found.Unused = answers.Unused
+kill_reply kill_found.Already = answers.Already
 
 abbrev pub IsKill : ℕ → Place → Answer → List Entry → Type 0
 IsKill user to answer segment =
-    (found : KillFound) × (segment ≡ by_host user (KillMade 0 to found) ∷ [])
+    (found : KillFound) × (segment ≡ by_host user (whats.Kill 0 to found) ∷ [])
     × (answer ≡ kill_reply found)
 
 -- `send`, by the blocks in the host's store before it
 abbrev pub IsSend : ℕ → List BlockId → Place → List ℕ → Answer → List Entry → Type 0
-IsSend user [] to bytes answer segment = IsAtOnce NoStore answer segment
+IsSend user [] to bytes answer segment = IsAtOnce answers.NoStore answer segment
 IsSend user (id ∷ others) to bytes answer segment =
-    (first : ℕ) × (segment ≡ by_host user (SendMade 0 first ((to, id) ∷ []) bytes) ∷ [])
-    × (answer ≡ Done)
+    (first : ℕ) × (segment ≡ by_host user (whats.Send 0 first ((to, id) ∷ []) bytes) ∷ [])
+    × (answer ≡ answers.Ok)
 
 -- ---- with rounds
 
 -- what `run` is answered, by what its look found; none ends with a look that finds Busy
 abbrev pub run_reply : LookResult → Option Answer
-run_reply FoundQuiet = Some Quiet
-run_reply FoundSpent = Some Spent
-run_reply Busy = None
+run_reply look_result.Quiet = Some answers.Quiet
+run_reply look_result.Spent = Some answers.Spent
+run_reply look_result.Busy = None
 
 -- `run`: dispatches are allowed, then come rounds up to the first without work, then a look
 pub record IsRun (kind : RoundKind) (cube : Cube) (count : ℕ) (answer : Answer)
@@ -103,8 +103,8 @@ pub record IsRun (kind : RoundKind) (cube : Cube) (count : ℕ) (answer : Answer
   pub with_work : AllByRecursion (IsRoundWithWork kind cube.dim) rounds
   pub without_work : IsRoundWithoutWork kind cube.dim last
   pub entries : segment
-      ≡ by_host cube.user (Arm count)
-      ∷ (joined_lists rounds ++ (last ++ by_host cube.user (Look found) ∷ []))
+      ≡ by_host cube.user (whats.Arm count)
+      ∷ (joined_lists rounds ++ (last ++ by_host cube.user (whats.Look found) ∷ []))
   pub reply : run_reply found ≡ Some answer
 
 -- how `recv` ends
@@ -118,7 +118,7 @@ pub data RecvEnd : Type 0 where
 
 -- the host looks for a message: the one of this number is there, or none
 abbrev pub host_take : ℕ → Option ℕ → Entry
-host_take user number = by_host user (HostTake number)
+host_take user number = by_host user (whats.HostTake number)
 
 -- the entries of an end
 abbrev pub end_entries : ℕ → RecvEnd → List Entry
@@ -126,7 +126,7 @@ end_entries user (message_next number) = host_take user (Some number) ∷ []
 end_entries user (message_behind_rest round number) =
     host_take user None ∷ (round ++ host_take user (Some number) ∷ [])
 end_entries user (no_message round found) =
-    host_take user None ∷ (round ++ host_take user None ∷ by_host user (Look found) ∷ [])
+    host_take user None ∷ (round ++ host_take user None ∷ by_host user (whats.Look found) ∷ [])
 
 -- the rounds without work at an end: one, or none where a message comes before one
 abbrev pub end_rounds : RecvEnd → List (List Entry)
@@ -136,12 +136,12 @@ end_rounds (no_message round found) = round ∷ []
 
 -- what `recv` is answered with a message, and without one by what its look found
 abbrev pub message_reply : Option Parcel → Option Answer
-message_reply parcel = option_map (λ found. Message found.from found.block.bytes) parcel
+message_reply parcel = option_map (λ found. answers.Message found.from found.block.bytes) parcel
 
 abbrev pub no_message_reply : LookResult → Option Answer
-no_message_reply FoundQuiet = Some Nothing
-no_message_reply FoundSpent = Some Spent
-no_message_reply Busy = None
+no_message_reply look_result.Quiet = Some answers.None
+no_message_reply look_result.Spent = Some answers.Spent
+no_message_reply look_result.Busy = None
 
 -- what `recv` is answered that ends so, by all that was sent to the host
 abbrev pub recv_reply : List Item → RecvEnd → Option Answer
@@ -157,7 +157,7 @@ pub record IsRecv (kind : RoundKind) (cube : Cube) (items : List Item) (count : 
   pub with_work : AllByRecursion (IsRoundWithWork kind cube.dim) rounds
   pub without_work : AllByRecursion (IsRoundWithoutWork kind cube.dim) (end_rounds end)
   pub entries : segment
-      ≡ by_host cube.user (Arm count)
+      ≡ by_host cube.user (whats.Arm count)
       ∷ (flat_map (λ round. host_take cube.user None ∷ round) rounds ++ end_entries cube.user end)
   pub reply : recv_reply items end ≡ Some answer
 
@@ -177,18 +177,18 @@ IsCubeCommand kind cube o t (Send to bytes) answer segment =
 IsCubeCommand kind cube o t (Run count) answer segment =
     IsRun kind cube count answer segment × AreTurnsOver cube o (t ++ segment)
 IsCubeCommand kind cube o t (Recv count) answer segment =
-    IsRecv kind cube (sent_to o.standing HOST (t ++ segment)) count answer segment
+    IsRecv kind cube (sent_items o.standing HOST (t ++ segment)) count answer segment
     × AreTurnsOver cube o (t ++ segment)
 IsCubeCommand kind cube o t (Dump at) answer segment =
     IsAtPlace (is_place cube.dim at) answer segment
-    (IsAtOnce (State (process_at (rest cube o at.node t) at.pid).status) answer segment)
-IsCubeCommand kind cube o t Trace answer segment = IsAtOnce (Entries (length t)) answer segment
+    (IsAtOnce (answers.State (process_at (rest cube o at.node t) at.pid).status) answer segment)
+IsCubeCommand kind cube o t Trace answer segment = IsAtOnce (answers.Entries (length t)) answer segment
 IsCubeCommand kind cube o t other answer segment = ⊥
 
 -- `freecube`: what waits is taken away, and then the cube is given back
 abbrev pub IsFreecube : ℕ → Answer → List Entry → Type 0
 IsFreecube user answer entries =
-    (answer ≡ Freed) × (entries ≡ by_host user Drain ∷ by_host user FreecubeMade ∷ [])
+    (answer ≡ answers.Freed) × (entries ≡ by_host user whats.Drain ∷ by_host user whats.Freecube ∷ [])
 
 -- a command of who holds this cube
 abbrev pub IsHolderCommand : RoundKind → Cube → Holding → Command → Answer → List Entry → Type 0
@@ -200,7 +200,7 @@ IsHolderCommand kind cube held other answer entries =
 -- a command that wants a cube
 abbrev pub IsWithCube : RoundKind → MachineParts → Option Holding → Command → Answer → List Entry
     → Type 0
-IsWithCube kind machine None command answer entries = IsAtOnce NoCube answer entries
+IsWithCube kind machine None command answer entries = IsAtOnce answers.NoCube answer entries
 IsWithCube kind machine (Some held) command answer entries =
     IsHolderCommand kind (cube_of machine.images held.grant) held command answer entries
 

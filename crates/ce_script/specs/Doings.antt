@@ -7,9 +7,9 @@ use Rattle.ce_model.specs.Machine.{MachineParts, after, is_free}
 use Rattle.ce_host.specs.declared.command.Command.{Command}
 use Rattle.ce_host.specs.declared.command.Command.TheVariants.{Getcube}
 use Rattle.ce_host.specs.declared.answer.Answer.{Answer}
-use Rattle.ce_host.specs.declared.answer.Answer.TheVariants.{Held, None as Nothing}
+use Rattle.ce_host.specs.declared.answer.Answer.TheVariants as answers
 use Rattle.ce_script.specs.Rounds.{RoundKind}
-use Rattle.ce_script.specs.Moments.{Moment, moments_of, entries_of, Holding, holding}
+use Rattle.ce_script.specs.Moments.{Moment, user_moments, entries_of, Holding, holding}
 use Rattle.ce_script.specs.Commands.{IsCommand}
 
 -- a command of a user: what it was answered, and the moments of its entries
@@ -31,7 +31,7 @@ IsDone kind machine user before doing =
 pub record AreDoings (kind : RoundKind) (machine : MachineParts) (history : List Entry) (user : ℕ)
     (done : List (Command × Answer)) (doings : List Doing) : Type 0 where
   pub replies : map (λ doing. (doing.command, doing.answer)) doings ≡ done
-  pub entries : flat_map (λ doing. doing.moments) doings ≡ moments_of user history
+  pub entries : flat_map (λ doing. doing.moments) doings ≡ user_moments user history
   pub each : EachAfter (IsDone kind machine user) [] doings
 
 -- ---- refusals
@@ -40,8 +40,8 @@ pub record AreDoings (kind : RoundKind) (machine : MachineParts) (history : List
 -- subcube of this dimension is free
 pub record IsRefusedExactly (machine : MachineParts) (holds : Option Holding) (dim : ℕ)
     (doing : Doing) : Type 0 where
-  pub held : (doing.answer ≡ Held) ↔ IsTrue (is_some holds)
-  pub none : (doing.answer ≡ Nothing)
+  pub held : (doing.answer ≡ answers.Held) ↔ IsTrue (is_some holds)
+  pub none : (doing.answer ≡ answers.None)
       ↔ ((holds ≡ None)
       × IsSomeAnd (slice_get doing.moments 0)
       (λ moment. first_free (is_free (after moment.before)) machine.dim dim ≡ None))

@@ -8,11 +8,11 @@ use Rattle.ce_model.specs.declared.entry.Entry.{Entry}
 use Rattle.ce_model.specs.declared.entry.What.{What}
 use Rattle.ce_model.specs.declared.entry.What.TheVariants.{Arm, Look, HostTake, Send, Spawn, Kill, Note, Take}
 use Rattle.ce_model.specs.declared.entry.LookResult.{LookResult}
-use Rattle.ce_model.specs.declared.entry.LookResult.TheVariants.{Quiet, Spent as FoundSpent, Busy}
+use Rattle.ce_model.specs.declared.entry.LookResult.TheVariants as look_result
 use Rattle.ce_model.specs.declared.entry.KillFound.{KillFound}
 use Rattle.ce_model.specs.declared.entry.KillFound.TheVariants.{Killed, Unused, Already}
 use Rattle.ce_model.specs.declared.entry.TakeResult.{TakeResult}
-use Rattle.ce_model.specs.declared.entry.TakeResult.TheVariants.{Start, Mail, Kill as GivenKill, Poll, Idle, Spent}
+use Rattle.ce_model.specs.declared.entry.TakeResult.TheVariants as take_result
 use Rattle.ce_script.specs.declared.script.Script.{Script}
 use Rattle.ce_script.specs.TextParts.{line, image_name, bytes_text, place_text, block_text}
 
@@ -33,9 +33,9 @@ abbrev pub targets_text : List (Place × BlockId) → List ℕ
 targets_text targets = join_with_byte 44 (map target_text targets)
 
 abbrev pub found_text : LookResult → List ℕ
-found_text Quiet = codes "quiet"
-found_text FoundSpent = codes "spent"
-found_text Busy = codes "busy"
+found_text look_result.Quiet = codes "quiet"
+found_text look_result.Spent = codes "spent"
+found_text look_result.Busy = codes "busy"
 
 abbrev pub kill_found_text : KillFound → List ℕ
 kill_found_text Killed = codes "ok"
@@ -44,12 +44,12 @@ kill_found_text Already = codes "already"
 
 -- what a node is given
 abbrev pub given_words : Script → TakeResult → List (List ℕ)
-given_words script (Start pid image) = codes "start" ∷ decimal pid ∷ image_name script image ∷ []
-given_words script (Mail pid number) = codes "mail" ∷ decimal pid ∷ decimal number ∷ []
-given_words script (GivenKill pid) = codes "kill" ∷ decimal pid ∷ []
-given_words script (Poll pid) = codes "poll" ∷ decimal pid ∷ []
-given_words script Idle = codes "idle" ∷ []
-given_words script Spent = codes "spent" ∷ []
+given_words script (take_result.Start pid image) = codes "start" ∷ decimal pid ∷ image_name script image ∷ []
+given_words script (take_result.Mail pid number) = codes "mail" ∷ decimal pid ∷ decimal number ∷ []
+given_words script (take_result.Kill pid) = codes "kill" ∷ decimal pid ∷ []
+given_words script (take_result.Poll pid) = codes "poll" ∷ decimal pid ∷ []
+given_words script take_result.Idle = codes "idle" ∷ []
+given_words script take_result.Spent = codes "spent" ∷ []
 
 -- what was done; the entries that stand in no trace have no text
 abbrev pub what_words : Script → What → List (List ℕ)

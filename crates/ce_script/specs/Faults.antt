@@ -8,11 +8,11 @@ use Rattle.ce_script.specs.declared.script.ScriptFault.{ScriptFault}
 use Rattle.ce_script.specs.declared.script.ScriptKind.{ScriptKind}
 use Rattle.ce_script.specs.declared.script.ScriptKind.TheVariants.{BadByte, UnknownWord, WordCount, NoMachine, SecondMachine, NoUser, BadNumber, BadName, BadHex, NameTaken, TooMany, UnknownImage, NoEnd}
 use Rattle.ce_script.specs.Lines.{Spot, spots, words, has_bad_byte}
-use Rattle.ce_script.specs.Spellings.{number_to, data_in}
+use Rattle.ce_script.specs.Spellings.{bounded_number, data_in}
 use Rattle.ce_script.specs.Names.{is_name}
 use Rattle.ce_script.specs.Verbs.{verb_of, is_machine, is_image, is_user, is_command, form_of, operands_of, Operand, Number, NewImage, Form, OldImage, Name, Data}
-use Rattle.ce_script.specs.Statements.{Statement, operand, is_of, statements}
-use Rattle.ce_script.specs.Bodies.{fault_at, body_fault}
+use Rattle.ce_script.specs.Statements.{Statement, operand, has_verb_kind, statements}
+use Rattle.ce_script.specs.Bodies.{located_fault, body_fault}
 use Rattle.ce_script.specs.Sayings.{image_names, users}
 
 -- ---- the first of several
@@ -23,8 +23,8 @@ first_some [] = None
 first_some (one ∷ others) = option_or one (first_some others)
 
 -- this kind, where the test holds
-abbrev pub fault_where : Bool → ScriptKind → Option ScriptKind
-fault_where test kind = if test then Some kind else None
+abbrev pub kind_where : Bool → ScriptKind → Option ScriptKind
+kind_where test kind = if test then Some kind else None
 
 -- ---- questions about a statement
 
@@ -37,7 +37,7 @@ has_unknown_form shorter = false
 abbrev pub is_unknown : Statement → Bool
 is_unknown statement =
     is_none (verb_of (words statement.line))
-    || (is_of is_image statement && has_unknown_form (words statement.line))
+    || (has_verb_kind is_image statement && has_unknown_form (words statement.line))
 
 -- the words that belong behind the first word
 abbrev pub expected_operands : Statement → List Operand
@@ -52,31 +52,31 @@ has_wrong_count statement = not (length (words statement.line) == 1 + length (ex
 -- it is no `machine`, and none is before it
 abbrev pub lacks_machine : Spot Statement → Bool
 lacks_machine spot =
-    not (is_of is_machine spot.here) && not (list_any (is_of is_machine) spot.before)
+    not (has_verb_kind is_machine spot.here) && not (list_any (has_verb_kind is_machine) spot.before)
 
 -- it is a `machine` behind another
 abbrev pub is_second_machine : Spot Statement → Bool
-is_second_machine spot = is_of is_machine spot.here && list_any (is_of is_machine) spot.before
+is_second_machine spot = has_verb_kind is_machine spot.here && list_any (has_verb_kind is_machine) spot.before
 
 -- it is a command, and no `user` is before it
 abbrev pub lacks_user : Spot Statement → Bool
-lacks_user spot = is_of is_command spot.here && not (list_any (is_of is_user) spot.before)
+lacks_user spot = has_verb_kind is_command spot.here && not (list_any (has_verb_kind is_user) spot.before)
 
 -- a name is one of these
-abbrev pub is_among : List (List ℕ) → List ℕ → Bool
-is_among names name = list_any (bytes_eq name) names
+abbrev pub is_one_name_of : List (List ℕ) → List ℕ → Bool
+is_one_name_of names name = list_any (bytes_eq name) names
 
 -- what is wrong with an operand, where the earlier images have these names
 abbrev pub operand_fault : List (List ℕ) → Operand → List ℕ → Option ScriptKind
-operand_fault images (Number most) word = fault_where (is_none (number_to most word)) BadNumber
+operand_fault images (Number most) word = kind_where (is_none (bounded_number most word)) BadNumber
 operand_fault images NewImage word =
-    option_or (fault_where (not (is_name word)) BadName) (fault_where (is_among images word) NameTaken)
+    option_or (kind_where (not (is_name word)) BadName) (kind_where (is_one_name_of images word) NameTaken)
 operand_fault images Form word = None
 operand_fault images OldImage word =
-    option_or (fault_where (not (is_name word)) BadName)
-    (fault_where (not (is_among images word)) UnknownImage)
-operand_fault images Name word = fault_where (not (is_name word)) BadName
-operand_fault images Data word = fault_where (is_none (data_in word)) BadHex
+    option_or (kind_where (not (is_name word)) BadName)
+    (kind_where (not (is_one_name_of images word)) UnknownImage)
+operand_fault images Name word = kind_where (not (is_name word)) BadName
+operand_fault images Data word = kind_where (is_none (data_in word)) BadHex
 
 -- what is wrong with the operand at a place
 abbrev pub placed_fault : Spot Statement → ℕ × Operand → Option ScriptKind
@@ -95,22 +95,22 @@ is_one_too_many spot =
 
 -- it begins an image that no `end` follows
 abbrev pub lacks_end : Statement → Bool
-lacks_end statement = is_of is_image statement && is_none statement.body
+lacks_end statement = has_verb_kind is_image statement && is_none statement.body
 
 -- ---- faults
 
 -- what may be wrong with a statement's own line: the table of kinds, in their order
 abbrev pub line_faults : Spot Statement → List (Option ScriptKind)
 line_faults spot =
-    fault_where (has_bad_byte spot.here.line) BadByte
-    ∷ fault_where (is_unknown spot.here) UnknownWord
-    ∷ fault_where (has_wrong_count spot.here) WordCount
-    ∷ fault_where (lacks_machine spot) NoMachine
-    ∷ fault_where (is_second_machine spot) SecondMachine
-    ∷ fault_where (lacks_user spot) NoUser
+    kind_where (has_bad_byte spot.here.line) BadByte
+    ∷ kind_where (is_unknown spot.here) UnknownWord
+    ∷ kind_where (has_wrong_count spot.here) WordCount
+    ∷ kind_where (lacks_machine spot) NoMachine
+    ∷ kind_where (is_second_machine spot) SecondMachine
+    ∷ kind_where (lacks_user spot) NoUser
     ∷ operands_fault spot
-    ∷ fault_where (is_one_too_many spot) TooMany
-    ∷ fault_where (lacks_end spot.here) NoEnd
+    ∷ kind_where (is_one_too_many spot) TooMany
+    ∷ kind_where (lacks_end spot.here) NoEnd
     ∷ []
 
 -- the first fault of a statement's own line
@@ -126,7 +126,7 @@ image_fault statement =
 -- the first fault of a statement: of its own line, and then of its body
 abbrev pub statement_fault : Spot Statement → Option ScriptFault
 statement_fault spot =
-    option_or (option_map (fault_at spot.here.line.number) (line_fault spot))
+    option_or (option_map (located_fault spot.here.line.number) (line_fault spot))
     (image_fault spot.here)
 
 -- the first fault of a text

@@ -18,17 +18,17 @@ use Rattle.ce_script.specs.Doings.{Doing, AreDoings, AreRefusedExactly}
 -- ---- the script's part
 
 -- the images of a script
-abbrev pub images_of : Script → List ImageParts
-images_of script = map (λ named. named.image) script.images
+abbrev pub script_images : Script → List ImageParts
+script_images script = map (λ named. named.image) script.images
 
 -- the machine of a script
 abbrev pub machine_of : Script → MachineParts
 machine_of script =
-    record { dim = unwrap_or script.dim 0; users = length script.users; images = images_of script }
+    record { dim = unwrap_or script.dim 0; users = length script.users; images = script_images script }
 
 -- the commands of a user, by number, in the script's order
-abbrev pub commands_of : Script → ℕ → List Command
-commands_of script user = map (λ own. own.1) (filter (λ own. own.0 == user) script.commands)
+abbrev pub user_commands : Script → ℕ → List Command
+user_commands script user = map (λ own. own.1) (filter (λ own. own.0 == user) script.commands)
 
 -- this holds of each user of a record, by number
 abbrev pub EachUser : (ℕ → UserRecord → Type 0) → Record → Type 0
@@ -38,7 +38,7 @@ EachUser P kept = AllByRecursion (λ numbered. P numbered.0 numbered.1) (enumera
 pub record IsRecordOfScript (script : Script) (kept : Record) : Type 0 where
   pub users : map (λ user. user.name) kept.users ≡ script.users
   pub commands : EachUser
-      (λ number user. map (λ done. done.0) user.done ≡ commands_of script number) kept
+      (λ number user. map (λ done. done.0) user.done ≡ user_commands script number) kept
 
 -- ---- the record
 
@@ -59,8 +59,8 @@ pub record IsLegal (kind : RoundKind) (script : Script) (kept : Record) : Type 0
   pub does : EachUser
       (λ number user.
       AreDoings kind (machine_of script) kept.history number user.done (doings number)) kept
-  pub alone : EachCube IsAlone (images_of script) kept.history
-  pub owned : EachCube (λ cube t. IsOwned cube (opening cube) t) (images_of script) kept.history
-  pub in_order : EachCube (λ cube t. IsInOrder (opening cube).standing t) (images_of script)
+  pub alone : EachCube IsAlone (script_images script) kept.history
+  pub owned : EachCube (λ cube t. IsOwned cube (opening cube) t) (script_images script) kept.history
+  pub in_order : EachCube (λ cube t. IsInOrder (opening cube).standing t) (script_images script)
       kept.history
   pub refused : EachUser (λ number user. AreRefusedExactly (machine_of script) (doings number)) kept

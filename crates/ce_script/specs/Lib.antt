@@ -15,6 +15,7 @@ pub mod Names
 pub mod Places
 pub mod ReadLines
 pub mod ReadWords
+pub mod ReaderCalls
 pub mod Reading
 pub mod Rounds
 pub mod Sayings

@@ -1,9 +1,9 @@
 -- The lines of a script and their words.
-use Rattle.std.specs.Prelude.{ℕ, Bool, not, List, [], ◌∷◌, ◌++◌, map}
+use Rattle.std.specs.Prelude.{ℕ, suc, Bool, not, List, [], ◌∷◌, ◌++◌, map, length, Option, Some, None}
 use Rattle.std.specs.List.{list_all, enumerate_from}
 use Rattle.ce_text.specs.Bytes.{is_plain}
-use Rattle.ce_text.specs.Line.{lines as line_texts, before_comment}
-use Rattle.ce_text.specs.Words.{words as words_between}
+use Rattle.ce_text.specs.Line.{line_texts, before_comment}
+use Rattle.ce_text.specs.Words.{words_between}
 
 -- ---- members of a list, each with its surroundings
 
@@ -14,15 +14,15 @@ pub record Spot (A : Type 0) : Type 0 where
   pub behind : List A
 
 -- the spots of a list that stands behind these members
-abbrev pub spots_behind : {A : Type 0} → List A → List A → List (Spot A)
-spots_behind before [] = []
-spots_behind before (here ∷ behind) =
+abbrev pub later_spots : {A : Type 0} → List A → List A → List (Spot A)
+later_spots before [] = []
+later_spots before (here ∷ behind) =
     record { before = before; here = here; behind = behind }
-    ∷ spots_behind (before ++ here ∷ []) behind
+    ∷ later_spots (before ++ here ∷ []) behind
 
 -- the spots of a list
 abbrev pub spots : {A : Type 0} → List A → List (Spot A)
-spots list = spots_behind [] list
+spots list = later_spots [] list
 
 -- ---- lines
 
@@ -43,3 +43,8 @@ words line = words_between (before_comment line.text)
 -- before the comment of a line stands a byte that is neither a blank nor a character of ASCII that can be seen
 abbrev pub has_bad_byte : Line → Bool
 has_bad_byte line = not (list_all is_plain (before_comment line.text))
+
+-- one more than how many bytes are left, and 0 at the end
+abbrev pub size_of : Option (List ℕ) → ℕ
+size_of None = 0
+size_of (Some text) = suc (length text)

@@ -2,9 +2,11 @@
 use Rattle.std.specs.Prelude.{ℕ, zero, suc, ◌+◌, ◌*◌, ◌%◌, ◌^◌, List, [], ◌∷◌, ◌++◌, map, flat_map, Some, codes}
 use Rattle.std.specs.Int.{w32, to_le_bytes}
 use Rattle.rv_model.specs.Image.{ImageParts}
+use Rattle.ce_model.specs.declared.limits.TheConstants.{GREATEST_COUNT}
 use Rattle.ce_model.specs.declared.topology.Place.{Place}
 use Rattle.ce_host.specs.declared.command.Command.{Command}
 use Rattle.ce_host.specs.declared.command.Command.TheVariants.{Getcube, Freecube, Spawn, Send, Recv}
+use Rattle.ce_script.specs.declared.load.TheConstants.{CUBE_DIMENSION, HAND_OVERS, MACHINE_DIMENSION, NUMBER_FACTOR, NUMBER_STEP}
 use Rattle.ce_script.specs.declared.script.Script.{Script}
 use Rattle.ce_script.specs.AssemblyImage.{assembly_image}
 use Rattle.ce_script.specs.Bodies.{image_or_nothing}
@@ -53,22 +55,22 @@ ring_image = image_or_nothing (assembly_image ring_text)
 
 -- ---- its messages
 
--- the number that follows another: 1,664,525 times as much and 1,013,904,223, modulo 2^32
+-- the number that follows another, modulo 2^32
 abbrev pub next_number : ℕ → ℕ
-next_number x = (1_664_525 * x + 1_013_904_223) % 2 ^ 32
+next_number x = (NUMBER_FACTOR * x + NUMBER_STEP) % 2 ^ 32
 
 -- the number that follows a seed and k more
-abbrev pub number_after : ℕ → ℕ → ℕ
-number_after seed zero = next_number seed
-number_after seed (suc k) = next_number (number_after seed k)
+abbrev pub load_number : ℕ → ℕ → ℕ
+load_number seed zero = next_number seed
+load_number seed (suc k) = next_number (load_number seed k)
 
 -- how often a message is handed over
 abbrev pub hand_overs : ℕ
-hand_overs = 4_000
+hand_overs = HAND_OVERS
 
 -- the message of user k: its number, and how often it is handed over
 abbrev pub load_message : ℕ → ℕ → List ℕ
-load_message seed k = to_le_bytes w32 (number_after seed k) ++ to_le_bytes w32 hand_overs
+load_message seed k = to_le_bytes w32 (load_number seed k) ++ to_le_bytes w32 hand_overs
 
 -- ---- its commands
 
@@ -79,13 +81,13 @@ place node pid = record { node = node; pid = pid }
 -- the commands of a user, with this message
 abbrev pub load_commands : List ℕ → List Command
 load_commands message =
-    Getcube 2
+    Getcube CUBE_DIMENSION
     ∷ Spawn 0 (place 0 0)
     ∷ Spawn 0 (place 1 0)
     ∷ Spawn 0 (place 2 0)
     ∷ Spawn 0 (place 3 0)
     ∷ Send (place 0 0) message
-    ∷ Recv 1_000_000
+    ∷ Recv GREATEST_COUNT
     ∷ Freecube
     ∷ []
 
@@ -95,15 +97,19 @@ load_commands message =
 abbrev pub load_users : List (List ℕ)
 load_users = codes "u0" ∷ codes "u1" ∷ codes "u2" ∷ codes "u3" ∷ []
 
+-- their numbers
+abbrev pub load_user_numbers : List ℕ
+load_user_numbers = 0 ∷ 1 ∷ 2 ∷ 3 ∷ []
+
 -- the commands of user k, with the user's number
-abbrev pub commands_of : ℕ → ℕ → List (ℕ × Command)
-commands_of seed k = map (λ command. (k, command)) (load_commands (load_message seed k))
+abbrev pub numbered_commands : ℕ → ℕ → List (ℕ × Command)
+numbered_commands seed k = map (λ command. (k, command)) (load_commands (load_message seed k))
 
 -- the load of a seed
 unfoldable pub load : ℕ → Script
 load seed = record {
-  dim = Some 4;
+  dim = Some MACHINE_DIMENSION;
   images = record { name = codes "ring"; image = ring_image } ∷ [];
   users = load_users;
-  commands = flat_map (commands_of seed) (0 ∷ 1 ∷ 2 ∷ 3 ∷ []);
+  commands = flat_map (numbered_commands seed) load_user_numbers;
 }

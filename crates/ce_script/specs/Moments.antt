@@ -10,17 +10,17 @@ pub record Moment : Type 0 where
   pub entry : Entry
 
 -- the moments of a history that goes on behind these entries
-abbrev pub moments_behind : List Entry → List Entry → List Moment
-moments_behind before [] = []
-moments_behind before (entry ∷ behind) =
-    record { before = before; entry = entry } ∷ moments_behind (before ++ entry ∷ []) behind
+abbrev pub later_moments : List Entry → List Entry → List Moment
+later_moments before [] = []
+later_moments before (entry ∷ behind) =
+    record { before = before; entry = entry } ∷ later_moments (before ++ entry ∷ []) behind
 
 unfoldable pub moments : List Entry → List Moment
-moments history = moments_behind [] history
+moments history = later_moments [] history
 
 -- the moments at which a user's host and nodes make their entries
-abbrev pub moments_of : ℕ → List Entry → List Moment
-moments_of user history = filter (λ moment. moment.entry.user == user) (moments history)
+abbrev pub user_moments : ℕ → List Entry → List Moment
+user_moments user history = filter (λ moment. moment.entry.user == user) (moments history)
 
 abbrev pub entries_of : List Moment → List Entry
 entries_of moments = map (λ moment. moment.entry) moments
@@ -41,8 +41,8 @@ abbrev pub with_entry : Entry → Holding → Holding
 with_entry entry held = record held { trace = held.trace ++ entry_inward held.grant.sub entry ∷ [] }
 
 -- what a user holds, once it has made an entry
-abbrev pub holding_by : Option Holding → Entry → Option Holding
-holding_by held entry = elim entry.what [
+abbrev pub next_holding : Option Holding → Entry → Option Holding
+next_holding held entry = elim entry.what [
   | Getcube dim (Some sub) ↦ Some
       (record { grant = record { user = entry.user; dim = dim; sub = sub }; trace = [] })
   | Getcube dim None ↦ held
@@ -54,4 +54,4 @@ holding_by held entry = elim entry.what [
 
 -- the cube that a user holds by its own entries so far
 unfoldable pub holding : List Entry → Option Holding
-holding entries = fold holding_by None entries
+holding entries = fold next_holding None entries

@@ -1,19 +1,14 @@
 -- The names of users and images.
-use Rattle.std.specs.Prelude.{ℕ, List, [], ◌∷◌, Bool, false, ◌&&◌, ◌||◌, ◌==◌, nat_le, length}
-use Rattle.std.specs.List.{list_all}
-use Rattle.std.specs.Char.{is_ascii_alphabetic, is_ascii_alphanumeric}
+use Rattle.std.specs.Prelude.{ℕ, List, [], ◌∷◌, Bool, false, ◌&&◌}
+use Rattle.ce_text.specs.Bytes.{is_letter}
+use Rattle.ce_text.specs.Name as text
+use Rattle.ce_script.specs.declared.spelling.TheConstants.{NAME_ROOM}
 
 -- how many bytes a name can have
 unfoldable pub name_room : ℕ
-name_room = 16
-
--- letters, digits and `_`
-abbrev pub is_name_byte : ℕ → Bool
-is_name_byte byte = is_ascii_alphanumeric byte || byte == 95
+name_room = NAME_ROOM
 
 -- a letter first, and letters, digits and `_` behind it
 unfoldable pub is_name : List ℕ → Bool
 is_name [] = false
-is_name (byte ∷ bytes) =
-    is_ascii_alphabetic byte && list_all is_name_byte bytes
-    && nat_le (length (byte ∷ bytes)) name_room
+is_name (byte ∷ bytes) = is_letter byte && text.is_name name_room (byte ∷ bytes)

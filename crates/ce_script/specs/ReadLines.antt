@@ -1,21 +1,22 @@
 -- The lines that the reader has, as the definitions see them.
-use Rattle.std.specs.Prelude.{◌≡◌, ℕ, ◌+◌, ◌<◌, ◌≤◌, ◌==◌, Bool, true, false, ◌||◌, if◌then◌else◌, List, [], ◌∷◌, ◌++◌, Option, Some, None, map, length, option_map, suc}
+use Rattle.std.specs.Prelude.{◌≡◌, ℕ, ◌+◌, ◌<◌, ◌≤◌, ◌==◌, Bool, true, false, ◌||◌, if◌then◌else◌, List, [], ◌∷◌, ◌++◌, Option, Some, None, map, length, option_map, IfSome}
 use Rattle.std.specs.List.{enumerate_from, slice_split}
 use Rattle.ce_text.specs.Bytes.{is_line_feed}
+use Rattle.ce_text.specs.Line.{cut}
 use Rattle.ce_script.specs.declared.reader.line.WordedLine.{WordedLine}
 use Rattle.ce_script.specs.declared.reader.rest.Rest.{Rest}
 use Rattle.ce_script.specs.declared.reader.rest.Body.{Body}
-use Rattle.ce_script.specs.Lines.{Line, words}
-use Rattle.ce_script.specs.Statements.{Statement, is_end, begins_image, body_in}
+use Rattle.ce_script.specs.Lines.{Line, words, size_of}
+use Rattle.ce_script.specs.Statements.{Statement, is_end, begins_image, found_body}
 use Rattle.ce_script.specs.Bodies.{text_of}
 
 -- the line
-abbrev pub line_of : WordedLine → Line
-line_of line = record { number = line.number; text = line.text.now }
+abbrev pub plain_line : WordedLine → Line
+plain_line line = record { number = line.number; text = line.text.now }
 
 -- the statement of the line, but for the body of an image
 abbrev pub here_of : WordedLine → Statement
-here_of line = record { line = line_of line; body = None }
+here_of line = record { line = plain_line line; body = None }
 
 -- the texts of the lines of what is left of a text
 abbrev pub texts_left : Option (List ℕ) → List (List ℕ)
@@ -33,21 +34,24 @@ left_of rest = option_map (λ text. text.now) rest.text
 
 -- the lines that are left
 abbrev pub lines_left : Rest → List Line
-lines_left rest = numbered_lines (rest.before + 1) (texts_left (left_of rest))
-
--- one more than how many bytes are left, and 0 at the end
-abbrev pub size_of : Option (List ℕ) → ℕ
-size_of None = 0
-size_of (Some text) = suc (length text)
+lines_left rest = numbered_lines (rest.line_count + 1) (texts_left (left_of rest))
 
 -- how many lines are done, and how many bytes are left
 abbrev pub reach_of : Rest → ℕ
-reach_of rest = rest.before + size_of (left_of rest)
+reach_of rest = rest.line_count + size_of (left_of rest)
 
 -- these lines are left behind those, or are the same
 pub record IsLater (rest next : Rest) : Type 0 where
-  pub lines : rest.before ≤ next.before
+  pub lines : rest.line_count ≤ next.line_count
   pub reach : reach_of next ≤ reach_of rest
+
+-- the first line that is left has this text, and behind it these lines are left
+pub record IsNext (here : Rest) (line : List ℕ) (next : Rest) : Type 0 where
+  pub bytes : List ℕ
+  pub is : left_of here ≡ Some bytes
+  pub parts : (line, left_of next) ≡ cut is_line_feed bytes
+  pub before : next.line_count ≡ here.line_count + 1
+  pub shorter : IfSome next.text (λ behind. length behind.now < length bytes)
 
 -- ---- statements, line by line
 
@@ -56,18 +60,18 @@ abbrev pub inside_behind : Bool → Line → Bool
 inside_behind inside line = if is_end line then false else (inside || begins_image line)
 
 -- the statements on lines, where the first stands inside an image or not
-unfoldable pub statements_from : Bool → List Line → List Statement
-statements_from inside [] = []
-statements_from inside (line ∷ lines) =
-    let others = statements_from (inside_behind inside line) lines in
+unfoldable pub remaining_statements : Bool → List Line → List Statement
+remaining_statements inside [] = []
+remaining_statements inside (line ∷ lines) =
+    let others = remaining_statements (inside_behind inside line) lines in
     if (length (words line) == 0) || inside then others
-    else record { line = line; body = if begins_image line then body_in lines else None } ∷ others
+    else record { line = line; body = if begins_image line then found_body lines else None } ∷ others
 
 -- ---- bodies
 
 -- the lines of a body, and an empty one behind its last line feed
 abbrev pub lines_shown : Body → List Line
-lines_shown body = numbered_lines (body.at + 1) (slice_split is_line_feed body.text.now)
+lines_shown body = numbered_lines (body.line + 1) (slice_split is_line_feed body.text.now)
 
 -- an empty line behind others
 abbrev pub with_empty : List Line → ℕ → List Line
@@ -82,9 +86,8 @@ pub record IsBody (body : Body) (lines : List Line) : Type 0 where
 -- the body of the image whose line stands before what is left, and what is left behind its `end`
 pub record IsBodyIn (rest : Rest) (body : Body) (after : Rest) : Type 0 where
   pub lines : List Line
-  pub here : body_in (lines_left rest) ≡ Some lines
+  pub here : found_body (lines_left rest) ≡ Some lines
   pub is : IsBody body lines
-  pub at : body.at ≡ rest.before
-  pub past : statements_from true (lines_left rest) ≡ statements_from false (lines_left after)
+  pub at : body.line ≡ rest.line_count
+  pub past : remaining_statements true (lines_left rest) ≡ remaining_statements false (lines_left after)
   pub later : IsLater rest after
-  pub room : body.at + length body.text.now < reach_of rest

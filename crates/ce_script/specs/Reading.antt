@@ -3,7 +3,7 @@ use Rattle.std.specs.Prelude.{◌≡◌, ℕ, Bool, not, ◌&&◌, nat_lt, if◌
 use Rattle.std.specs.List.{enumerate_from}
 use Rattle.std.specs.Option.{option_or}
 use Rattle.ce_model.specs.Limits.{greatest_users}
-use Rattle.rv_asm.specs.declared.fault.AsmKind.TheVariants as asm
+use Rattle.rv_asm.specs.declared.fault.AsmKind.TheVariants as kinds
 use Rattle.ce_script.specs.declared.grammar.Verb.{Verb}
 use Rattle.ce_script.specs.declared.script.ScriptFault.{ScriptFault}
 use Rattle.ce_script.specs.declared.script.ScriptKind.{ScriptKind}
@@ -12,14 +12,14 @@ use Rattle.ce_script.specs.Lines.{has_bad_byte}
 use Rattle.ce_script.specs.Names.{is_name}
 use Rattle.ce_script.specs.Verbs.{is_machine, is_command, operands_of}
 use Rattle.ce_script.specs.Statements.{Statement, operand}
-use Rattle.ce_script.specs.Faults.{first_some, fault_where, is_unknown, has_wrong_count, is_among, operand_fault}
+use Rattle.ce_script.specs.Faults.{first_some, kind_where, is_unknown, has_wrong_count, is_one_name_of, operand_fault}
 
 -- ---- judgments
 
 -- what is known of a fault: nothing where memory ran out; and the assembler tells nothing of memory
 abbrev pub Unless : ScriptKind → Type 0 → Type 0
 Unless (Memory want) known = Unit {0}
-Unless (Assembly (asm.Memory want)) known = ⊥
+Unless (Assembly (kinds.Memory want)) known = ⊥
 Unless kind known = known
 
 -- a call answered this value where there is no fault, and else the fault, unless memory ran out
@@ -37,15 +37,15 @@ HasFound (Err it) fault value = Unless it.kind (fault ≡ Some it)
 -- with its bytes and words alone
 unfoldable pub word_fault : Statement → Option ScriptKind
 word_fault here =
-    option_or (fault_where (has_bad_byte here.line) BadByte)
-    (option_or (fault_where (is_unknown here) UnknownWord) (fault_where (has_wrong_count here) WordCount))
+    option_or (kind_where (has_bad_byte here.line) BadByte)
+    (option_or (kind_where (is_unknown here) UnknownWord) (kind_where (has_wrong_count here) WordCount))
 
 -- with its place, where there was a machine line before it or none, and a user line or none
 unfoldable pub place_fault : Bool → Bool → Verb → Option ScriptKind
 place_fault machine user verb =
-    option_or (fault_where (not (is_machine verb) && not machine) NoMachine)
-    (option_or (fault_where (is_machine verb && machine) SecondMachine)
-    (fault_where (is_command verb && not user) NoUser))
+    option_or (kind_where (not (is_machine verb) && not machine) NoMachine)
+    (option_or (kind_where (is_machine verb && machine) SecondMachine)
+    (kind_where (is_command verb && not user) NoUser))
 
 -- with its operands, where the earlier images have these names
 unfoldable pub operands_judged : List (List ℕ) → Verb → Statement → Option ScriptKind
@@ -58,10 +58,10 @@ operands_judged names verb here =
 
 -- the names with one more, unless it is among them
 abbrev pub with_name : List (List ℕ) → List ℕ → List (List ℕ)
-with_name names name = if is_among names name then names else names ++ name ∷ []
+with_name names name = if is_one_name_of names name then names else names ++ name ∷ []
 
 -- what is wrong with a user line behind these users
 abbrev pub user_fault : List (List ℕ) → List ℕ → Option ScriptKind
 user_fault names name =
-    option_or (fault_where (not (is_name name)) BadName)
-    (fault_where (nat_lt greatest_users (length (with_name names name))) TooMany)
+    option_or (kind_where (not (is_name name)) BadName)
+    (kind_where (nat_lt greatest_users (length (with_name names name))) TooMany)

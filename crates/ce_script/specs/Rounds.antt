@@ -5,7 +5,7 @@ use Rattle.std.specs.Option.{option_map_or}
 use Rattle.ce_model.specs.declared.entry.Entry.{Entry}
 use Rattle.ce_model.specs.declared.entry.What.TheVariants.{Take}
 use Rattle.ce_model.specs.declared.entry.TakeResult.{TakeResult}
-use Rattle.ce_model.specs.Node.{Call, takes}
+use Rattle.ce_model.specs.Node.{Call, take_call}
 use Rattle.ce_model.specs.Trace.{is_work}
 use Rattle.ce_model.specs.Cube.{Cube, CubeState, node_numbers, next_call}
 
@@ -78,7 +78,7 @@ IsRoundWithoutWork kind dim round = IsRound kind dim round × IsFalse (has_work 
 -- ---- whole turns
 
 abbrev pub asks_for_work : Call → Bool
-asks_for_work (takes asking dead poller) = true
+asks_for_work (take_call asking dead poller) = true
 asks_for_work other = false
 
 -- no node of the cube is in the middle of a turn after a trace: the next call of each asks for work

@@ -15,8 +15,8 @@ abbrev pub operand : ℕ → Statement → List ℕ
 operand place statement = get_or (words statement.line) place []
 
 -- the statement begins with a verb of this kind
-abbrev pub is_of : (Verb → Bool) → Statement → Bool
-is_of kind statement = has_verb kind (words statement.line)
+abbrev pub has_verb_kind : (Verb → Bool) → Statement → Bool
+has_verb_kind kind statement = has_verb kind (words statement.line)
 
 -- ---- bodies of images
 
@@ -39,22 +39,22 @@ abbrev pub is_inside : List Line → Bool
 is_inside before = list_any begins_image (after_last is_end before)
 
 -- the lines of an image's body: those behind its own, up to an `end`
-unfoldable pub body_in : List Line → Option (List Line)
-body_in behind = if list_any is_end behind then Some (before_first is_end behind) else None
+unfoldable pub found_body : List Line → Option (List Line)
+found_body behind = if list_any is_end behind then Some (before_first is_end behind) else None
 
 -- ---- statements
 
 -- the statement of a line
-abbrev pub statement_of : Spot Line → Statement
-statement_of spot =
-    record { line = spot.here; body = if begins_image spot.here then body_in spot.behind else None }
+abbrev pub line_statement : Spot Line → Statement
+line_statement spot =
+    record { line = spot.here; body = if begins_image spot.here then found_body spot.behind else None }
 
 -- a statement stands on each line that has words and is not inside an image
-unfoldable pub statement_at : Spot Line → Option Statement
-statement_at spot =
+unfoldable pub standing_statement : Spot Line → Option Statement
+standing_statement spot =
     if (length (words spot.here) == 0) || is_inside spot.before then None
-    else Some (statement_of spot)
+    else Some (line_statement spot)
 
 -- the statements of a text, in order
 unfoldable pub statements : List ℕ → List Statement
-statements text = filter_map statement_at (spots (lines text))
+statements text = filter_map standing_statement (spots (lines text))

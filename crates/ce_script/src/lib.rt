@@ -18,5 +18,5 @@ pub use load::make;
 pub use name::Name;
 pub use reader::read_script;
 pub use record::{Record, UserRecord};
-pub use script::{Named, Script, ScriptFault, ScriptKind};
+pub use script::{NamedImage, Script, ScriptFault, ScriptKind};
 pub use texts::KindText;

@@ -4,10 +4,10 @@ ghost use Rattle.std.specs.Int.{w32, to_le_bytes};
 ghost use Rattle.std.specs.String.{string_bytes};
 ghost use Rattle.ce_script.specs.Bounds.{IsWithinLimits};
 ghost use Rattle.ce_script.specs.Names.{is_name};
-ghost use Rattle.ce_script.specs.Load.{commands_of, hand_overs, load, load_commands, load_users, next_number, place, ring_image, ring_text};
+ghost use Rattle.ce_script.specs.Load.{numbered_commands, hand_overs, load, load_commands, load_user_numbers, load_users, next_number, place, ring_image, ring_text};
 
 use crate::name::Name;
-use crate::script::{Named, Script};
+use crate::script::{NamedImage, Script};
 use ce_host::Command;
 use ce_model::{Bytes, GREATEST_COUNT, NoMemory, Place};
 use rv_asm::{AsmKind, assemble};
@@ -57,6 +57,11 @@ const USERS: u32 = 4;
 /// How often each message is handed over.
 const HAND_OVERS: u32 = 4_000;
 
+/// By what a number is multiplied for the one that follows it, and what is added then, modulo 2^32.
+const NUMBER_FACTOR: u32 = 1_664_525;
+
+const NUMBER_STEP: u32 = 1_013_904_223;
+
 /// The script of the load of a seed, which keeps the limits of a script. `NoMemory` may come at any time.
 #[tactic(auto, using(crate::proofs::LoadWithin::load_within), unfolding(crate::specs::Load::load))]
 pub fn make(alloc: Global, seed: u32) -> Result<Script, NoMemory>
@@ -72,13 +77,13 @@ pub fn make(alloc: Global, seed: u32) -> Result<Script, NoMemory>
 }
 
 /// The program, with its name.
-#[tactic(auto, unfolding(crate::specs::Names::is_name, crate::specs::Names::name_room))]
-fn load_images(alloc: Global) -> Result<Items<Named>, NoMemory>
+#[tactic(auto, unfolding(crate::specs::Names::is_name, crate::specs::Names::name_room, ce_text::specs::Name::is_name))]
+fn load_images(alloc: Global) -> Result<Items<NamedImage>, NoMemory>
     ensures { IfOk result (λ images. images
         ≡ record { name = codes "ring"; image = ring_image } ∷ []) }
 {
     let mut images = Items::new(alloc);
-    images.push(Named {
+    images.push(NamedImage {
         name: name_of(alloc, "ring")?,
         image: ring_image(alloc)?,
     })?;
@@ -115,7 +120,7 @@ fn name_of(alloc: Global, text: &str) -> Result<Name, NoMemory>
 }
 
 /// The names of the users.
-#[tactic(auto, unfolding(crate::specs::Names::is_name, crate::specs::Names::name_room))]
+#[tactic(auto, unfolding(crate::specs::Names::is_name, crate::specs::Names::name_room, ce_text::specs::Name::is_name))]
 fn load_users(alloc: Global) -> Result<Items<Name>, NoMemory>
     ensures { IfOk result (λ users. users ≡ load_users) }
 {
@@ -130,7 +135,7 @@ fn load_users(alloc: Global) -> Result<Items<Name>, NoMemory>
 /// The commands of all users.
 fn load_commands(alloc: Global, seed: u32) -> Result<Items<(u32, Command)>, NoMemory>
     ensures { IfOk result (λ commands. commands
-        ≡ flat_map (commands_of seed) (0 ∷ 1 ∷ 2 ∷ 3 ∷ [])) }
+        ≡ flat_map (numbered_commands seed) load_user_numbers) }
 {
     let mut commands = Items::new(alloc);
     let mut number = seed;
@@ -175,7 +180,7 @@ fn message(alloc: Global, number: u32) -> Result<Bytes, NoMemory>
 fn next_number(number: u32) -> u32
     ensures { result ≡ next_number number }
 {
-    number.wrapping_mul(1_664_525).wrapping_add(1_013_904_223)
+    number.wrapping_mul(NUMBER_FACTOR).wrapping_add(NUMBER_STEP)
 }
 
 #[cfg(test)]

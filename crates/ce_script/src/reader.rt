@@ -1,7 +1,7 @@
 //! The reader of scripts.
 ghost use Rattle.std.specs.Prelude.{◌≡◌, ◌≢◌, ◌<◌, ◌^◌, length, IfOk, IfErr, Some};
 ghost use Rattle.rv_model.specs.declared.memory.NoMemory.{NoMemory};
-ghost use Rattle.rv_asm.specs.declared.fault.AsmKind.TheVariants as asm;
+ghost use Rattle.rv_asm.specs.declared.fault.AsmKind.TheVariants as kinds;
 ghost use Rattle.ce_script.specs.declared.script.ScriptKind.TheVariants.{Assembly};
 ghost use Rattle.ce_script.specs.Bounds.{IsWithinLimits};
 ghost use Rattle.ce_script.specs.Faults.{first_fault};
@@ -12,11 +12,10 @@ mod index;
 mod line;
 mod operand;
 mod rest;
+mod so_far;
 mod state;
 
 use crate::script::{Script, ScriptFault};
-use ce_text::cut_at;
-use index::Indexes;
 use rest::Rest;
 use state::Reader;
 use std::alloc::Global;
@@ -30,23 +29,14 @@ pub fn read_script(alloc: Global, bytes: &[u8]) -> Result<Script, ScriptFault>
     ensures fault { IfErr result (λ fault. ¬ IsNoMemory fault.kind
         → first_fault bytes.now ≡ Some fault) }
     ensures told { IfErr result (λ fault. (want : NoMemory)
-        → fault.kind ≢ Assembly (asm.Memory want)) }
+        → fault.kind ≢ Assembly (kinds.Memory want)) }
 {
     let mut reader = Reader::new(alloc);
-    let mut indexes = Indexes::new(alloc);
-    let mut rest = Rest {
-        before: 0,
-        text: Some(bytes),
-    };
-    while let Some(text) = rest.text {
-        let (line, behind) = cut_at(text, b'\n');
-        let next = Rest {
-            before: rest.before + 1,
-            text: behind,
-        };
-        rest = reader.line(alloc, &mut indexes, line, next)?;
+    let mut rest = Rest::new(bytes);
+    while let Some((line, next)) = rest.first_line() {
+        (reader, rest) = reader.line(line, next)?;
     }
-    Ok(reader.script)
+    Ok(reader.so_far.script)
 }
 
 #[cfg(test)]

@@ -18,6 +18,6 @@ pub struct UserRecord {
 pub struct Record {
     /// The users, by number.
     pub users: Items<UserRecord>,
-    /// Every step of the machine, in order, with the machine's own numbers.
+    /// Every entry of the machine, in order, with the machine's own numbers.
     pub history: Items<Entry>,
 }

@@ -13,7 +13,7 @@ use thiserror::Error;
 
 /// An image with its name.
 #[derive(Debug, Drop)]
-pub struct Named {
+pub struct NamedImage {
     /// The name, by which commands speak of the image.
     pub name: Name,
     /// What processes are started from.
@@ -26,7 +26,7 @@ pub struct Script {
     /// The machine's dimension, 0 to 6; none where the script has no statements.
     pub dim: Option<u32>,
     /// The images, by number, in the script's order; 64 at most, each of another name.
-    pub images: Items<Named>,
+    pub images: Items<NamedImage>,
     /// The users' names, by number, in the order in which the script first names them; 8 at most, all different.
     pub users: Items<Name>,
     /// Each command with its user's number, in the script's order.
@@ -35,56 +35,40 @@ pub struct Script {
 
 /// What is wrong with a line of a script, in the order in which a line is judged: each kind is judged before the next,
 /// but that the operands are judged from left to right, each with all its kinds (from `BadNumber` to `UnknownImage`).
-#[derive(Clone, Copy, Debug, PartialEq, Eq, Error)]
+#[derive(Clone, Copy, Debug, PartialEq, Eq)]
 pub enum ScriptKind {
     /// A byte before any comment is neither a blank nor from 0x21 to 0x7E; also in a line of an image's body.
-    #[error("bad byte")]
     BadByte,
     /// The first word begins no statement, or an image has a form that is none of `hex`, `asm` and `rki`.
-    #[error("unknown word")]
     UnknownWord,
     /// The statement has more or fewer words.
-    #[error("wrong number of words")]
     WordCount,
     /// Another statement comes before `machine`.
-    #[error("no machine line")]
     NoMachine,
     /// A second `machine`.
-    #[error("second machine line")]
     SecondMachine,
     /// A command comes before any `user`.
-    #[error("no user line")]
     NoUser,
     /// A word is no number, or the number is too large where it stands: a dimension over 6, a count over 1,000,000.
-    #[error("bad number")]
     BadNumber,
     /// A word is no name.
-    #[error("bad name")]
     BadName,
     /// The data of `send` is neither `-` nor an even number of hexadecimal digits, 8,192 at most.
-    #[error("bad hex")]
     BadHex,
     /// An earlier image has the name.
-    #[error("name taken")]
     NameTaken,
     /// A ninth user, or a 65th image.
-    #[error("too many")]
     TooMany,
     /// No earlier image has the name.
-    #[error("unknown image")]
     UnknownImage,
     /// No `end` follows the line that begins an image.
-    #[error("no end line")]
     NoEnd,
     /// The body of an image is refused by the assembler; the line is the image's and the fault's together.
-    #[error("assembly: {0}")]
     Assembly(AsmKind),
     /// A word of a `hex` or `rki` body is not as it must be, at the word's line; or the words give no image, at the
     /// image's line.
-    #[error("bad image")]
     BadImage,
     /// Memory ran out, which may come at any line.
-    #[error("{0}")]
     Memory(NoMemory),
 }
 
@@ -99,11 +83,11 @@ pub struct ScriptFault {
 }
 
 impl ScriptKind {
-    ghost use Rattle.ce_script.specs.Bodies.{fault_at};
+    ghost use Rattle.ce_script.specs.Bodies.{located_fault};
 
     /// As a fault of this line.
     pub(crate) fn at(self, line: u32) -> ScriptFault
-        ensures { result ≡ fault_at line self }
+        ensures { result ≡ located_fault line self }
     {
         ScriptFault { line, kind: self }
     }

@@ -1,14 +1,11 @@
 //! Words as numbers, names and bytes.
-ghost use Rattle.std.specs.Prelude.{◌≡◌, ◌≤◌, ◌+◌, ◌*◌, ◌++◌, ◌<◌, IfOk, OnOk, IfSome, IsTrue, nat_lt, option_map, length};
+ghost use Rattle.std.specs.Prelude.{◌≡◌, ◌≤◌, ◌+◌, ◌*◌, ◌++◌, ◌<◌, IfOk, OnOk, IfSome, IsTrue, option_map, length};
 ghost use Rattle.std.specs.Int.{w32, to_le_bytes};
-ghost use Rattle.std.specs.List.{list_all};
-ghost use Rattle.std.specs.Char.{digit_value};
-ghost use Rattle.ce_text.specs.Number.{are_digits};
-ghost use Rattle.ce_script.specs.Names.{is_name, is_name_byte};
-ghost use Rattle.ce_script.specs.Spellings.{number_to, are_byte_digits, digit_bytes, instruction_in, data_in};
+ghost use Rattle.ce_script.specs.Names.{is_name};
+ghost use Rattle.ce_script.specs.Spellings.{bounded_number, are_byte_digits, digit_bytes, instruction_in, data_in};
 
 use ce_model::{BLOCK_ROOM, Bytes, NoMemory};
-use ce_text::number_of_digits;
+use ce_text::{are_hex_digits, hex_digit, is_letter, number_of_digits};
 use std::alloc::{AllocError, Global};
 
 /// How many digits a number has at most.
@@ -23,10 +20,10 @@ const INSTRUCTION_DIGITS: usize = 8;
 /// How many digits the bytes of a message have at most.
 const DATA_DIGITS: usize = 2 * BLOCK_ROOM as usize;
 
-/// The number that a word writes in 1 to 10 decimal digits, where it is at most `most`.
-#[tactic(auto, unfolding(crate::specs::Spellings::number_to))]
+/// The number that a word writes in 1 to `NUMBER_DIGITS` decimal digits, where it is at most `most`.
+#[tactic(auto, unfolding(crate::specs::Spellings::bounded_number))]
 pub fn number_to(word: &[u8], most: u32) -> Option<u32>
-    ensures { result ≡ number_to most word.now }
+    ensures { result ≡ bounded_number most word.now }
 {
     if word.len() > NUMBER_DIGITS {
         return None;
@@ -35,43 +32,14 @@ pub fn number_to(word: &[u8], most: u32) -> Option<u32>
     Some(number as u32)
 }
 
-fn is_name_byte(byte: u8) -> bool
-    ensures { result ≡ is_name_byte byte }
-{
-    byte.is_ascii_alphanumeric() || byte == b'_'
-}
-
-fn are_name_bytes(bytes: &[u8]) -> bool
-    ensures { result ≡ list_all is_name_byte bytes.now }
-{
-    bytes.iter().all(|byte| is_name_byte(*byte))
-}
-
-/// Whether a word is a name: a letter, and up to 15 letters, digits and `_`.
+/// Whether a word is a name: a letter, and letters, digits and `_` behind it, `NAME_ROOM` bytes at most.
 #[tactic(auto, unfolding(crate::specs::Names::is_name, crate::specs::Names::name_room))]
 pub fn is_name(word: &[u8]) -> bool
     ensures { result ≡ is_name word.now }
 {
     match word {
         [] => false,
-        [first, others @ ..] => {
-            first.is_ascii_alphabetic() && are_name_bytes(others) && word.len() <= NAME_ROOM
-        }
-    }
-}
-
-fn all_digits(word: &[u8]) -> bool
-    ensures { result ≡ list_all (λ byte. nat_lt (digit_value byte) 16) word.now }
-{
-    word.iter().all(|byte| (*byte as char).is_digit(16))
-}
-
-fn are_digits(word: &[u8]) -> bool
-    ensures { result ≡ are_digits 16 word.now }
-{
-    match word {
-        [] => false,
-        [_, ..] => all_digits(word),
+        [first, ..] => is_letter(*first) && ce_text::is_name(word, NAME_ROOM),
     }
 }
 
@@ -79,17 +47,7 @@ fn are_digits(word: &[u8]) -> bool
 pub fn are_byte_digits(word: &[u8]) -> bool
     ensures { result ≡ are_byte_digits word.now }
 {
-    are_digits(word) && word.len() % 2 == 0
-}
-
-fn digit_of(byte: u8) -> u8
-    requires { digit_value byte < 16 }
-    ensures { result ≡ digit_value byte }
-{
-    match (byte as char).to_digit(16) {
-        Some(digit) => digit as u8,
-        None => unreachable!(),
-    }
+    are_hex_digits(word) && word.len() % 2 == 0
 }
 
 /// Adds the bytes that hexadecimal digits write.
@@ -99,13 +57,13 @@ pub fn push_digit_bytes(bytes: &mut Vec<u8>, digits: &[u8]) -> Result<(), NoMemo
 {
     let mut rest = digits;
     while let [high, low, others @ ..] = rest {
-        bytes.push(digit_of(*high) * 16 + digit_of(*low))?;
+        bytes.push(hex_digit(*high) * 16 + hex_digit(*low))?;
         rest = others;
     }
     Ok(())
 }
 
-/// The instruction word that a word of eight hexadecimal digits writes.
+/// The instruction word that a word of `INSTRUCTION_DIGITS` hexadecimal digits writes.
 pub fn instruction_in(word: &[u8]) -> Option<u32>
     ensures { option_map (to_le_bytes w32) result ≡ instruction_in word.now }
 {
@@ -116,7 +74,7 @@ pub fn instruction_in(word: &[u8]) -> Option<u32>
     Some(number as u32)
 }
 
-/// The bytes of a message: `-`, or an even number of hexadecimal digits, 8,192 at most.
+/// The bytes of a message: `-`, or an even number of hexadecimal digits, `DATA_DIGITS` at most.
 pub fn data_in(alloc: Global, word: &[u8]) -> Result<Option<Bytes>, NoMemory>
     ensures { IfOk result (λ found. found ≡ data_in word.now) }
 {

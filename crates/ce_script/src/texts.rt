@@ -1,9 +1,10 @@
 //! The texts of faults.
 ghost use Rattle.std.specs.Prelude.{◌≡◌, ◌++◌};
-ghost use Rattle.ce_script.specs.FaultTexts.{assembly_part, assembly_text, kind_part, kind_text};
+ghost use Rattle.ce_script.specs.FaultTexts.{assembly_part, kind_part, kind_text};
 
 use crate::script::ScriptKind;
 use rv_asm::AsmKind;
+use std::fmt;
 
 /// The text of a kind, in two pieces: the second is empty but for a fault that the assembler found.
 #[derive(Clone, Copy, Debug)]
@@ -23,25 +24,25 @@ impl ScriptKind {
         ensures whole { result.kind.now ++ result.assembly.now ≡ kind_text self.now }
     {
         let kind = match self {
-            ScriptKind::BadByte => "bad byte",
-            ScriptKind::UnknownWord => "unknown word",
+            ScriptKind::BadByte => AsmKind::BadByte.text(),
+            ScriptKind::UnknownWord => AsmKind::UnknownWord.text(),
             ScriptKind::WordCount => "wrong number of words",
             ScriptKind::NoMachine => "no machine line",
             ScriptKind::SecondMachine => "second machine line",
             ScriptKind::NoUser => "no user line",
-            ScriptKind::BadNumber => "bad number",
+            ScriptKind::BadNumber => AsmKind::BadNumber.text(),
             ScriptKind::BadName => "bad name",
             ScriptKind::BadHex => "bad hex",
-            ScriptKind::NameTaken => "name taken",
+            ScriptKind::NameTaken => AsmKind::NameTaken.text(),
             ScriptKind::TooMany => "too many",
             ScriptKind::UnknownImage => "unknown image",
             ScriptKind::NoEnd => "no end line",
             ScriptKind::BadImage => "bad image",
-            ScriptKind::Memory(_) => "no memory",
+            ScriptKind::Memory(cause) => cause.text(),
             ScriptKind::Assembly(kind) => {
                 return KindText {
                     kind: "assembly: ",
-                    assembly: assembly_text(kind),
+                    assembly: kind.text(),
                 };
             }
         };
@@ -49,22 +50,14 @@ impl ScriptKind {
     }
 }
 
-/// The text of what the assembler found.
-fn assembly_text(kind: &AsmKind) -> &'static str
-    ensures { result.now ≡ assembly_text kind.now }
-{
-    match kind {
-        AsmKind::BadByte => "bad byte",
-        AsmKind::NameTaken => "name taken",
-        AsmKind::UnknownWord => "unknown word",
-        AsmKind::Operands => "operands",
-        AsmKind::BadRegister => "bad register",
-        AsmKind::BadNumber => "bad number",
-        AsmKind::UnknownName => "unknown name",
-        AsmKind::Unaligned => "unaligned",
-        AsmKind::TooLarge => "too large",
-        AsmKind::TooFar => "too far",
-        AsmKind::Entry => "entry",
-        AsmKind::Memory(_) => "no memory",
+impl fmt::Display for ScriptKind {
+    ghost use Rattle.std.specs.Prelude.{Some};
+
+    ghost output = { λ kind. Some (kind_text kind) };
+
+    fn fmt<W: fmt::Write>(&self, f: &mut fmt::Formatter<W>) -> fmt::Result {
+        let text = self.text();
+        f.write_str(text.kind)?;
+        f.write_str(text.assembly)
     }
 }

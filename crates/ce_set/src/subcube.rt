@@ -1,6 +1,6 @@
 ghost use Rattle.std.specs.Prelude.{◌≡◌, ℕ, ◌+◌, ◌/◌, ◌%◌, ◌^◌, ◌<◌, ◌≤◌, ◌==◌, ◌&&◌, find, IsTrue};
 ghost use Rattle.ce_model.specs.Limits.{greatest_dim};
-ghost use Rattle.ce_model.specs.Subcubes.{node_of, is_inside, is_base, has_node, ones_of, first_free, all_nodes, subcube_at, with_mask};
+ghost use Rattle.ce_model.specs.Subcubes.{node_of, is_inside, is_base, has_node, ones_of, first_free, all_nodes, masked_subcube, with_mask};
 ghost use Rattle.ce_set.specs.Words.{has_bit};
 
 use crate::deposit;
@@ -71,7 +71,7 @@ fn bases_within(set: u64, mask: u32) -> u64
     requires { mask < 2 ^ greatest_dim }
     ensures { (n : ℕ) → has_bit result n
         ≡ (is_base mask n && all_nodes (has_bit set) (ones_of greatest_dim mask)
-        (subcube_at mask n)) }
+        (masked_subcube mask n)) }
 {
     let mut bases = set;
     for place in (0..GREATEST_DIMENSION).rev() {

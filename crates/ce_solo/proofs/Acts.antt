@@ -6,8 +6,8 @@ use Rattle.ce_model.specs.declared.topology.BlockId.{BlockId}
 use Rattle.ce_model.specs.declared.entry.Entry.{Entry}
 use Rattle.ce_model.specs.declared.entry.What.{What}
 use Rattle.ce_model.specs.Node.{Node}
-use Rattle.ce_model.specs.Trace.{NodeRecord, parcels_of, armed_by, dispatched_by}
-use Rattle.ce_model.specs.Cube.{Cube, CubeState, IsCube, stored_by}
+use Rattle.ce_model.specs.Trace.{NodeRecord, sent_parcels, allowed_dispatches_after, made_dispatches_after}
+use Rattle.ce_model.specs.Cube.{Cube, CubeState, IsCube, store_after}
 use Rattle.ce_model.specs.Sound.{IsSoundNode, IsSoundHost, IsRising, IsSound}
 use Rattle.ce_solo.proofs.Counting.{count, count-nil, sum_run, sum_run-zero}
 use Rattle.ce_solo.proofs.Items.{parcel_ids}
@@ -26,7 +26,7 @@ idle-goes cube sent' r kept kept' node come gone sound none keeps = record {
 
 -- how many parcels were sent, once an actor's entry is made
 abbrev pub sent_by : CubeState → ℕ → What → ℕ
-sent_by s actor what = s.standing.parcel_count + length (parcels_of actor what)
+sent_by s actor what = s.standing.parcel_count + length (sent_parcels actor what)
 
 -- what an entry of node r makes of its cube
 pub record IsNodeAct (cube : Cube) (s : CubeState) (r : ℕ) (what : What) (come gone : BlockId → ℕ → ℕ) : Type 0 where
@@ -35,12 +35,12 @@ pub record IsNodeAct (cube : Cube) (s : CubeState) (r : ℕ) (what : What) (come
       (s.node q) (s.node q) (λ id. come id q) (λ id. gone id q)
   pub own : IsNodeStep cube (sent_by s r what) r (s.standing.node_record r) (record_by true r (record { user = cube.user; actor = r; what = what }) (s.standing.node_record r))
       (s.node r) (node_by true cube s r (record { user = cube.user; actor = r; what = what })) (λ id. come id r) (λ id. gone id r)
-  pub host : IsSoundHost (sent_by s r what) (record_by false HOST (record { user = cube.user; actor = r; what = what }) (s.standing.node_record HOST)).waiting
+  pub host : IsSoundHost (sent_by s r what) (record_by false HOST (record { user = cube.user; actor = r; what = what }) (s.standing.node_record HOST)).waiting_items
   pub balance : (id : BlockId)
       → sum_run (come id) 0 (2 ^ cube.dim)
-      + count id (parcel_ids (record_by false HOST (record { user = cube.user; actor = r; what = what }) (s.standing.node_record HOST)).waiting)
-      ≡ sum_run (gone id) 0 (2 ^ cube.dim) + count id (parcel_ids (s.standing.node_record HOST).waiting)
-  pub dispatches : dispatched_by s.standing.dispatched what ≤ armed_by s.standing.armed what
+      + count id (parcel_ids (record_by false HOST (record { user = cube.user; actor = r; what = what }) (s.standing.node_record HOST)).waiting_items)
+      ≡ sum_run (gone id) 0 (2 ^ cube.dim) + count id (parcel_ids (s.standing.node_record HOST).waiting_items)
+  pub dispatches : made_dispatches_after s.standing.made_dispatches what ≤ allowed_dispatches_after s.standing.allowed_dispatches what
 
 pub node-acts : (cube : Cube) (s : CubeState) (r : ℕ) (what : What) (come gone : BlockId → ℕ → ℕ) → IsCube cube → r < 2 ^ cube.dim → IsSound cube s
     → IsNodeAct cube s r what come gone → IsSound cube (state_after cube s (record { user = cube.user; actor = r; what = what }))
@@ -56,12 +56,12 @@ node-acts cube s r what come gone of below sound acts =
             subst (λ b. IsNodeStep cube (sent_by s r what) q (s.standing.node_record q) (record_by b q entry (s.standing.node_record q)) (s.node q) (node_by b cube s q entry) (λ id. come id q) (λ id. gone id q)) (sym f)
             (acts.others q within (eqb-false r q f))
       ];
-      host = subst (λ b. IsSoundHost (sent_by s r what) (record_by b HOST entry (s.standing.node_record HOST)).waiting) (sym no_host) acts.host;
-      hoststore = subst (λ b. IsRising (if b then stored_by (s.standing.node_record HOST).waiting s.hoststore what else s.hoststore)) (sym no_host) sound.hoststore;
+      host = subst (λ b. IsSoundHost (sent_by s r what) (record_by b HOST entry (s.standing.node_record HOST)).waiting_items) (sym no_host) acts.host;
+      hoststore = subst (λ b. IsRising (if b then store_after (s.standing.node_record HOST).waiting_items s.hoststore what else s.hoststore)) (sym no_host) sound.hoststore;
       balance = subst (λ b. (id : BlockId)
-          → sum_run (come id) 0 (2 ^ cube.dim) + count id (parcel_ids (record_by b HOST entry (s.standing.node_record HOST)).waiting)
-          + count id (if b then stored_by (s.standing.node_record HOST).waiting s.hoststore what else s.hoststore)
-          ≡ sum_run (gone id) 0 (2 ^ cube.dim) + count id (parcel_ids (s.standing.node_record HOST).waiting) + count id s.hoststore) (sym no_host)
+          → sum_run (come id) 0 (2 ^ cube.dim) + count id (parcel_ids (record_by b HOST entry (s.standing.node_record HOST)).waiting_items)
+          + count id (if b then store_after (s.standing.node_record HOST).waiting_items s.hoststore what else s.hoststore)
+          ≡ sum_run (gone id) 0 (2 ^ cube.dim) + count id (parcel_ids (s.standing.node_record HOST).waiting_items) + count id s.hoststore) (sym no_host)
           (λ id. omega (arith, acts.balance id));
       dispatches = acts.dispatches;
     })
@@ -71,14 +71,14 @@ pub record IsHostAct (cube : Cube) (s : CubeState) (what : What) (come : BlockId
   pub nodes : (q : ℕ) → q < 2 ^ cube.dim
       → IsNodeStep cube (sent_by s HOST what) q (s.standing.node_record q) (record_by false q (record { user = cube.user; actor = HOST; what = what }) (s.standing.node_record q))
       (s.node q) (s.node q) (λ id. come id q) (λ id. 0)
-  pub host : IsSoundHost (sent_by s HOST what) (record_by true HOST (record { user = cube.user; actor = HOST; what = what }) (s.standing.node_record HOST)).waiting
-  pub store : IsRising (stored_by (s.standing.node_record HOST).waiting s.hoststore what)
+  pub host : IsSoundHost (sent_by s HOST what) (record_by true HOST (record { user = cube.user; actor = HOST; what = what }) (s.standing.node_record HOST)).waiting_items
+  pub store : IsRising (store_after (s.standing.node_record HOST).waiting_items s.hoststore what)
   pub balance : (id : BlockId)
       → sum_run (come id) 0 (2 ^ cube.dim)
-      + count id (parcel_ids (record_by true HOST (record { user = cube.user; actor = HOST; what = what }) (s.standing.node_record HOST)).waiting)
-      + count id (stored_by (s.standing.node_record HOST).waiting s.hoststore what)
-      ≡ count id (parcel_ids (s.standing.node_record HOST).waiting) + count id s.hoststore
-  pub dispatches : dispatched_by s.standing.dispatched what ≤ armed_by s.standing.armed what
+      + count id (parcel_ids (record_by true HOST (record { user = cube.user; actor = HOST; what = what }) (s.standing.node_record HOST)).waiting_items)
+      + count id (store_after (s.standing.node_record HOST).waiting_items s.hoststore what)
+      ≡ count id (parcel_ids (s.standing.node_record HOST).waiting_items) + count id s.hoststore
+  pub dispatches : made_dispatches_after s.standing.made_dispatches what ≤ allowed_dispatches_after s.standing.allowed_dispatches what
 
 pub host-acts : (cube : Cube) (s : CubeState) (what : What) (come : BlockId → ℕ → ℕ) → IsCube cube → IsSound cube s
     → IsHostAct cube s what come → IsSound cube (state_after cube s (record { user = cube.user; actor = HOST; what = what }))

@@ -10,9 +10,9 @@ use Rattle.ce_model.specs.declared.entry.What.{What}
 use Rattle.ce_model.specs.declared.entry.What.TheVariants.{HostTake, Take}
 use Rattle.ce_model.specs.declared.entry.TakeResult.{TakeResult}
 use Rattle.ce_model.specs.declared.entry.TakeResult.TheVariants.{Start, Mail, Kill, Poll, Idle, Spent}
-use Rattle.ce_model.specs.Parcels.{Parcel, Item, start, mail, kill, is_member, is_eligible, parcels_among, is_same_place, is_item}
+use Rattle.ce_model.specs.Parcels.{Parcel, Item, start, mail, kill, is_member, is_eligible, item_parcels, is_same_place, is_item}
 use Rattle.ce_model.specs.Cube.{parcel_numbered}
-use Rattle.ce_model.specs.Trace.{taken_in}
+use Rattle.ce_model.specs.Trace.{taken_result}
 use Rattle.ce_model.specs.Order.{is_between, bytes_between, number_handed, bytes_handed}
 use Rattle.ce_solo.proofs.Items.{among-append}
 
@@ -22,8 +22,8 @@ module _ (from to : Place) where
 
   pub between-append : (xs ys : List Item) → bytes_between from to (xs ++ ys) ≡ bytes_between from to xs ++ bytes_between from to ys
   between-append xs ys =
-      ap bytes_of (among-append xs ys) ∙ ap (map (λ parcel. parcel.block.bytes)) (filter-append (is_between from to) (parcels_among xs) (parcels_among ys))
-      ∙ map-append (λ (parcel : Parcel). parcel.block.bytes) (filter (is_between from to) (parcels_among xs)) (filter (is_between from to) (parcels_among ys))
+      ap bytes_of (among-append xs ys) ∙ ap (map (λ parcel. parcel.block.bytes)) (filter-append (is_between from to) (item_parcels xs) (item_parcels ys))
+      ∙ map-append (λ (parcel : Parcel). parcel.block.bytes) (filter (is_between from to) (item_parcels xs)) (filter (is_between from to) (item_parcels ys))
 
   -- an item in the midst
   pub between-out : (before : List Item) (item : Item) (behind : List Item)
@@ -110,14 +110,14 @@ module _ (from to : Place) where
   number-taken (Some n) e = absurd (cc)
 
   -- who takes nothing is handed nothing
-  pub number-none : (what : What) → taken_in what ≡ None → number_handed to.pid what ≡ None
+  pub number-none : (what : What) → taken_result what ≡ None → number_handed to.pid what ≡ None
   number-none (Take asking dead poller given) e = number-given asking dead poller given e
   number-none (HostTake number) e = number-taken number e
   number-none other e = refl
 
-  pub handed-none : (items : List Item) (entry : Entry) → (if entry.actor == to.node then taken_in entry.what else None) ≡ None → bytes_handed from to items entry ≡ []
+  pub handed-none : (items : List Item) (entry : Entry) → (if entry.actor == to.node then taken_result entry.what else None) ≡ None → bytes_handed from to items entry ≡ []
   handed-none items entry e =
       elim (cases_Bool (entry.actor == to.node)) [
-        | inl t ↦ handed-own items entry None t (number-none entry.what (sym (ap (λ b. if b then taken_in entry.what else None) t) ∙ e))
+        | inl t ↦ handed-own items entry None t (number-none entry.what (sym (ap (λ b. if b then taken_result entry.what else None) t) ∙ e))
         | inr f ↦ handed-other items entry f
       ]

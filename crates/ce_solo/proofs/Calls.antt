@@ -12,15 +12,15 @@ use Rattle.ce_model.specs.Limits.{greatest_targets, turn_calls}
 use Rattle.ce_model.specs.Blocks.{Block}
 use Rattle.ce_model.specs.Space.{block_named, places_at}
 use Rattle.ce_model.specs.Process.{Process, argument, call_number, is_stopped}
-use Rattle.ce_model.specs.Node.{Turn, Node, is_place, Call, sends, spawns, kills, notes}
-use Rattle.ce_model.specs.Kernel.{returns, says_call, stops, read_or_stop, waits, gives_up, with_store, is_target, place_named, sends_copies, xmsend_block, xmsend, xrecv, xrecvb, spawn, ckill, KernelCall, kernel_calls, kernel_call, counted_does, kernel_does, kernel}
+use Rattle.ce_model.specs.Node.{Turn, Node, is_place, Call, send_call, spawn_call, kill_call, note_call}
+use Rattle.ce_model.specs.Kernel.{return_outcome, leave_outcome, stop_outcome, read_outcome, wait_outcome, process_left_behind, with_store, is_target, place_named, copies_outcome, xmsend_block, xmsend, xrecv, xrecvb, spawn, ckill, KernelCall, kernel_calls, kernel_call, counted_outcome, call_outcome, kernel}
 use Rattle.ce_model.specs.Sound.{is_unborn, is_running, is_polling}
 use Rattle.ce_solo.proofs.Counting.{count, count-nil, count-cons, count-take-drop, rising-drop}
 use Rattle.ce_solo.proofs.Lists.{all-get}
 use Rattle.ce_solo.proofs.Instructions.{any_ok}
 use Rattle.ce_solo.proofs.Windows.{count-unmapped, named-of}
 use Rattle.ce_solo.proofs.Nodes.{polls, well-turn, polls-more, changed_to, change-became}
-use Rattle.ce_solo.proofs.Words.{IsInItsTurn, call_ids, IsCallOf, IsDone, in_turn-windows, born_before, going_before, polls_before, returns-done, leaves-done, stops-done, reading-done, gives_up-windows, frees-done, xmalloc-done, xfree-done, xlength-done, xsend-done}
+use Rattle.ce_solo.proofs.Words.{IsInItsTurn, call_ids, IsCallOf, IsDone, in_turn-windows, born_before, going_before, polls_before, returns-done, leaves-done, stops-done, reading-done, process_without-windows, frees-done, xmalloc-done, xfree-done, xlength-done, xsend-done}
 
 -- ---- several places
 
@@ -38,31 +38,31 @@ zip-firsts test (x ∷ xs) (id ∷ ids) all =
     let parts = and_parts (test x) (list_all test xs) all in (parts.0, zip-firsts test xs ids parts.1)
 
 module _ (node : Node) (turn : Turn) (p : Process) (c : IsInItsTurn node turn p) where
-  sends_copies-done : (found : ℕ × Block) → slice_get p.space.windows found.0 ≡ Some (Some found.1) → (places : List Place)
-      → IsDone node (sends_copies node turn p found places)
-  sends_copies-done found at [] = frees-done node turn p c found at
-  sends_copies-done found at (to ∷ others) =
+  copies_outcome-done : (found : ℕ × Block) → slice_get p.space.windows found.0 ≡ Some (Some found.1) → (places : List Place)
+      → IsDone node (copies_outcome node turn p found places)
+  copies_outcome-done found at [] = frees-done node turn p c found at
+  copies_outcome-done found at (to ∷ others) =
       let ids = found.1.id ∷ take (length others) node.store in
-      let call = sends turn.pid (zip (to ∷ others) ids) found.1.bytes in
-      cond_both (not (list_all (is_target node) (to ∷ others))) (returns node turn p 1) _ (IsDone node) (λ t. returns-done node turn p c 1)
-      (λ all. cond_both (nat_lt (length node.store) (length others)) (returns node turn p 2)
-      (says_call (with_store (drop (length others) node.store) node) turn (gives_up found.0 p) call) (IsDone node)
+      let call = send_call turn.pid (zip (to ∷ others) ids) found.1.bytes in
+      cond_both (not (list_all (is_target node) (to ∷ others))) (return_outcome node turn p 1) _ (IsDone node) (λ t. returns-done node turn p c 1)
+      (λ all. cond_both (nat_lt (length node.store) (length others)) (return_outcome node turn p 2)
+      (leave_outcome (with_store (drop (length others) node.store) node) turn (process_left_behind found.0 p) call) (IsDone node)
       (λ t. returns-done node turn p c 2)
       (λ enough.
       let long : length others ≡ length (take (length others) node.store) = omega (arith, length-take (length others) node.store, ltb-false _ _ enough) in
       let same : map (λ (pair : Place × BlockId). pair.1) (zip (to ∷ others) ids) ≡ ids = zip-seconds (to ∷ others) ids (ap suc long) in
-      leaves-done node turn p c (gives_up found.0 p) (drop (length others) node.store) call refl c.registers (gives_up-windows node turn p c found.0)
+      leaves-done node turn p c (process_left_behind found.0 p) (drop (length others) node.store) call refl c.registers (process_without-windows node turn p c found.0)
       (rising-drop (length others) node.store c.well.store)
       (λ id. omega (arith, count-unmapped id p.space.windows found.0 found.1 at, ap (count id) same, count-cons id found.1.id (take (length others) node.store), count-take-drop id (length others) node.store))
       (zip-firsts (is_target node) (to ∷ others) ids (not-false _ all))))
 
   xmsend_block-done : (found : ℕ × Block) → slice_get p.space.windows found.0 ≡ Some (Some found.1) → IsDone node (xmsend_block node turn p found)
   xmsend_block-done found at =
-      cond_both (nat_lt greatest_targets (argument p 1)) (returns node turn p 3)
-      (read_or_stop node turn p (places_at p.space (argument p 2) (argument p 1)) (sends_copies node turn p found)) (IsDone node)
+      cond_both (nat_lt greatest_targets (argument p 1)) (return_outcome node turn p 3)
+      (read_outcome node turn p (places_at p.space (argument p 2) (argument p 1)) (copies_outcome node turn p found)) (IsDone node)
       (λ t. returns-done node turn p c 3)
-      (λ f. reading-done node turn p c (places_at p.space (argument p 2) (argument p 1)) (λ x. Unit {0}) (sends_copies node turn p found)
-      (any_ok (places_at p.space (argument p 2) (argument p 1))) (λ places u. sends_copies-done found at places))
+      (λ f. reading-done node turn p c (places_at p.space (argument p 2) (argument p 1)) (λ x. Unit {0}) (copies_outcome node turn p found)
+      (any_ok (places_at p.space (argument p 2) (argument p 1))) (λ places u. copies_outcome-done found at places))
 
   xmsend-done : IsDone node (xmsend node turn p)
   xmsend-done = reading-done node turn p c (block_named p.space (argument p 0)) _ (xmsend_block node turn p) (named-of p.space (argument p 0)) xmsend_block-done
@@ -70,8 +70,8 @@ module _ (node : Node) (turn : Turn) (p : Process) (c : IsInItsTurn node turn p)
   -- ---- calls that wait
 
   waits-done : (status : Status) (polling : List ℕ) → is_unborn status ≡ false → is_running status ≡ false → is_stopped status ≡ false
-      → polls turn.pid polling ≡ (if is_polling status then 1 else 0) → ((q : ℕ) → (q ≡ turn.pid → ⊥) → polls q polling ≡ polls q node.polling)
-      → IsDone node (waits node turn p status polling)
+      → polls turn.pid polling ≡ (if is_polling status then 1 else 0) → ((q : ℕ) → (q ≡ turn.pid → ⊥) → polls q polling ≡ polls q node.polling_ids)
+      → IsDone node (wait_outcome node turn p status polling)
   waits-done status polling born rests going poll others = record {
     became = change-became (Some turn) None None node turn.pid (record p { status = status }) node.store polling [] []
         (record {
@@ -97,38 +97,38 @@ module _ (node : Node) (turn : Turn) (p : Process) (c : IsInItsTurn node turn p)
 
   xrecv-done : IsDone node (xrecv node turn p)
   xrecv-done =
-      waits-done Polling (node.polling ++ turn.pid ∷ []) refl refl refl
-      (omega (arith, polls-more turn.pid turn.pid node.polling, polls_before node turn p c, ap {B = ℕ} (λ b. if b then 1 else 0) (eq-eqb turn.pid turn.pid refl)))
-      (λ q differ. omega (arith, polls-more turn.pid q node.polling, ap {B = ℕ} (λ b. if b then 1 else 0) (ne_eqb turn.pid q (λ e. differ (sym e)))))
+      waits-done Polling (node.polling_ids ++ turn.pid ∷ []) refl refl refl
+      (omega (arith, polls-more turn.pid turn.pid node.polling_ids, polls_before node turn p c, ap {B = ℕ} (λ b. if b then 1 else 0) (eq-eqb turn.pid turn.pid refl)))
+      (λ q differ. omega (arith, polls-more turn.pid q node.polling_ids, ap {B = ℕ} (λ b. if b then 1 else 0) (ne_eqb turn.pid q (λ e. differ (sym e)))))
 
   xrecvb-done : IsDone node (xrecvb node turn p)
-  xrecvb-done = waits-done Asking node.polling refl refl refl (polls_before node turn p c) (λ q differ. refl)
+  xrecvb-done = waits-done Asking node.polling_ids refl refl refl (polls_before node turn p c) (λ q differ. refl)
 
   -- ---- processes
 
-  says-done : (call : Call) → call_ids call ≡ [] → IsCallOf (changed_to node turn.pid p node.store node.polling (Some turn)) call
-      → IsDone node (says_call node turn p call)
+  says-done : (call : Call) → call_ids call ≡ [] → IsCallOf (changed_to node turn.pid p node.store node.polling_ids (Some turn)) call
+      → IsDone node (leave_outcome node turn p call)
   says-done call none of_node =
       leaves-done node turn p c p node.store call refl c.registers (in_turn-windows node turn p c) c.well.store
       (λ id. omega (arith, ap (count id) none, count-nil id)) of_node
 
   spawn-done : IsDone node (spawn node turn p)
   spawn-done =
-      cond_both (not (is_place node.dim (place_named p 1))) (returns node turn p 1) _ (IsDone node) (λ t. returns-done node turn p c 1)
-      (λ at. cond_both (nat_lt (argument p 0) node.images) (says_call node turn p (spawns turn.pid (argument p 0) (place_named p 1))) (returns node turn p 3)
-      (IsDone node) (λ t. says-done (spawns turn.pid (argument p 0) (place_named p 1)) refl (ltb-true _ _ t, not-false _ at))
+      cond_both (not (is_place node.dim (place_named p 1))) (return_outcome node turn p 1) _ (IsDone node) (λ t. returns-done node turn p c 1)
+      (λ at. cond_both (nat_lt (argument p 0) node.images) (leave_outcome node turn p (spawn_call turn.pid (argument p 0) (place_named p 1))) (return_outcome node turn p 3)
+      (IsDone node) (λ t. says-done (spawn_call turn.pid (argument p 0) (place_named p 1)) refl (ltb-true _ _ t, not-false _ at))
       (λ f. returns-done node turn p c 3))
 
   ckill-done : IsDone node (ckill node turn p)
   ckill-done =
-      cond_both (is_place node.dim (place_named p 0)) (says_call node turn p (kills turn.pid (place_named p 0))) (returns node turn p 1)
-      (IsDone node) (λ t. says-done (kills turn.pid (place_named p 0)) refl t) (λ f. returns-done node turn p c 1)
+      cond_both (is_place node.dim (place_named p 0)) (leave_outcome node turn p (kill_call turn.pid (place_named p 0))) (return_outcome node turn p 1)
+      (IsDone node) (λ t. says-done (kill_call turn.pid (place_named p 0)) refl t) (λ f. returns-done node turn p c 1)
 
 -- ---- all calls
 
 -- a call does what is said here of its node
 abbrev pub IsGood : KernelCall → Type 0
-IsGood call = (node : Node) (turn : Turn) (p : Process) → IsInItsTurn node turn p → IsDone node (call.does node turn p)
+IsGood call = (node : Node) (turn : Turn) (p : Process) → IsInItsTurn node turn p → IsDone node (call.outcome node turn p)
 
 all_good : AllByRecursion IsGood kernel_calls
 unfolding kernel_calls
@@ -159,7 +159,7 @@ all_good = (
                         (
                           (λ node turn p c. stops-done node turn p c (Exited (argument p 0))),
                           (
-                            (λ node turn p c. says-done node turn p c (notes turn.pid (argument p 0)) refl tt),
+                            (λ node turn p c. says-done node turn p c (note_call turn.pid (argument p 0)) refl tt),
                             tt,
                           ),
                         ),
@@ -187,19 +187,19 @@ one_call_more turn = record turn { calls = turn.calls + 1 }
 
 in_turn-more : (node : Node) (turn : Turn) (p : Process) → IsInItsTurn node turn p → turn.calls < turn_calls → IsInItsTurn node (one_call_more turn) p
 in_turn-more node turn p c room = record {
-  well = well-turn node turn turn.left (turn.calls + 1) c.well;
-  sound = record { pid = c.sound.pid; left = c.sound.left; calls = omega (arith, room) };
+  well = well-turn node turn turn.instructions_left (turn.calls + 1) c.well;
+  sound = record { pid = c.sound.pid; instructions_left = c.sound.instructions_left; calls = omega (arith, room) };
   registers = c.registers;
   held = c.held;
   status = c.status;
 }
 
 done-by : (node : Node) (turn : Turn) (p : Process) → IsInItsTurn node turn p → (found : Option KernelCall) → IfSome found IsGood
-    → IsDone node (kernel_does found node turn p)
+    → IsDone node (call_outcome found node turn p)
 done-by node turn p c None good = stops-done node turn p c (NoCall (call_number p))
 done-by node turn p c (Some call) good =
-    cond_both call.is_counted (counted_does call node turn p) (call.does node turn p) (IsDone node)
-    (λ t. cond_both (nat_lt turn.calls turn_calls) (call.does node (one_call_more turn) p) (stops node turn p TurnSpent) (IsDone node)
+    cond_both call.is_counted (counted_outcome call node turn p) (call.outcome node turn p) (IsDone node)
+    (λ t. cond_both (nat_lt turn.calls turn_calls) (call.outcome node (one_call_more turn) p) (stop_outcome node turn p TurnSpent) (IsDone node)
     (λ room. good node (one_call_more turn) p (in_turn-more node turn p c (ltb-true _ _ room)))
     (λ spent. stops-done node turn p c TurnSpent))
     (λ f. good node turn p c)

@@ -4,7 +4,7 @@ use Rattle.std.specs.List.{AllByRecursion, range_with_len}
 use Rattle.std.proofs.lemmas.Bool.{cases_lt, cases_order, eq-eqb, eqb-true, ltb-true, lt-ltb, and_parts, and_from, or_cases, or_left, or_right, cases_Bool, both_ways, cond_both}
 use Rattle.std.proofs.lemmas.List.Sums.{sum_by-cons}
 use Rattle.ce_model.specs.declared.topology.BlockId.{BlockId}
-use Rattle.ce_model.specs.Blocks.{precedes, put, put_all, is_same_id}
+use Rattle.ce_model.specs.Blocks.{is_lower, put, put_all, is_same_id}
 use Rattle.ce_model.specs.Sound.{IsRising}
 
 -- ---- names
@@ -74,7 +74,7 @@ pub count-put : (id x : BlockId) (xs : List BlockId) → count id (put x xs) ≡
 unfolding count
 count-put id x [] = refl
 count-put id x (y ∷ ys) =
-    cond_both (precedes x y) (x ∷ y ∷ ys) (y ∷ put x ys) (λ zs. count id zs ≡ hit id x + (hit id y + count id ys))
+    cond_both (is_lower x y) (x ∷ y ∷ ys) (y ∷ put x ys) (λ zs. count id zs ≡ hit id x + (hit id y + count id ys))
     (λ t. refl) (λ f. omega (arith, count-put id x ys))
 
 pub count-put_all : (id : BlockId) (ids store : List BlockId) → count id (put_all ids store) ≡ count id ids + count id store
@@ -120,7 +120,7 @@ all-from_names P (x ∷ xs) each = (each x (omega (arith, hit-self x)), all-from
 
 -- ---- stores that rise
 
-precedes-parts : (a b : BlockId) (P : Type 0) → precedes a b ≡ true → (a.home < b.home → P) → (a.home ≡ b.home → a.index < b.index → P) → P
+precedes-parts : (a b : BlockId) (P : Type 0) → is_lower a b ≡ true → (a.home < b.home → P) → (a.home ≡ b.home → a.index < b.index → P) → P
 precedes-parts a b P h by_home by_index =
     elim (or_cases (nat_lt a.home b.home) (a.home == b.home && nat_lt a.index b.index) h) [
       | inl l ↦ by_home (ltb-true a.home b.home l)
@@ -129,20 +129,20 @@ precedes-parts a b P h by_home by_index =
           by_index (eqb-true a.home b.home parts.0) (ltb-true a.index b.index parts.1)
     ]
 
-precedes-home : (a b : BlockId) → a.home < b.home → precedes a b ≡ true
+precedes-home : (a b : BlockId) → a.home < b.home → is_lower a b ≡ true
 precedes-home a b h = or_left _ _ (lt-ltb a.home b.home h)
 
-precedes-index : (a b : BlockId) → a.home ≡ b.home → a.index < b.index → precedes a b ≡ true
+precedes-index : (a b : BlockId) → a.home ≡ b.home → a.index < b.index → is_lower a b ≡ true
 precedes-index a b h i = or_right _ _ (and_from _ _ (eq-eqb a.home b.home h) (lt-ltb a.index b.index i))
 
-pub precedes-trans : (a b c : BlockId) → precedes a b ≡ true → precedes b c ≡ true → precedes a c ≡ true
+pub precedes-trans : (a b c : BlockId) → is_lower a b ≡ true → is_lower b c ≡ true → is_lower a c ≡ true
 precedes-trans a b c ab bc =
-    precedes-parts a b (precedes a c ≡ true) ab
-    (λ h. precedes-parts b c (precedes a c ≡ true) bc (λ k. precedes-home a c (omega arith)) (λ k i. precedes-home a c (omega arith)))
-    (λ h i. precedes-parts b c (precedes a c ≡ true) bc (λ k. precedes-home a c (omega arith)) (λ k j. precedes-index a c (omega arith) (omega arith)))
+    precedes-parts a b (is_lower a c ≡ true) ab
+    (λ h. precedes-parts b c (is_lower a c ≡ true) bc (λ k. precedes-home a c (omega arith)) (λ k i. precedes-home a c (omega arith)))
+    (λ h i. precedes-parts b c (is_lower a c ≡ true) bc (λ k. precedes-home a c (omega arith)) (λ k j. precedes-index a c (omega arith) (omega arith)))
 
 -- of two names that differ one precedes the other
-pub precedes-other : (a b : BlockId) → precedes a b ≡ false → hit a b ≡ 0 → precedes b a ≡ true
+pub precedes-other : (a b : BlockId) → is_lower a b ≡ false → hit a b ≡ 0 → is_lower b a ≡ true
 unfolding hit
 precedes-other a b not_before differ =
     elim (cases_order a.home b.home) [
@@ -164,9 +164,9 @@ precedes-other a b not_before differ =
 all-put : (P : BlockId → Type 0) (x : BlockId) (xs : List BlockId) → P x → AllByRecursion P xs → AllByRecursion P (put x xs)
 all-put P x [] p all = (p, tt)
 all-put P x (y ∷ ys) p all =
-    cond_both (precedes x y) (x ∷ y ∷ ys) (y ∷ put x ys) (AllByRecursion P) (λ t. (p, all)) (λ f. (all.0, all-put P x ys p all.1))
+    cond_both (is_lower x y) (x ∷ y ∷ ys) (y ∷ put x ys) (AllByRecursion P) (λ t. (p, all)) (λ f. (all.0, all-put P x ys p all.1))
 
-all_behind : (x y : BlockId) (ys : List BlockId) → precedes x y ≡ true → AllByRecursion (λ z. precedes y z ≡ true) ys → AllByRecursion (λ z. precedes x z ≡ true) ys
+all_behind : (x y : BlockId) (ys : List BlockId) → is_lower x y ≡ true → AllByRecursion (λ z. is_lower y z ≡ true) ys → AllByRecursion (λ z. is_lower x z ≡ true) ys
 all_behind x y [] h all = tt
 all_behind x y (z ∷ zs) h all = (precedes-trans x y z h all.0, all_behind x y zs h all.1)
 
@@ -175,9 +175,9 @@ pub rising-put : (x : BlockId) (xs : List BlockId) → IsRising xs → count x x
 unfolding count
 rising-put x [] rising new = (tt, tt)
 rising-put x (y ∷ ys) rising new =
-    cond_both (precedes x y) (x ∷ y ∷ ys) (y ∷ put x ys) IsRising
+    cond_both (is_lower x y) (x ∷ y ∷ ys) (y ∷ put x ys) IsRising
     (λ h. ((h, all_behind x y ys h rising.0), rising))
-    (λ h. (all-put (λ z. precedes y z ≡ true) x ys (precedes-other x y h (omega arith)) rising.0, rising-put x ys rising.1 (omega arith)))
+    (λ h. (all-put (λ z. is_lower y z ≡ true) x ys (precedes-other x y h (omega arith)) rising.0, rising-put x ys rising.1 (omega arith)))
 
 pub rising-put_all : (ids store : List BlockId) → IsRising store → ((id : BlockId) → count id ids + count id store ≤ 1) → IsRising (put_all ids store)
 unfolding count

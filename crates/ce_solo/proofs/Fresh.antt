@@ -5,10 +5,10 @@ use Rattle.std.proofs.lemmas.Bool.{cases_lt, cases_eq, both_ways, eq-eqb, ne_eqb
 use Rattle.std.proofs.lemmas.List.{length-replicate, get_or-replicate, get_or_past}
 use Rattle.ce_model.specs.declared.topology.BlockId.{BlockId}
 use Rattle.ce_model.specs.Limits.{process_count, home_blocks, host_home, host_home_lem, greatest_dim_lem}
-use Rattle.ce_model.specs.Blocks.{precedes, is_same_id, blocks_of_home}
+use Rattle.ce_model.specs.Blocks.{is_lower, is_same_id, blocks_of_home}
 use Rattle.ce_model.specs.Space.{mapped_ids}
 use Rattle.ce_model.specs.Process.{Process, unborn_process, register_count}
-use Rattle.ce_model.specs.Node.{fresh, process_at, blocks_of}
+use Rattle.ce_model.specs.Node.{opening_node, process_at, blocks_of}
 use Rattle.ce_model.specs.Trace.{blank_record}
 use Rattle.ce_model.specs.Cube.{Cube, IsCube, opening}
 use Rattle.ce_model.specs.Owners.{IsBlockOf, holdings}
@@ -25,10 +25,10 @@ block_of home index = record { home = home; index = index }
 abbrev blocks_from : ℕ → ℕ → ℕ → List BlockId
 blocks_from home from n = map (block_of home) (range_with_len from n)
 
-precedes-next : (home i j : ℕ) → i < j → precedes (block_of home i) (block_of home j) ≡ true
+precedes-next : (home i j : ℕ) → i < j → is_lower (block_of home i) (block_of home j) ≡ true
 precedes-next home i j h = or_right _ _ (and_from _ _ (eq-eqb home home refl) (lt-ltb i j h))
 
-all_later : (home i from n : ℕ) → i < from → AllByRecursion (λ other. precedes (block_of home i) other ≡ true) (blocks_from home from n)
+all_later : (home i from n : ℕ) → i < from → AllByRecursion (λ other. is_lower (block_of home i) other ≡ true) (blocks_from home from n)
 all_later home i from zero h = tt
 all_later home i from (suc n) h = (precedes-next home i from h, all_later home i (from + 1) n (omega arith))
 
@@ -75,14 +75,14 @@ count-inside id home from (suc n) same low high =
 
 -- ---- a fresh node
 
-fresh_process : (r dim images pid : ℕ) → process_at (fresh r dim images) pid ≡ unborn_process
+fresh_process : (r dim images pid : ℕ) → process_at (opening_node r dim images) pid ≡ unborn_process
 fresh_process r dim images pid =
     elim (cases_lt pid process_count) [
       | inl within ↦ get_or-replicate process_count pid unborn_process unborn_process within
       | inr past ↦ get_or_past (replicate process_count unborn_process) pid unborn_process (omega (arith, past, length-replicate process_count unborn_process))
     ]
 
-sound_unborn : (pid : ℕ) → IsSoundProcess blank_record (fresh 0 0 0).turn pid unborn_process
+sound_unborn : (pid : ℕ) → IsSoundProcess blank_record (opening_node 0 0 0).turn pid unborn_process
 sound_unborn pid = record {
   registers = length-replicate {A = ℕ} register_count 0;
   windows = omega arith;
@@ -92,15 +92,15 @@ sound_unborn pid = record {
   running = refl;
 }
 
-fresh_node : (cube : Cube) (r : ℕ) → IsSoundNode cube blank_record r (fresh r cube.dim (length cube.images))
+fresh_node : (cube : Cube) (r : ℕ) → IsSoundNode cube blank_record r (opening_node r cube.dim (length cube.images))
 fresh_node cube r = record {
   number = refl;
   dim = refl;
   home = refl;
   images = refl;
   process_ids = length-replicate process_count unborn_process;
-  processes = λ pid within. subst (IsSoundProcess blank_record (fresh 0 0 0).turn pid) (sym (fresh_process r cube.dim (length cube.images) pid)) (sound_unborn pid);
-  polling = λ pid. sym (ap {B = ℕ} (λ (p : Process). if is_polling p.status then 1 else 0) (fresh_process r cube.dim (length cube.images) pid));
+  processes = λ pid within. subst (IsSoundProcess blank_record (opening_node 0 0 0).turn pid) (sym (fresh_process r cube.dim (length cube.images) pid)) (sound_unborn pid);
+  polling_ids = λ pid. sym (ap {B = ℕ} (λ (p : Process). if is_polling p.status then 1 else 0) (fresh_process r cube.dim (length cube.images) pid));
   turn = tt;
   store = rising-home r;
 }
@@ -109,7 +109,7 @@ no_windows : (n : ℕ) → flat_map (λ (p : Process). mapped_ids p.space) (repl
 no_windows zero = refl
 no_windows (suc n) = no_windows n
 
-fresh_blocks : (r dim images : ℕ) → blocks_of (fresh r dim images) ≡ blocks_of_home r
+fresh_blocks : (r dim images : ℕ) → blocks_of (opening_node r dim images) ≡ blocks_of_home r
 fresh_blocks r dim images = ap (λ ids. blocks_of_home r ++ ids) (no_windows process_count) ∙ append-nil (blocks_of_home r)
 
 -- ---- owners

@@ -8,7 +8,7 @@ use Rattle.ce_model.specs.declared.entry.What.TheVariants.{Take}
 use Rattle.ce_model.specs.declared.entry.TakeResult.TheVariants.{Mail}
 use Rattle.ce_model.specs.Parcels.{Parcel, Item, start, mail, kill, is_member, is_eligible}
 use Rattle.ce_model.specs.Process.{Process, unborn_process, is_stopped}
-use Rattle.ce_model.specs.Node.{Node, process_at, Call, takes, sends, spawns, kills, notes, arms, looks, takes_mail, ids_of, take_of}
+use Rattle.ce_model.specs.Node.{Node, process_at, Call, take_call, send_call, spawn_call, kill_call, note_call, arm_call, look_call, mail_call, ids_of, take_of}
 use Rattle.ce_model.specs.Answers.{offer_of, is_used_up, answer}
 use Rattle.ce_model.specs.Saying.{says}
 use Rattle.ce_model.specs.Cube.{Cube, CubeState, IsCube, node_numbers, HostCall}
@@ -68,31 +68,31 @@ mail_found asking dead items pid number None None used f e = absurd (cc)
 -- a node's entry that is a Take answered with a parcel
 pub record IsMailTaken (cube : Cube) (s : CubeState) (r asking dead pid number : ℕ) : Type 0 where
   pub poller : Option ℕ
-  pub said : HasMadeCall (s.node r) (says (s.node r)).node (takes asking dead poller)
-  pub mail_is : IsMailFound asking dead (s.standing.node_record r).waiting pid number
+  pub said : HasMadeCall (s.node r) (says (s.node r)).node (take_call asking dead poller)
+  pub mail_is : IsMailFound asking dead (s.standing.node_record r).waiting_items pid number
 
 module _ (cube : Cube) (s : CubeState) (of : IsCube cube) (sound : IsSound cube s) (r asking dead pid number : ℕ) (poller : Option ℕ) (below : r < 2 ^ cube.dim) where
   taken-by : (call : Call) → (says (s.node r)).call ≡ call → answer (node_numbers cube.dim) s.standing r call ≡ Take asking dead poller (Mail pid number)
       → IsMailTaken cube s r asking dead pid number
   unfolding answer
-  taken-by (takes a d p) says e =
+  taken-by (take_call a d p) says e =
       let same_asking : a ≡ asking = cc in
       let same_dead : d ≡ dead = cc in
-      let given : offer_of (find (is_eligible a d) (s.standing.node_record r).waiting) p (is_used_up s.standing) ≡ Mail pid number = cc in
+      let given : offer_of (find (is_eligible a d) (s.standing.node_record r).waiting_items) p (is_used_up s.standing) ≡ Mail pid number = cc in
       subst (λ a. IsMailTaken cube s r a dead pid number) same_asking
       (subst (λ d. IsMailTaken cube s r a d pid number) same_dead
       (record {
         poller = p;
-        said = made-leaves cube s r (takes a d p) of below sound says;
-        mail_is = mail_found a d (s.standing.node_record r).waiting pid number (find (is_eligible a d) (s.standing.node_record r).waiting) p (is_used_up s.standing) refl given;
+        said = made-leaves cube s r (take_call a d p) of below sound says;
+        mail_is = mail_found a d (s.standing.node_record r).waiting_items pid number (find (is_eligible a d) (s.standing.node_record r).waiting_items) p (is_used_up s.standing) refl given;
       }))
-  taken-by (sends p to bytes) says e = absurd (cc)
-  taken-by (spawns p image to) says e = absurd (cc)
-  taken-by (kills p to) says e = absurd (cc)
-  taken-by (notes p word) says e = absurd (cc)
-  taken-by (arms count) says e = absurd (cc)
-  taken-by looks says e = absurd (cc)
-  taken-by takes_mail says e = absurd (cc)
+  taken-by (send_call p to bytes) says e = absurd (cc)
+  taken-by (spawn_call p image to) says e = absurd (cc)
+  taken-by (kill_call p to) says e = absurd (cc)
+  taken-by (note_call p word) says e = absurd (cc)
+  taken-by (arm_call count) says e = absurd (cc)
+  taken-by look_call says e = absurd (cc)
+  taken-by mail_call says e = absurd (cc)
 
   made-taken : (actor : ℕ) (asked : Option HostCall) (call : Call) → actor ≡ r → IsMadeCall cube s actor asked call
       → answer (node_numbers cube.dim) s.standing r call ≡ Take asking dead poller (Mail pid number) → IsMailTaken cube s r asking dead pid number
@@ -106,7 +106,7 @@ module _ (cube : Cube) (s : CubeState) (of : IsCube cube) (sound : IsSound cube 
       (ap (λ q. answer (node_numbers cube.dim) s.standing q e.call) (sym actor) ∙ ap (λ (entry : Entry). entry.what) (sym e.is))
 
 -- the masks of a Take are of its node
-pub dead-of : (node : Node) (asking dead pid : ℕ) (poller : Option ℕ) → takes asking dead poller ≡ take_of node → is_member pid dead ≡ true → is_stopped (process_at node pid).status ≡ true
+pub dead-of : (node : Node) (asking dead pid : ℕ) (poller : Option ℕ) → take_call asking dead poller ≡ take_of node → is_member pid dead ≡ true → is_stopped (process_at node pid).status ≡ true
 dead-of node asking dead pid poller same h =
     let is : dead ≡ ids_of is_stopped node.processes = cc in
     member-of is_stopped node.processes pid (ap (is_member pid) (sym is) ∙ h)
@@ -115,7 +115,7 @@ dead-of node asking dead pid poller same h =
 pub taken-for : (cube : Cube) (s : CubeState) (r asking dead pid number : ℕ) → IsMailTaken cube s r asking dead pid number
     → (is_member pid asking ≡ true) ⊎ (is_stopped (process_at (says (s.node r)).node pid).status ≡ true)
 taken-for cube s r asking dead pid number taken =
-    let passes = find-passes (is_eligible asking dead) (s.standing.node_record r).waiting (mail taken.mail_is.parcel) taken.mail_is.found in
+    let passes = find-passes (is_eligible asking dead) (s.standing.node_record r).waiting_items (mail taken.mail_is.parcel) taken.mail_is.found in
     let can : (is_member pid asking || is_member pid dead) ≡ true = subst (λ p. (is_member p asking || is_member p dead) ≡ true) taken.mail_is.receiver passes in
     elim (or_cases (is_member pid asking) (is_member pid dead) can) [
       | inl t ↦ inl t

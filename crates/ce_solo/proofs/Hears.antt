@@ -12,9 +12,9 @@ use Rattle.ce_model.specs.Limits.{process_count, window_count, turn_instructions
 use Rattle.ce_model.specs.Blocks.{put}
 use Rattle.ce_model.specs.Parcels.{Parcel}
 use Rattle.ce_model.specs.Space.{window_start, has_unused_window, mapped_space, mapped_ids}
-use Rattle.ce_model.specs.Process.{Process, started_process, with_answer, register_count, unborn_process as unborn_process, is_receiving, is_stopped}
+use Rattle.ce_model.specs.Process.{Process, started_process, with_answer, register_count, unborn_process, is_receiving, is_stopped}
 use Rattle.ce_model.specs.Node.{Turn, Node, process_at, with_process, without_poller, with_stopped, blocks_of}
-use Rattle.ce_model.specs.Hearing.{start_of, mail_of, kill_of, poll_of, told, nothing, image_at, begins, begins_with, with_stored, gets, tells, hears}
+use Rattle.ce_model.specs.Hearing.{start_of, mail_of, kill_of, poll_of, answer_of, nothing, image_at, with_turn, with_answered_turn, with_stored, with_received, with_answered_call, node_after_hearing}
 use Rattle.ce_model.specs.Sound.{is_unborn, IsSoundTurn}
 use Rattle.ce_solo.proofs.Counting.{hit-self, count, count-nil, count-one, count-append, count-put, rising-put}
 use Rattle.ce_solo.proofs.Windows.{same_held, ids-mapped}
@@ -41,17 +41,17 @@ pub record HasStarted (node node' : Node) (pid : ℕ) : Type 0 where
 
 -- the turn that begins
 abbrev pub new_turn : ℕ → Turn
-new_turn pid = record { pid = pid; left = turn_instructions; calls = 0 }
+new_turn pid = record { pid = pid; instructions_left = turn_instructions; calls = 0 }
 
 pub new_turn-sound : (pid : ℕ) → pid < process_count → IsSoundTurn (new_turn pid)
-new_turn-sound pid within = record { pid = within; left = omega arith; calls = omega arith }
+new_turn-sound pid within = record { pid = within; instructions_left = omega arith; calls = omega arith }
 
 -- a turn begins in a node without one
 begins-change : (node : Node) (pid : ℕ) (p : Process) (come : List BlockId) → IsWell None node → pid < process_count → length p.regs ≡ register_count
     → length p.space.windows ≤ window_count
     → ((id : BlockId) → count id (mapped_ids p.space) ≡ count id (mapped_ids (process_at node pid).space) + count id come)
     → ((id : BlockId) → count id (blocks_of node) + count id come ≤ 1)
-    → IsChange None (Some (new_turn pid)) node pid (record p { status = Running }) node.store (without_poller pid node.polling) come []
+    → IsChange None (Some (new_turn pid)) node pid (record p { status = Running }) node.store (without_poller pid node.polling_ids) come []
 begins-change node pid p come well within registers windows blocks once = record {
   well = well;
   within = within;
@@ -64,8 +64,8 @@ begins-change node pid p come well within registers windows blocks once = record
   };
   turns = λ q differ. ne_eqb pid q (λ e. differ (sym e));
   rising = well.store;
-  poll = polls-without pid node.polling (polls-once None node pid well within);
-  others_poll = λ q differ. polls-other pid q node.polling differ;
+  poll = polls-without pid node.polling_ids (polls-once None node pid well within);
+  others_poll = λ q differ. polls-other pid q node.polling_ids differ;
   blocks = λ id. omega (arith, blocks id, count-nil id);
   once = once;
 }
@@ -74,9 +74,9 @@ begins-hears : (node : Node) (pid : ℕ) (p : Process) (come : List BlockId) →
     → length p.space.windows ≤ window_count → is_unborn (process_at node pid).status ≡ false → is_stopped (process_at node pid).status ≡ false
     → ((id : BlockId) → count id (mapped_ids p.space) ≡ count id (mapped_ids (process_at node pid).space) + count id come)
     → ((id : BlockId) → count id (blocks_of node) + count id come ≤ 1)
-    → HasHeardAnswer node (begins node pid p) come
+    → HasHeardAnswer node (with_turn node pid p) come
 begins-hears node pid p come well within registers windows born going blocks once = record {
-  became = change-became None (Some (new_turn pid)) (Some (new_turn pid)) node pid (record p { status = Running }) node.store (without_poller pid node.polling) come []
+  became = change-became None (Some (new_turn pid)) (Some (new_turn pid)) node pid (record p { status = Running }) node.store (without_poller pid node.polling_ids) come []
       (begins-change node pid p come well within registers windows blocks once) (sym born) (λ h. absurd (both_ways _ going h));
   turn = new_turn-sound pid within;
 }
@@ -106,7 +106,7 @@ stored-hears node parcel well none once =
       well = record {
         process_ids = well.process_ids;
         processes = well.processes;
-        polling = well.polling;
+        polling_ids = well.polling_ids;
         store = rising-put parcel.block.id node.store well.store
             (omega (arith, once parcel.block.id, count-one parcel.block.id parcel.block.id, hit-self parcel.block.id, count-append parcel.block.id node.store others));
         once = λ id. omega (arith, blocks id, once id);
@@ -118,14 +118,14 @@ stored-hears node parcel well none once =
 
 gets-hears : (node : Node) (parcel : Parcel) → IsWell None node → node.turn ≡ None → parcel.to.pid < process_count
     → ((id : BlockId) → count id (blocks_of node) + count id (parcel.block.id ∷ []) ≤ 1)
-    → is_receiving (process_at node parcel.to.pid).status ≡ true → HasHeardAnswer node (gets node parcel (process_at node parcel.to.pid)) (parcel.block.id ∷ [])
+    → is_receiving (process_at node parcel.to.pid).status ≡ true → HasHeardAnswer node (with_received node parcel (process_at node parcel.to.pid)) (parcel.block.id ∷ [])
 gets-hears node parcel well none within once receives =
     let pid = parcel.to.pid in
     let p = process_at node pid in
     let is = receiving_is p.status receives in
     let of = well.processes pid within in
     cond_both (has_unused_window p.space)
-    (begins_with node pid (record p { space = mapped_space parcel.block p.space }) (window_start (length p.space.windows)))
+    (with_answered_turn node pid (record p { space = mapped_space parcel.block p.space }) (window_start (length p.space.windows)))
     (with_stopped (with_stored node parcel) pid p WindowsSpent) (λ node'. HasHeardAnswer node node' (parcel.block.id ∷ []))
     (λ room.
     begins-hears node pid (with_answer (window_start (length p.space.windows)) (record p { space = mapped_space parcel.block p.space })) (parcel.block.id ∷ []) well within
@@ -141,10 +141,10 @@ gets-hears node parcel well none within once receives =
     })
 
 pub mail-hears : (images : List ImageParts) (node : Node) (parcel : Parcel) → IsWell None node → node.turn ≡ None → parcel.to.pid < process_count
-    → ((id : BlockId) → count id (blocks_of node) + count id (parcel.block.id ∷ []) ≤ 1) → HasHeardAnswer node (hears images node (mail_of parcel)) (parcel.block.id ∷ [])
-unfolding hears
+    → ((id : BlockId) → count id (blocks_of node) + count id (parcel.block.id ∷ []) ≤ 1) → HasHeardAnswer node (node_after_hearing images node (mail_of parcel)) (parcel.block.id ∷ [])
+unfolding node_after_hearing
 mail-hears images node parcel well none within once =
-    cond_both (is_receiving (process_at node parcel.to.pid).status) (gets node parcel (process_at node parcel.to.pid)) (with_stored node parcel)
+    cond_both (is_receiving (process_at node parcel.to.pid).status) (with_received node parcel (process_at node parcel.to.pid)) (with_stored node parcel)
     (λ node'. HasHeardAnswer node node' (parcel.block.id ∷ [])) (gets-hears node parcel well none within once)
     (λ f. record {
       became = subst (λ turn. HasBecome turn node (with_stored node parcel) (parcel.block.id ∷ []) []) (sym none) (stored-hears node parcel well none once);
@@ -159,13 +159,13 @@ same-hears node well sound = record { became = became-same node.turn node well; 
 none-hears : (node : Node) → IsWell None node → node.turn ≡ None → HasHeardAnswer node node []
 none-hears node well none = same-hears node (subst (λ turn. IsWell turn node) (sym none) well) (subst (λ turn. IfSome turn IsSoundTurn) (sym none) tt)
 
-pub nothing-hears : (images : List ImageParts) (node : Node) → IsWell node.turn node → IfSome node.turn IsSoundTurn → HasHeardAnswer node (hears images node nothing) []
-unfolding hears
+pub nothing-hears : (images : List ImageParts) (node : Node) → IsWell node.turn node → IfSome node.turn IsSoundTurn → HasHeardAnswer node (node_after_hearing images node nothing) []
+unfolding node_after_hearing
 nothing-hears images node well sound = same-hears node well sound
 
 pub kill-hears : (images : List ImageParts) (node : Node) (pid : ℕ) → IsWell None node → node.turn ≡ None → pid < process_count
-    → is_unborn (process_at node pid).status ≡ false → HasHeardAnswer node (hears images node (kill_of pid)) []
-unfolding hears
+    → is_unborn (process_at node pid).status ≡ false → HasHeardAnswer node (node_after_hearing images node (kill_of pid)) []
+unfolding node_after_hearing
 kill-hears images node pid well none within born =
     let of = well.processes pid within in
     cond_both (is_stopped (process_at node pid).status) node (with_stopped node pid (process_at node pid) Killed) (λ node'. HasHeardAnswer node node' [])
@@ -176,14 +176,14 @@ kill-hears images node pid well none within born =
     })
 
 pub poll-hears : (images : List ImageParts) (node : Node) (pid : ℕ) → IsWell None node → pid < process_count
-    → is_unborn (process_at node pid).status ≡ false → is_stopped (process_at node pid).status ≡ false → HasHeardAnswer node (hears images node (poll_of pid)) []
-unfolding hears
+    → is_unborn (process_at node pid).status ≡ false → is_stopped (process_at node pid).status ≡ false → HasHeardAnswer node (node_after_hearing images node (poll_of pid)) []
+unfolding node_after_hearing
 poll-hears images node pid well within born going =
     let of = well.processes pid within in
     begins-hears node pid (with_answer 0 (process_at node pid)) [] well within (length-set (process_at node pid).regs 10 0 ∙ of.registers) of.windows born going
     (λ id. omega (arith, count-nil id)) (λ id. omega (arith, well.once id, count-nil id))
 
-told-in : (node : Node) (value : ℕ) (turn : Option Turn) → node.turn ≡ turn → IsWell turn node → IfSome turn IsSoundTurn → HasHeardAnswer node (tells value node turn) []
+told-in : (node : Node) (value : ℕ) (turn : Option Turn) → node.turn ≡ turn → IsWell turn node → IfSome turn IsSoundTurn → HasHeardAnswer node (with_answered_call value node turn) []
 told-in node value None is well sound = none-hears node well is
 told-in node value (Some turn) is well sound =
     let p = process_at node turn.pid in
@@ -195,15 +195,15 @@ told-in node value (Some turn) is well sound =
       turn = subst (λ now. IfSome now IsSoundTurn) (sym is) sound;
     }
 
-pub told-hears : (images : List ImageParts) (node : Node) (value : ℕ) → IsWell node.turn node → IfSome node.turn IsSoundTurn → HasHeardAnswer node (hears images node (told value)) []
-unfolding hears
+pub told-hears : (images : List ImageParts) (node : Node) (value : ℕ) → IsWell node.turn node → IfSome node.turn IsSoundTurn → HasHeardAnswer node (node_after_hearing images node (answer_of value)) []
+unfolding node_after_hearing
 told-hears images node value well sound = told-in node value node.turn refl well sound
 
 -- ---- a start
 
 pub start-begins : (images : List ImageParts) (node : Node) (pid image : ℕ) → IsWell None node → pid < process_count → is_unborn (process_at node pid).status ≡ true
-    → HasStarted node (hears images node (start_of pid image)) pid
-unfolding hears
+    → HasStarted node (node_after_hearing images node (start_of pid image)) pid
+unfolding node_after_hearing
 start-begins images node pid image well within unborn =
     let p = started_process (image_at images image) in
     let none = (well.processes pid within).unborn_used unborn in
@@ -215,9 +215,9 @@ start-begins images node pid image well within unborn =
       dim = refl;
       home = refl;
       images = refl;
-      well = change-well None (Some (new_turn pid)) (Some (new_turn pid)) node pid (record p { status = Running }) node.store (without_poller pid node.polling) [] [] change;
+      well = change-well None (Some (new_turn pid)) (Some (new_turn pid)) node pid (record p { status = Running }) node.store (without_poller pid node.polling_ids) [] [] change;
       turn = new_turn-sound pid within;
-      blocks = λ id. omega (arith, count-nil id, change-blocks None (Some (new_turn pid)) (Some (new_turn pid)) node pid (record p { status = Running }) node.store (without_poller pid node.polling) [] [] change id);
+      blocks = λ id. omega (arith, count-nil id, change-blocks None (Some (new_turn pid)) (Some (new_turn pid)) node pid (record p { status = Running }) node.store (without_poller pid node.polling_ids) [] [] change id);
       born = ap (λ (q : Process). is_unborn q.status) (get_or-set_same node.processes pid (record p { status = Running }) unborn_process (omega (arith, within, well.process_ids)));
       others = λ q differ. get_or-set_other node.processes pid q (record p { status = Running }) unborn_process differ;
     }

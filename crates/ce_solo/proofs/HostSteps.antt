@@ -13,11 +13,11 @@ use Rattle.ce_model.specs.declared.entry.TakeResult.TheVariants.{Mail}
 use Rattle.ce_model.specs.declared.entry.KillFound.{KillFound}
 use Rattle.ce_model.specs.declared.entry.KillFound.TheVariants.{Killed, Unused, Already}
 use Rattle.ce_model.specs.Blocks.{without_id, put}
-use Rattle.ce_model.specs.Parcels.{Parcel, Item, start, mail, kill, is_named_by, parcel_in, parcels_from}
-use Rattle.ce_model.specs.Node.{is_place, Call, sends, spawns, kills, arms, looks, takes_mail}
-use Rattle.ce_model.specs.Trace.{NodeRecord, dispatched_by, armed_by}
+use Rattle.ce_model.specs.Parcels.{Parcel, Item, start, mail, kill, is_named_by, parcel_in, message_parcels}
+use Rattle.ce_model.specs.Node.{is_place, Call, send_call, spawn_call, kill_call, arm_call, look_call, mail_call}
+use Rattle.ce_model.specs.Trace.{NodeRecord, made_dispatches_after, allowed_dispatches_after}
 use Rattle.ce_model.specs.Answers.{is_among, kill_found, first_number, found_where, is_quiet, is_used_up, answer}
-use Rattle.ce_model.specs.Cube.{Cube, CubeState, IsCube, node_numbers, HostCall, send_bytes, start_image, end_process, allow, look_round, take_message, host_call, stored_by, with_parcel, parcel_numbered}
+use Rattle.ce_model.specs.Cube.{Cube, CubeState, IsCube, node_numbers, HostCall, send_bytes, start_image, end_process, allow, look_round, take_message, host_call, store_after, with_parcel, parcel_numbered}
 use Rattle.ce_model.specs.Sound.{IsHostItem, IsSoundHost, IsSound, IsRising}
 use Rattle.ce_solo.proofs.Counting.{hit, hit-self, count, count-nil, count-one, count-cons, count-append, count-put, rising-put, same_id-self, sum_run-zero}
 use Rattle.ce_solo.proofs.Lists.{all-filter, joined, joined-is, find-out}
@@ -41,19 +41,19 @@ module _ (cube : Cube) (s : CubeState) (of : IsCube cube) (sound : IsSound cube 
 
   -- an entry that moves no block
   quiet-host : (what : What) → ((q : ℕ) → q < 2 ^ cube.dim → HasStayedSound cube (sent_by s HOST what) q (kept_at q) (record_by false q (entry_of what) (kept_at q)) [] [])
-      → (record_by true HOST (entry_of what) (kept_at HOST)).waiting ≡ (kept_at HOST).waiting → stored_by (kept_at HOST).waiting s.hoststore what ≡ s.hoststore
-      → dispatched_by s.standing.dispatched what ≤ armed_by s.standing.armed what → IsSound cube (state_after cube s (entry_of what))
+      → (record_by true HOST (entry_of what) (kept_at HOST)).waiting_items ≡ (kept_at HOST).waiting_items → store_after (kept_at HOST).waiting_items s.hoststore what ≡ s.hoststore
+      → made_dispatches_after s.standing.made_dispatches what ≤ allowed_dispatches_after s.standing.allowed_dispatches what → IsSound cube (state_after cube s (entry_of what))
   quiet-host what keeps no_mail store dispatches =
       host-acts cube s what (λ id q. count id []) of sound (record {
         nodes = λ q within. idle-goes cube (sent_by s HOST what) q (kept_at q) (record_by false q (entry_of what) (kept_at q)) (s.node q) [] (λ id. 0) (sound.nodes q within) (λ id. refl) (keeps q within);
-        host = subst (IsSoundHost (sent_by s HOST what)) (sym no_mail) (host-more s.standing.parcel_count (sent_by s HOST what) (kept_at HOST).waiting (omega arith) sound.host);
+        host = subst (IsSoundHost (sent_by s HOST what)) (sym no_mail) (host-more s.standing.parcel_count (sent_by s HOST what) (kept_at HOST).waiting_items (omega arith) sound.host);
         store = subst IsRising (sym store) sound.hoststore;
         balance = λ id. omega (arith, ap (λ items. count id (parcel_ids items)) no_mail, ap (count id) store, sum_run-zero (λ q. count id []) 0 (2 ^ cube.dim) (λ k low high. count-nil id));
         dispatches = dispatches;
       })
 
   plain_keeps : (q : ℕ) → q < 2 ^ cube.dim
-      → HasStayedSound cube (s.standing.parcel_count + 0) q (kept_at q) (kept_with (kept_at q).waiting (kept_at q).spawned (kept_at q).killed (kept_at q).mark) [] []
+      → HasStayedSound cube (s.standing.parcel_count + 0) q (kept_at q) (kept_with (kept_at q).waiting_items (kept_at q).spawned_ids (kept_at q).killed_ids (kept_at q).mark) [] []
   plain_keeps q within = keeps-same cube s.standing.parcel_count (s.standing.parcel_count + 0) q (kept_at q) (kept_at q).mark (omega arith) (sound.records q within)
 
   arm-host : (allowed : ℕ) → IsSound cube (state_after cube s (entry_of (Arm allowed)))
@@ -62,15 +62,15 @@ module _ (cube : Cube) (s : CubeState) (of : IsCube cube) (sound : IsSound cube 
   look-host : (found : LookResult) → IsSound cube (state_after cube s (entry_of (Look found)))
   look-host found = quiet-host (Look found) plain_keeps refl refl sound.dispatches
 
-  spawn-host : (image : ℕ) (to : Place) (fresh : Bool) → not (is_among to.pid (kept_at to.node).spawned) ≡ fresh → is_place cube.dim to ≡ true
+  spawn-host : (image : ℕ) (to : Place) (fresh : Bool) → not (is_among to.pid (kept_at to.node).spawned_ids) ≡ fresh → is_place cube.dim to ≡ true
       → image < length cube.images → IsSound cube (state_after cube s (entry_of (Spawn 0 image to fresh)))
   spawn-host image to false e place of_cube = quiet-host (Spawn 0 image to false) plain_keeps refl refl sound.dispatches
   spawn-host image to true e place of_cube =
       let parts = place_parts cube.dim to place in
       quiet-host (Spawn 0 image to true)
       (λ q within. start-keeps cube s.standing.parcel_count q image to (kept_at q) (kept_at q).mark (to.node == q) (sound.records q within)
-      (λ t. subst (λ q. is_among to.pid (kept_at q).spawned ≡ false) (eqb-true to.node q t) (not-true _ e)) parts.1 of_cube)
-      (ap (λ b. joined (kept_at HOST).waiting ((if b then start to.pid image ∷ [] else []) ++ [])) (ne_eqb to.node HOST (λ e. omega (arith, not_host cube to.node of parts.0))))
+      (λ t. subst (λ q. is_among to.pid (kept_at q).spawned_ids ≡ false) (eqb-true to.node q t) (not-true _ e)) parts.1 of_cube)
+      (ap (λ b. joined (kept_at HOST).waiting_items ((if b then start to.pid image ∷ [] else []) ++ [])) (ne_eqb to.node HOST (λ e. omega (arith, not_host cube to.node of parts.0))))
       refl sound.dispatches
 
   kill-host : (to : Place) (found : KillFound) → kill_found (kept_at to.node) to.pid ≡ found → is_place cube.dim to ≡ true
@@ -79,12 +79,12 @@ module _ (cube : Cube) (s : CubeState) (of : IsCube cube) (sound : IsSound cube 
   kill-host to Already e place = quiet-host (Kill 0 to Already) plain_keeps refl refl sound.dispatches
   kill-host to Killed e place =
       let parts = place_parts cube.dim to place in
-      let found = kill_accepted (is_among to.pid (kept_at to.node).spawned) (is_among to.pid (kept_at to.node).killed) e in
+      let found = kill_accepted (is_among to.pid (kept_at to.node).spawned_ids) (is_among to.pid (kept_at to.node).killed_ids) e in
       quiet-host (Kill 0 to Killed)
       (λ q within. kill-keeps cube s.standing.parcel_count q to (kept_at q) (kept_at q).mark (to.node == q) (sound.records q within)
-      (λ t. subst (λ q. is_among to.pid (kept_at q).spawned ≡ true) (eqb-true to.node q t) found.0)
-      (λ t. subst (λ q. is_among to.pid (kept_at q).killed ≡ false) (eqb-true to.node q t) found.1))
-      (ap (λ b. joined (kept_at HOST).waiting ((if b then kill to.pid ∷ [] else []) ++ [])) (ne_eqb to.node HOST (λ e. omega (arith, not_host cube to.node of parts.0))))
+      (λ t. subst (λ q. is_among to.pid (kept_at q).spawned_ids ≡ true) (eqb-true to.node q t) found.0)
+      (λ t. subst (λ q. is_among to.pid (kept_at q).killed_ids ≡ false) (eqb-true to.node q t) found.1))
+      (ap (λ b. joined (kept_at HOST).waiting_items ((if b then kill to.pid ∷ [] else []) ++ [])) (ne_eqb to.node HOST (λ e. omega (arith, not_host cube to.node of parts.0))))
       refl sound.dispatches
 
   send-host : (to : Place) (id : BlockId) (rest : List BlockId) (bytes : List ℕ) → is_place cube.dim to ≡ true → s.hoststore ≡ id ∷ rest
@@ -93,15 +93,15 @@ module _ (cube : Cube) (s : CubeState) (of : IsCube cube) (sound : IsSound cube 
       let targets : List (Place × BlockId) = (to, id) ∷ [] in
       let from : Place = record { node = HOST; pid = 0 } in
       let what = Send 0 s.standing.parcel_count targets bytes in
-      let ps = parcels_from from s.standing.parcel_count bytes targets in
+      let ps = message_parcels from s.standing.parcel_count bytes targets in
       let sent' = s.standing.parcel_count + length ps in
       let are = are_sent cube from s.standing.parcel_count bytes targets (inl place, tt) in
-      let left : stored_by (kept_at HOST).waiting s.hoststore what ≡ rest = ap (without_id id) store ∙ without_first-name id rest in
+      let left : store_after (kept_at HOST).waiting_items s.hoststore what ≡ rest = ap (without_id id) store ∙ without_first-name id rest in
       host-acts cube s what (λ name q. count name (sent_ids (to_node q ps))) of sound (record {
         nodes = λ q within.
             idle-goes cube sent' q (kept_at q) (record_by false q (entry_of what) (kept_at q)) (s.node q) (sent_ids (to_node q ps)) (λ name. 0) (sound.nodes q within) (λ name. refl)
             (keeps-mails cube s.standing.parcel_count sent' q (kept_at q) (kept_at q).mark (to_node q ps) are.more (sound.records q within) (sent-new cube s.standing.parcel_count sent' ps of are q within));
-        host = sent-host cube s.standing.parcel_count sent' ps of are (kept_at HOST).waiting sound.host;
+        host = sent-host cube s.standing.parcel_count sent' ps of are (kept_at HOST).waiting_items sound.host;
         store = subst IsRising (sym left) (subst IsRising store sound.hoststore).1;
         balance = λ name.
             omega (
@@ -111,25 +111,25 @@ module _ (cube : Cube) (s : CubeState) (of : IsCube cube) (sound : IsSound cube 
               ap (count name) store,
               count-cons name id rest,
               count-one name id,
-              ap (λ items. count name (parcel_ids items)) (joined-is (kept_at HOST).waiting (map mail (to_node HOST ps))),
-              ap (count name) (mails-ids (kept_at HOST).waiting (to_node HOST ps)),
-              count-append name (parcel_ids (kept_at HOST).waiting) (sent_ids (to_node HOST ps)),
+              ap (λ items. count name (parcel_ids items)) (joined-is (kept_at HOST).waiting_items (map mail (to_node HOST ps))),
+              ap (count name) (mails-ids (kept_at HOST).waiting_items (to_node HOST ps)),
+              count-append name (parcel_ids (kept_at HOST).waiting_items) (sent_ids (to_node HOST ps)),
             );
         dispatches = sound.dispatches;
       })
 
   -- ---- the host takes its next message
 
-  taken-host : (parcel : Parcel) (rest : List Item) → (kept_at HOST).waiting ≡ mail parcel ∷ rest → IsSound cube (state_after cube s (entry_of (HostTake (Some parcel.number))))
+  taken-host : (parcel : Parcel) (rest : List Item) → (kept_at HOST).waiting_items ≡ mail parcel ∷ rest → IsSound cube (state_after cube s (entry_of (HostTake (Some parcel.number))))
   taken-host parcel rest is =
-      let items = (kept_at HOST).waiting in
+      let items = (kept_at HOST).waiting_items in
       let named = is_named_by (Mail 0 parcel.number) in
       let test = λ (x : Item). not (named x) in
       let what = HostTake (Some parcel.number) in
       let first : find (λ (x : Item). true) items ≡ Some (mail parcel) = ap (find (λ (x : Item). true)) is in
       let out = find-out (λ (x : Item). true) named items (mail parcel) first (eq-eqb parcel.number parcel.number refl) (named-mail 0 parcel.number items sound.host.numbered.rising) in
       let found : parcel_numbered parcel.number items ≡ Some parcel = ap (option_and_then parcel_in) out.found in
-      let stored : stored_by items s.hoststore what ≡ put parcel.block.id s.hoststore = ap (with_parcel s.hoststore) found in
+      let stored : store_after items s.hoststore what ≡ put parcel.block.id s.hoststore = ap (with_parcel s.hoststore) found in
       let parts : (id : BlockId) → count id (parcel_ids (filter test items)) + hit id parcel.block.id ≡ count id (parcel_ids items) =
       λ id. omega (
         arith,
@@ -159,7 +159,7 @@ module _ (cube : Cube) (s : CubeState) (of : IsCube cube) (sound : IsSound cube 
         dispatches = sound.dispatches;
       })
 
-  take-host : (items : List Item) → (kept_at HOST).waiting ≡ items → AllByRecursion IsHostItem items → IsSound cube (state_after cube s (entry_of (HostTake (first_number items))))
+  take-host : (items : List Item) → (kept_at HOST).waiting_items ≡ items → AllByRecursion IsHostItem items → IsSound cube (state_after cube s (entry_of (HostTake (first_number items))))
   take-host [] is own = quiet-host (HostTake None) plain_keeps refl refl sound.dispatches
   take-host (start pid image ∷ items) is own = absurd own.0
   take-host (mail parcel ∷ items) is own = taken-host parcel items is
@@ -172,11 +172,11 @@ module _ (cube : Cube) (s : CubeState) (of : IsCube cube) (sound : IsSound cube 
   chosen_call false x y e = cc
 
   first_sent : (store : List BlockId) (to : Place) (bytes : List ℕ) (call : Call) → s.hoststore ≡ store → is_place cube.dim to ≡ true
-      → option_map (λ id. sends 0 ((to, id) ∷ []) bytes) (slice_get store 0) ≡ Some call → IsSound cube (state_after cube s (entry_in cube s HOST call))
+      → option_map (λ id. send_call 0 ((to, id) ∷ []) bytes) (slice_get store 0) ≡ Some call → IsSound cube (state_after cube s (entry_in cube s HOST call))
   unfolding answer
   first_sent [] to bytes call is place e = cc
   first_sent (id ∷ rest) to bytes call is place e =
-      let same : sends 0 ((to, id) ∷ []) bytes ≡ call = cc in
+      let same : send_call 0 ((to, id) ∷ []) bytes ≡ call = cc in
       subst (λ call. IsSound cube (state_after cube s (entry_in cube s HOST call))) same (send-host to id rest bytes place is)
 
   some_call : (x call : Call) → Some x ≡ Some call → x ≡ call
@@ -185,21 +185,21 @@ module _ (cube : Cube) (s : CubeState) (of : IsCube cube) (sound : IsSound cube 
   pub host-step : (asked : HostCall) (call : Call) → host_call cube s.hoststore asked ≡ Some call → IsSound cube (state_after cube s (entry_in cube s HOST call))
   unfolding answer
   host-step (send_bytes to bytes) call e =
-      let parts = chosen_call (is_place cube.dim to) (option_map (λ id. sends 0 ((to, id) ∷ []) bytes) (slice_get s.hoststore 0)) call e in
+      let parts = chosen_call (is_place cube.dim to) (option_map (λ id. send_call 0 ((to, id) ∷ []) bytes) (slice_get s.hoststore 0)) call e in
       first_sent s.hoststore to bytes call refl parts.0 parts.1
   host-step (start_image image to) call e =
-      let parts = chosen_call (is_place cube.dim to && nat_lt image (length cube.images)) (Some (spawns 0 image to)) call e in
+      let parts = chosen_call (is_place cube.dim to && nat_lt image (length cube.images)) (Some (spawn_call 0 image to)) call e in
       let fits = and_parts (is_place cube.dim to) (nat_lt image (length cube.images)) parts.0 in
-      subst (λ call. IsSound cube (state_after cube s (entry_in cube s HOST call))) (some_call (spawns 0 image to) call parts.1)
-      (spawn-host image to (not (is_among to.pid (kept_at to.node).spawned)) refl fits.0 (ltb-true _ _ fits.1))
+      subst (λ call. IsSound cube (state_after cube s (entry_in cube s HOST call))) (some_call (spawn_call 0 image to) call parts.1)
+      (spawn-host image to (not (is_among to.pid (kept_at to.node).spawned_ids)) refl fits.0 (ltb-true _ _ fits.1))
   host-step (end_process to) call e =
-      let parts = chosen_call (is_place cube.dim to) (Some (kills 0 to)) call e in
-      subst (λ call. IsSound cube (state_after cube s (entry_in cube s HOST call))) (some_call (kills 0 to) call parts.1)
+      let parts = chosen_call (is_place cube.dim to) (Some (kill_call 0 to)) call e in
+      subst (λ call. IsSound cube (state_after cube s (entry_in cube s HOST call))) (some_call (kill_call 0 to) call parts.1)
       (kill-host to (kill_found (kept_at to.node) to.pid) refl parts.0)
   host-step (allow count) call e =
-      subst (λ call. IsSound cube (state_after cube s (entry_in cube s HOST call))) (some_call (arms count) call e) (arm-host count)
+      subst (λ call. IsSound cube (state_after cube s (entry_in cube s HOST call))) (some_call (arm_call count) call e) (arm-host count)
   host-step look_round call e =
-      subst (λ call. IsSound cube (state_after cube s (entry_in cube s HOST call))) (some_call looks call e) (look-host (found_where (is_quiet (node_numbers cube.dim) s.standing) (is_used_up s.standing)))
+      subst (λ call. IsSound cube (state_after cube s (entry_in cube s HOST call))) (some_call look_call call e) (look-host (found_where (is_quiet (node_numbers cube.dim) s.standing) (is_used_up s.standing)))
   host-step take_message call e =
-      subst (λ call. IsSound cube (state_after cube s (entry_in cube s HOST call))) (some_call takes_mail call e)
-      (take-host (kept_at HOST).waiting refl sound.host.own)
+      subst (λ call. IsSound cube (state_after cube s (entry_in cube s HOST call))) (some_call mail_call call e)
+      (take-host (kept_at HOST).waiting_items refl sound.host.own)

@@ -6,8 +6,8 @@ use Rattle.ce_model.specs.declared.entry.Entry.{Entry}
 use Rattle.ce_model.specs.declared.entry.TakeResult.{TakeResult}
 use Rattle.ce_model.specs.Lists.{IsFront}
 use Rattle.ce_model.specs.Parcels.{Item, is_named_by}
-use Rattle.ce_model.specs.Trace.{Standing, items_to, sent_to, waiting_items}
-use Rattle.ce_model.specs.Cube.{Cube, CubeState, IsCube, left_by}
+use Rattle.ce_model.specs.Trace.{Standing, items_to, sent_items, waiting_items}
+use Rattle.ce_model.specs.Cube.{Cube, CubeState, IsCube, state_after_trace}
 use Rattle.ce_model.specs.Order.{bytes_between, bytes_handed, messages_sent, messages_got}
 use Rattle.ce_model.proofs.OneMore.{taken_for, sent-more, got-more}
 use Rattle.ce_solo.proofs.Lists.{joined-is}
@@ -20,7 +20,7 @@ use Rattle.ce_model.specs.Node.{Call}
 
 -- from one place to another: what was sent is what was got and what waits, while the receiver has not stopped
 pub record AreInOrder (cube : Cube) (o : CubeState) (from to : Place) (t : List Entry) : Type 0 where
-  pub equal : gone cube (left_by cube o t) to ≡ false → messages_sent o.standing from to t ≡ messages_got o.standing from to t ++ bytes_between from to (waiting_items o.standing to.node t)
+  pub equal : gone cube (state_after_trace cube o t) to ≡ false → messages_sent o.standing from to t ≡ messages_got o.standing from to t ++ bytes_between from to (waiting_items o.standing to.node t)
   pub front : IsFront (messages_got o.standing from to t) (messages_sent o.standing from to t)
 
 -- what an entry by which the receiver's node takes an item does to the bytes between the two: none go; the first is handed over;
@@ -60,20 +60,20 @@ same-sent gone gone' messages_sent messages_got waits handed waits' stays is (dr
   front = (is.front.0, ap (λ xs. xs ++ is.front.0) (ap (λ xs. messages_got ++ xs) none ∙ append-nil messages_got) ∙ is.front.1);
 }
 
-sent-is : (o : Standing) (from to : Place) (t : List Entry) → bytes_between from to (sent_to o to.node t) ≡ messages_sent o from to t
+sent-is : (o : Standing) (from to : Place) (t : List Entry) → bytes_between from to (sent_items o to.node t) ≡ messages_sent o from to t
 unfolding messages_sent
 sent-is o from to t = refl
 
 pub order-nil : (cube : Cube) (o : CubeState) (from to : Place) → AreInOrder cube o from to []
-unfolding messages_sent messages_got sent_to
+unfolding messages_sent messages_got sent_items
 order-nil cube o from to =
-    let same : bytes_between from to (waiting_items o.standing to.node []) ≡ bytes_between from to ((o.standing.node_record to.node).waiting ++ []) =
-    ap (bytes_between from to) (waiting-nil o.standing to.node ∙ sym (append-nil (o.standing.node_record to.node).waiting)) in
-    record { equal = λ h. sym same; front = (bytes_between from to ((o.standing.node_record to.node).waiting ++ []), refl) }
+    let same : bytes_between from to (waiting_items o.standing to.node []) ≡ bytes_between from to ((o.standing.node_record to.node).waiting_items ++ []) =
+    ap (bytes_between from to) (waiting-nil o.standing to.node ∙ sym (append-nil (o.standing.node_record to.node).waiting_items)) in
+    record { equal = λ h. sym same; front = (bytes_between from to ((o.standing.node_record to.node).waiting_items ++ []), refl) }
 
 module _ (cube : Cube) (o : CubeState) (from to : Place) (t : List Entry) (of : IsCube cube) (stands : IsSoundTrace cube o t) where
   abbrev s : CubeState
-  s = left_by cube o t
+  s = state_after_trace cube o t
 
   abbrev items : List Item
   items = waiting_items o.standing to.node t
@@ -82,7 +82,7 @@ module _ (cube : Cube) (o : CubeState) (from to : Place) (t : List Entry) (of : 
   ordered : AreInOrder cube o from to t → IsOrdered (gone cube s to) (messages_sent o.standing from to t) (messages_got o.standing from to t) (bytes_between from to items)
   ordered is = record { equal = is.equal; front = is.front }
 
-  order-by : (entry : Entry) (gone' : Bool) (sent' got' waits' : List (List ℕ)) → gone cube (left_by cube o (t ++ entry ∷ [])) to ≡ gone' → messages_sent o.standing from to (t ++ entry ∷ []) ≡ sent'
+  order-by : (entry : Entry) (gone' : Bool) (sent' got' waits' : List (List ℕ)) → gone cube (state_after_trace cube o (t ++ entry ∷ [])) to ≡ gone' → messages_sent o.standing from to (t ++ entry ∷ []) ≡ sent'
       → messages_got o.standing from to (t ++ entry ∷ []) ≡ got' → bytes_between from to (waiting_items o.standing to.node (t ++ entry ∷ [])) ≡ waits' → IsOrdered gone' sent' got' waits'
       → AreInOrder cube o from to (t ++ entry ∷ [])
   order-by entry gone' sent' got' waits' g s h w is = record {
@@ -103,7 +103,7 @@ module _ (cube : Cube) (o : CubeState) (from to : Place) (t : List Entry) (of : 
       let new = items_to to.node entry in
       order-by entry (gone cube (state_after cube s entry) to) (messages_sent o.standing from to t ++ bytes_between from to new) (messages_got o.standing from to t ++ []) (bytes_between from to items ++ bytes_between from to new)
       (ap (λ s. gone cube s to) (left-made cube o t entry stands e))
-      (sent-more o.standing from to t entry ∙ between-append from to (sent_to o.standing to.node t) new ∙ ap (λ xs. xs ++ bytes_between from to new) (sent-is o.standing from to t))
+      (sent-more o.standing from to t entry ∙ between-append from to (sent_items o.standing to.node t) new ∙ ap (λ xs. xs ++ bytes_between from to new) (sent-is o.standing from to t))
       (got-more o.standing from to t entry ∙ ap (λ xs. messages_got o.standing from to t ++ xs) (handed-none from to items entry none))
       (ap (bytes_between from to) (waits-made cube o t actor call stands to.node ∙ ap (λ taken. waiting_after taken new items) none ∙ sym (joined-is items new)) ∙ between-append from to items new)
       (more-sent (gone cube s to) (gone cube (state_after cube s entry) to) (messages_sent o.standing from to t) (messages_got o.standing from to t) (bytes_between from to items) (bytes_between from to new) stays (ordered is))
@@ -114,7 +114,7 @@ module _ (cube : Cube) (o : CubeState) (from to : Place) (t : List Entry) (of : 
       order-by entry (gone cube (state_after cube s entry) to) (messages_sent o.standing from to t) (messages_got o.standing from to t ++ bytes_handed from to items entry) (bytes_between from to left)
       (ap (λ s. gone cube s to) (left-made cube o t entry stands e))
       (sent-more o.standing from to t entry
-      ∙ ap (bytes_between from to) (ap (λ xs. sent_to o.standing to.node t ++ xs) (taking-sends_none cube s actor to.node call given one) ∙ append-nil (sent_to o.standing to.node t)) ∙ sent-is o.standing from to t)
+      ∙ ap (bytes_between from to) (ap (λ xs. sent_items o.standing to.node t ++ xs) (taking-sends_none cube s actor to.node call given one) ∙ append-nil (sent_items o.standing to.node t)) ∙ sent-is o.standing from to t)
       (got-more o.standing from to t entry)
       (ap (bytes_between from to) (waits-made cube o t actor call stands to.node ∙ ap (λ taken. waiting_after taken new items) one))
       (same-sent (gone cube s to) (gone cube (state_after cube s entry) to) (messages_sent o.standing from to t) (messages_got o.standing from to t) (bytes_between from to items) (bytes_handed from to items entry) (bytes_between from to left) stays (ordered is)

@@ -8,16 +8,16 @@ use Rattle.rv_model.specs.declared.inst.Inst.{Inst}
 use Rattle.rv_model.specs.declared.inst.Inst.TheVariants.{Lui, Auipc, Jal, Jalr, Branch, Load, Store, OpImm, Op, Fence, Ecall, Ebreak}
 use Rattle.rv_model.specs.Words.{dec}
 use Rattle.rv_model.specs.Word.{wrapping_sum}
-use Rattle.rv_model.specs.Private.{word_fetched}
-use Rattle.rv_model.specs.Exec.{Outcome, went, called, stopped, ◌>>=◌, reg, with_reg, is_taken, imm_result, reg_result, load_size, store_size, loaded_number, next_pc, offset_by, jump_outcome, effect_of, exec}
+use Rattle.rv_model.specs.Private.{word_at_pc}
+use Rattle.rv_model.specs.Exec.{Outcome, next_state, call_state, stop_state, ◌>>=◌, reg, with_reg, is_taken, imm_result, reg_result, load_size, store_size, loaded_number, next_pc, offset_by, jump_outcome, effect_of, exec}
 use Rattle.ce_model.specs.Space.{Space, loaded_at, stored_at, process_access}
 use Rattle.ce_solo.proofs.Windows.{IsSameHeld, same_held, stored-held}
 
 -- what an instruction leads to
 abbrev pub IsLed : List ℕ → Space → Outcome Space → Type 0
-IsLed x space (went x' pc space') = (length x' ≡ length x) × IsSameHeld space space'
-IsLed x space (called x' pc space') = (length x' ≡ length x) × IsSameHeld space space'
-IsLed x space (stopped cause) = Unit {0}
+IsLed x space (next_state x' pc space') = (length x' ≡ length x) × IsSameHeld space space'
+IsLed x space (call_state x' pc space') = (length x' ≡ length x) × IsSameHeld space space'
+IsLed x space (stop_state cause) = Unit {0}
 
 bind_led : {X : Type 0} (x : List ℕ) (space : Space) (r : Result X Stop) (f : X → Outcome Space) (P : X → Type 0)
     → IfOk r P → ((y : X) → P y → IsLed x space (f y)) → IsLed x space (r >>= f)
@@ -33,7 +33,7 @@ length-with_reg x rd value = cond_both (rd == 0) x (slice_set x rd value) (λ y.
 
 jumped-led : (x y : List ℕ) (space : Space) (pc target : ℕ) → length y ≡ length x → IsLed x space (jump_outcome pc target y space)
 jumped-led x y space pc target long =
-    cond_both (target % 4 == 0) (went y target space) (stopped (Target pc)) (IsLed x space) (λ t. (long, same_held space)) (λ f. tt)
+    cond_both (target % 4 == 0) (next_state y target space) (stop_state (Target pc)) (IsLed x space) (λ t. (long, same_held space)) (λ f. tt)
 
 performed-led : (inst : Inst) (x : List ℕ) (pc : ℕ) (space : Space) → IsLed x space (effect_of process_access inst x pc space)
 unfolding effect_of
@@ -43,13 +43,13 @@ performed-led (Jal rd offset) x pc space = jumped-led x (with_reg x rd (next_pc 
 performed-led (Jalr rd rs1 imm) x pc space =
     jumped-led x (with_reg x rd (next_pc pc)) space pc (offset_by (reg x rs1) imm / 2 * 2) (length-with_reg x rd (next_pc pc))
 performed-led (Branch op rs1 rs2 offset) x pc space =
-    cond_both (is_taken op (reg x rs1) (reg x rs2)) (jump_outcome pc (offset_by pc offset) x space) (went x (next_pc pc) space) (IsLed x space)
+    cond_both (is_taken op (reg x rs1) (reg x rs2)) (jump_outcome pc (offset_by pc offset) x space) (next_state x (next_pc pc) space) (IsLed x space)
     (λ t. jumped-led x x space pc (offset_by pc offset) refl) (λ f. (refl, same_held space))
 performed-led (Load op rd rs1 imm) x pc space =
-    bind_led x space (loaded_at space (offset_by (reg x rs1) imm) (load_size op)) (λ n. went (with_reg x rd (loaded_number op n)) (next_pc pc) space)
+    bind_led x space (loaded_at space (offset_by (reg x rs1) imm) (load_size op)) (λ n. next_state (with_reg x rd (loaded_number op n)) (next_pc pc) space)
     (λ n. Unit {0}) (any_ok (loaded_at space (offset_by (reg x rs1) imm) (load_size op))) (λ n p. (length-with_reg x rd (loaded_number op n), same_held space))
 performed-led (Store op rs1 rs2 imm) x pc space =
-    bind_led x space (stored_at space (offset_by (reg x rs1) imm) (store_size op) (reg x rs2 % 256 ^ store_size op)) (λ left. went x (next_pc pc) left)
+    bind_led x space (stored_at space (offset_by (reg x rs1) imm) (store_size op) (reg x rs2 % 256 ^ store_size op)) (λ left. next_state x (next_pc pc) left)
     (IsSameHeld space) (stored-held space (offset_by (reg x rs1) imm) (store_size op) (reg x rs2 % 256 ^ store_size op)) (λ left held. (refl, held))
 performed-led (OpImm op rd rs1 imm) x pc space =
     (length-with_reg x rd (imm_result op (reg x rs1) (cast_unsigned w32 imm)), same_held space)
@@ -61,7 +61,7 @@ performed-led Ebreak x pc space = tt
 pub exec-led : (x : List ℕ) (pc : ℕ) (space : Space) → IsLed x space (exec process_access x pc space)
 unfolding exec
 exec-led x pc space =
-    bind_led x space (word_fetched space.private pc) (λ word. ok_or (dec word) (Illegal pc word) >>= (λ inst. effect_of process_access inst x pc space))
-    (λ word. Unit {0}) (any_ok (word_fetched space.private pc))
+    bind_led x space (word_at_pc space.private pc) (λ word. ok_or (dec word) (Illegal pc word) >>= (λ inst. effect_of process_access inst x pc space))
+    (λ word. Unit {0}) (any_ok (word_at_pc space.private pc))
     (λ word p. bind_led x space (ok_or (dec word) (Illegal pc word)) (λ inst. effect_of process_access inst x pc space)
     (λ inst. Unit {0}) (any_ok (ok_or (dec word) (Illegal pc word))) (λ inst q. performed-led inst x pc space))

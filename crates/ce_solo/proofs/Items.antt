@@ -7,7 +7,7 @@ use Rattle.std.proofs.lemmas.List.Elements.{filter_map-append}
 use Rattle.ce_model.specs.declared.topology.BlockId.{BlockId}
 use Rattle.ce_model.specs.declared.entry.TakeResult.TheVariants.{Start, Mail, Kill}
 use Rattle.ce_model.specs.Lists.{ArePairwise}
-use Rattle.ce_model.specs.Parcels.{Parcel, Item, start, mail, kill, is_eligible, given_as, is_named_by, parcel_in, parcels_among}
+use Rattle.ce_model.specs.Parcels.{Parcel, Item, start, mail, kill, is_eligible, given_as, is_named_by, parcel_in, item_parcels}
 use Rattle.ce_model.specs.Trace.{NodeRecord}
 use Rattle.ce_model.specs.Answers.{is_among}
 use Rattle.ce_model.specs.Cube.{Cube}
@@ -18,20 +18,20 @@ use Rattle.ce_solo.proofs.Lists.{all-filter, count_by-cons, one_if-true, one_if-
 
 -- the names of the blocks in the parcels among these items
 abbrev pub parcel_ids : List Item → List BlockId
-parcel_ids items = map (λ parcel. parcel.block.id) (parcels_among items)
+parcel_ids items = map (λ parcel. parcel.block.id) (item_parcels items)
 
-pub among-append : (xs ys : List Item) → parcels_among (xs ++ ys) ≡ parcels_among xs ++ parcels_among ys
+pub among-append : (xs ys : List Item) → item_parcels (xs ++ ys) ≡ item_parcels xs ++ item_parcels ys
 among-append xs ys = filter_map-append parcel_in xs ys
 
 pub ids-append : (xs ys : List Item) → parcel_ids (xs ++ ys) ≡ parcel_ids xs ++ parcel_ids ys
 ids-append xs ys =
-    ap (map (λ parcel. parcel.block.id)) (among-append xs ys) ∙ map-append (λ (parcel : Parcel). parcel.block.id) (parcels_among xs) (parcels_among ys)
+    ap (map (λ parcel. parcel.block.id)) (among-append xs ys) ∙ map-append (λ (parcel : Parcel). parcel.block.id) (item_parcels xs) (item_parcels ys)
 
 pub numbers-append : (xs ys : List Item) → numbers_of (xs ++ ys) ≡ numbers_of xs ++ numbers_of ys
 numbers-append xs ys =
-    ap (map (λ parcel. parcel.number)) (among-append xs ys) ∙ map-append (λ (parcel : Parcel). parcel.number) (parcels_among xs) (parcels_among ys)
+    ap (map (λ parcel. parcel.number)) (among-append xs ys) ∙ map-append (λ (parcel : Parcel). parcel.number) (item_parcels xs) (item_parcels ys)
 
-pub among-mails : (ps : List Parcel) → parcels_among (map mail ps) ≡ ps
+pub among-mails : (ps : List Parcel) → item_parcels (map mail ps) ≡ ps
 among-mails [] = refl
 among-mails (p ∷ ps) = ap (λ qs. p ∷ qs) (among-mails ps)
 
@@ -114,12 +114,12 @@ start_first-at pid (x ∷ before) behind first = start_first-at pid before behin
 same_among : (a b : ℕ) (pids : List ℕ) → (a == b) ≡ true → is_among a pids ≡ is_among b pids
 same_among a b pids e = ap (λ pid. is_among pid pids) (eqb-true a b e)
 
-pub own-starts : (cube : Cube) (r pid : ℕ) (kept : NodeRecord) (items : List Item) → is_among pid kept.spawned ≡ false
+pub own-starts : (cube : Cube) (r pid : ℕ) (kept : NodeRecord) (items : List Item) → is_among pid kept.spawned_ids ≡ false
     → AllByRecursion (IsItemOf cube r kept) items → AllByRecursion (λ x. is_start_of pid x ≡ false) items
 own-starts cube r pid kept [] none own = tt
 own-starts cube r pid kept (start other image ∷ items) none own = (
   elim (cases_Bool (other == pid)) [
-    | inl t ↦ absurd (both_ways _ none (sym (same_among other pid kept.spawned t) ∙ own.0.0))
+    | inl t ↦ absurd (both_ways _ none (sym (same_among other pid kept.spawned_ids t) ∙ own.0.0))
     | inr f ↦ f
   ],
   own-starts cube r pid kept items none own.1,
@@ -127,14 +127,14 @@ own-starts cube r pid kept (start other image ∷ items) none own = (
 own-starts cube r pid kept (mail parcel ∷ items) none own = (refl, own-starts cube r pid kept items none own.1)
 own-starts cube r pid kept (kill other ∷ items) none own = (refl, own-starts cube r pid kept items none own.1)
 
-pub own-kills : (cube : Cube) (r pid : ℕ) (kept : NodeRecord) (items : List Item) → is_among pid kept.killed ≡ false
+pub own-kills : (cube : Cube) (r pid : ℕ) (kept : NodeRecord) (items : List Item) → is_among pid kept.killed_ids ≡ false
     → AllByRecursion (IsItemOf cube r kept) items → AllByRecursion (λ x. is_kill_of pid x ≡ false) items
 own-kills cube r pid kept [] none own = tt
 own-kills cube r pid kept (start other image ∷ items) none own = (refl, own-kills cube r pid kept items none own.1)
 own-kills cube r pid kept (mail parcel ∷ items) none own = (refl, own-kills cube r pid kept items none own.1)
 own-kills cube r pid kept (kill other ∷ items) none own = (
   elim (cases_Bool (other == pid)) [
-    | inl t ↦ absurd (both_ways _ none (sym (same_among other pid kept.killed t) ∙ own.0))
+    | inl t ↦ absurd (both_ways _ none (sym (same_among other pid kept.killed_ids t) ∙ own.0))
     | inr f ↦ f
   ],
   own-kills cube r pid kept items none own.1,
@@ -142,8 +142,8 @@ own-kills cube r pid kept (kill other ∷ items) none own = (
 
 -- an item of a node stays one where more ids were spawned and killed
 pub own-more : (cube : Cube) (r : ℕ) (kept kept' : NodeRecord) (items : List Item)
-    → ((pid : ℕ) → is_among pid kept.spawned ≡ true → is_among pid kept'.spawned ≡ true)
-    → ((pid : ℕ) → is_among pid kept.killed ≡ true → is_among pid kept'.killed ≡ true)
+    → ((pid : ℕ) → is_among pid kept.spawned_ids ≡ true → is_among pid kept'.spawned_ids ≡ true)
+    → ((pid : ℕ) → is_among pid kept.killed_ids ≡ true → is_among pid kept'.killed_ids ≡ true)
     → AllByRecursion (IsItemOf cube r kept) items → AllByRecursion (IsItemOf cube r kept') items
 own-more cube r kept kept' [] spawned killed own = tt
 own-more cube r kept kept' (start pid image ∷ items) spawned killed own =

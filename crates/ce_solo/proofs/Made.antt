@@ -6,13 +6,13 @@ use Rattle.ce_model.specs.declared.topology.TheConstants.{HOST}
 use Rattle.ce_model.specs.declared.topology.Place.{Place}
 use Rattle.ce_model.specs.declared.entry.Entry.{Entry}
 use Rattle.ce_model.specs.declared.entry.What.{What}
-use Rattle.ce_model.specs.declared.entry.What.TheVariants.{Spawn, Kill as Killing}
+use Rattle.ce_model.specs.declared.entry.What.TheVariants as whats
 use Rattle.ce_model.specs.declared.entry.KillFound.{KillFound}
 use Rattle.ce_model.specs.declared.entry.KillFound.TheVariants.{Killed, Unused, Already}
 use Rattle.ce_model.specs.declared.entry.TakeResult.{TakeResult}
 use Rattle.ce_model.specs.declared.entry.TakeResult.TheVariants.{Start, Mail, Kill, Poll, Idle, Spent}
-use Rattle.ce_model.specs.Parcels.{Parcel, Item, start, mail, kill, given_as, is_item, is_named_by, parcels_from}
-use Rattle.ce_model.specs.Node.{Call, takes, sends, spawns, kills, notes, arms, looks, takes_mail, is_place}
+use Rattle.ce_model.specs.Parcels.{Parcel, Item, start, mail, kill, given_as, is_item, is_named_by, message_parcels}
+use Rattle.ce_model.specs.Node.{Call, take_call, send_call, spawn_call, kill_call, note_call, arm_call, look_call, mail_call, is_place}
 use Rattle.ce_model.specs.Trace.{NodeRecord, Standing, items_to}
 use Rattle.ce_model.specs.Answers.{is_among, kill_found, offer_of, first_number, answer}
 use Rattle.ce_model.specs.Saying.{says}
@@ -33,19 +33,19 @@ use Rattle.ce_solo.proofs.HostSteps.{host-step}
 pub node-step : (cube : Cube) (s : CubeState) (r : ℕ) (call : Call) → IsCube cube → r < 2 ^ cube.dim → IsSound cube s → HasMadeCall (s.node r) (says (s.node r)).node call
     → IsSound cube (state_after cube s (entry_in cube s r call))
 unfolding answer
-node-step cube s r (takes asking dead poller) of below sound said = takes-acts cube s r of below sound asking dead poller said
-node-step cube s r (sends pid to bytes) of below sound said = sends-acts cube s r of below sound pid to bytes said
-node-step cube s r (spawns pid image to) of below sound said =
-    spawned-acts cube s r of below sound pid image to (not (is_among to.pid (s.standing.node_record to.node).spawned)) refl
+node-step cube s r (take_call asking dead poller) of below sound said = takes-acts cube s r of below sound asking dead poller said
+node-step cube s r (send_call pid to bytes) of below sound said = sends-acts cube s r of below sound pid to bytes said
+node-step cube s r (spawn_call pid image to) of below sound said =
+    spawned-acts cube s r of below sound pid image to (not (is_among to.pid (s.standing.node_record to.node).spawned_ids)) refl
     (subst (λ dim. is_place dim to ≡ true) (said.became.dim ∙ (sound.nodes r below).dim) said.of_node.1)
     (subst (λ images. image < images) (said.became.images ∙ (sound.nodes r below).images) said.of_node.0) said
-node-step cube s r (kills pid to) of below sound said =
+node-step cube s r (kill_call pid to) of below sound said =
     killed-acts cube s r of below sound pid to (kill_found (s.standing.node_record to.node) to.pid) refl
     (subst (λ dim. is_place dim to ≡ true) (said.became.dim ∙ (sound.nodes r below).dim) said.of_node) said
-node-step cube s r (notes pid word) of below sound said = notes-acts cube s r of below sound pid word said
-node-step cube s r (arms count) of below sound said = absurd said.of_node
-node-step cube s r looks of below sound said = absurd said.of_node
-node-step cube s r takes_mail of below sound said = absurd said.of_node
+node-step cube s r (note_call pid word) of below sound said = notes-acts cube s r of below sound pid word said
+node-step cube s r (arm_call count) of below sound said = absurd said.of_node
+node-step cube s r look_call of below sound said = absurd said.of_node
+node-step cube s r mail_call of below sound said = absurd said.of_node
 
 -- the call that an actor of a cube in this state makes
 abbrev pub call_in : Cube → CubeState → ℕ → Option HostCall → Option Call
@@ -94,69 +94,69 @@ made-sound cube s actor asked call of sound (by_node below e) = node-step cube s
 
 -- an item that was never sent to the node before
 abbrev pub IsNewItem : ℕ → NodeRecord → Item → Type 0
-IsNewItem sent kept (start pid image) = is_among pid kept.spawned ≡ false
+IsNewItem sent kept (start pid image) = is_among pid kept.spawned_ids ≡ false
 IsNewItem sent kept (mail parcel) = sent ≤ parcel.number
-IsNewItem sent kept (kill pid) = is_among pid kept.killed ≡ false
+IsNewItem sent kept (kill pid) = is_among pid kept.killed_ids ≡ false
 
 new_mails : (sent : ℕ) (kept : NodeRecord) (ps : List Parcel) → AllByRecursion (λ (p : Parcel). sent ≤ p.number) ps → AllByRecursion (IsNewItem sent kept) (map mail ps)
 new_mails sent kept [] all = tt
 new_mails sent kept (p ∷ ps) all = (all.0, new_mails sent kept ps all.1)
 
-new_start : (s : Standing) (r image : ℕ) (to : Place) (b : Bool) → (to.node == r) ≡ b → is_among to.pid (s.node_record to.node).spawned ≡ false
+new_start : (s : Standing) (r image : ℕ) (to : Place) (b : Bool) → (to.node == r) ≡ b → is_among to.pid (s.node_record to.node).spawned_ids ≡ false
     → AllByRecursion (IsNewItem s.parcel_count (s.node_record r)) ((if b then start to.pid image ∷ [] else []) ++ [])
-new_start s r image to true e fresh = (subst (λ q. is_among to.pid (s.node_record q).spawned ≡ false) (eqb-true to.node r e) fresh, tt)
+new_start s r image to true e fresh = (subst (λ q. is_among to.pid (s.node_record q).spawned_ids ≡ false) (eqb-true to.node r e) fresh, tt)
 new_start s r image to false e fresh = tt
 
-new_kill : (s : Standing) (r : ℕ) (to : Place) (b : Bool) → (to.node == r) ≡ b → is_among to.pid (s.node_record to.node).killed ≡ false
+new_kill : (s : Standing) (r : ℕ) (to : Place) (b : Bool) → (to.node == r) ≡ b → is_among to.pid (s.node_record to.node).killed_ids ≡ false
     → AllByRecursion (IsNewItem s.parcel_count (s.node_record r)) ((if b then kill to.pid ∷ [] else []) ++ [])
-new_kill s r to true e fresh = (subst (λ q. is_among to.pid (s.node_record q).killed ≡ false) (eqb-true to.node r e) fresh, tt)
+new_kill s r to true e fresh = (subst (λ q. is_among to.pid (s.node_record q).killed_ids ≡ false) (eqb-true to.node r e) fresh, tt)
 new_kill s r to false e fresh = tt
 
 -- an entry of these
 abbrev of_what : ℕ → ℕ → What → Entry
 of_what user actor what = record { user = user; actor = actor; what = what }
 
-new_spawn : (s : Standing) (user actor r pid image : ℕ) (to : Place) (fresh : Bool) → not (is_among to.pid (s.node_record to.node).spawned) ≡ fresh
-    → AllByRecursion (IsNewItem s.parcel_count (s.node_record r)) (items_to r (of_what user actor (Spawn pid image to fresh)))
+new_spawn : (s : Standing) (user actor r pid image : ℕ) (to : Place) (fresh : Bool) → not (is_among to.pid (s.node_record to.node).spawned_ids) ≡ fresh
+    → AllByRecursion (IsNewItem s.parcel_count (s.node_record r)) (items_to r (of_what user actor (whats.Spawn pid image to fresh)))
 new_spawn s user actor r pid image to true e = new_start s r image to (to.node == r) refl (not-true _ e)
 new_spawn s user actor r pid image to false e = tt
 
 new_killing : (s : Standing) (user actor r pid : ℕ) (to : Place) (found : KillFound) → kill_found (s.node_record to.node) to.pid ≡ found
-    → AllByRecursion (IsNewItem s.parcel_count (s.node_record r)) (items_to r (of_what user actor (Killing pid to found)))
+    → AllByRecursion (IsNewItem s.parcel_count (s.node_record r)) (items_to r (of_what user actor (whats.Kill pid to found)))
 new_killing s user actor r pid to Killed e =
-    new_kill s r to (to.node == r) refl (kill_accepted (is_among to.pid (s.node_record to.node).spawned) (is_among to.pid (s.node_record to.node).killed) e).1
+    new_kill s r to (to.node == r) refl (kill_accepted (is_among to.pid (s.node_record to.node).spawned_ids) (is_among to.pid (s.node_record to.node).killed_ids) e).1
 new_killing s user actor r pid to Unused e = tt
 new_killing s user actor r pid to Already e = tt
 
 pub items-new : (cube : Cube) (s : CubeState) (actor r : ℕ) (call : Call)
     → AllByRecursion (IsNewItem s.standing.parcel_count (s.standing.node_record r)) (items_to r (entry_in cube s actor call))
 unfolding answer
-items-new cube s actor r (takes asking dead poller) = tt
-items-new cube s actor r (sends pid to bytes) =
+items-new cube s actor r (take_call asking dead poller) = tt
+items-new cube s actor r (send_call pid to bytes) =
     let from : Place = record { node = actor; pid = pid } in
-    let ps = parcels_from from s.standing.parcel_count bytes to in
+    let ps = message_parcels from s.standing.parcel_count bytes to in
     new_mails s.standing.parcel_count (s.standing.node_record r) (to_node r ps)
     (all-filter (λ (p : Parcel). s.standing.parcel_count ≤ p.number) (λ p. p.to.node == r) ps (from-count from bytes s.standing.parcel_count to))
-items-new cube s actor r (spawns pid image to) =
-    new_spawn s.standing cube.user actor r pid image to (not (is_among to.pid (s.standing.node_record to.node).spawned)) refl
-items-new cube s actor r (kills pid to) = new_killing s.standing cube.user actor r pid to (kill_found (s.standing.node_record to.node) to.pid) refl
-items-new cube s actor r (notes pid word) = tt
-items-new cube s actor r (arms count) = tt
-items-new cube s actor r looks = tt
-items-new cube s actor r takes_mail = tt
+items-new cube s actor r (spawn_call pid image to) =
+    new_spawn s.standing cube.user actor r pid image to (not (is_among to.pid (s.standing.node_record to.node).spawned_ids)) refl
+items-new cube s actor r (kill_call pid to) = new_killing s.standing cube.user actor r pid to (kill_found (s.standing.node_record to.node) to.pid) refl
+items-new cube s actor r (note_call pid word) = tt
+items-new cube s actor r (arm_call count) = tt
+items-new cube s actor r look_call = tt
+items-new cube s actor r mail_call = tt
 
 -- ---- what an entry takes is known
 
 -- an item that was taken had been sent to the node
 abbrev pub IsKnown : ℕ → NodeRecord → TakeResult → Type 0
-IsKnown sent kept (Start pid image) = is_among pid kept.spawned ≡ true
+IsKnown sent kept (Start pid image) = is_among pid kept.spawned_ids ≡ true
 IsKnown sent kept (Mail pid number) = number < sent
-IsKnown sent kept (Kill pid) = is_among pid kept.killed ≡ true
+IsKnown sent kept (Kill pid) = is_among pid kept.killed_ids ≡ true
 IsKnown sent kept other = Unit {0}
 
 new-unnamed : (sent : ℕ) (kept : NodeRecord) (given : TakeResult) (item : Item) → IsKnown sent kept given → IsNewItem sent kept item → is_named_by given item ≡ false
 new-unnamed sent kept (Start pid image) (start pid' image') known new =
-    ne_eqb pid pid' (λ e. both_ways _ new (subst (λ p. is_among p kept.spawned ≡ true) e known))
+    ne_eqb pid pid' (λ e. both_ways _ new (subst (λ p. is_among p kept.spawned_ids ≡ true) e known))
 new-unnamed sent kept (Start pid image) (mail parcel) known new = refl
 new-unnamed sent kept (Start pid image) (kill pid') known new = refl
 new-unnamed sent kept (Mail pid number) (start pid' image') known new = refl
@@ -164,7 +164,7 @@ new-unnamed sent kept (Mail pid number) (mail parcel) known new = ne_eqb number 
 new-unnamed sent kept (Mail pid number) (kill pid') known new = refl
 new-unnamed sent kept (Kill pid) (start pid' image') known new = refl
 new-unnamed sent kept (Kill pid) (mail parcel) known new = refl
-new-unnamed sent kept (Kill pid) (kill pid') known new = ne_eqb pid pid' (λ e. both_ways _ new (subst (λ p. is_among p kept.killed ≡ true) e known))
+new-unnamed sent kept (Kill pid) (kill pid') known new = ne_eqb pid pid' (λ e. both_ways _ new (subst (λ p. is_among p kept.killed_ids ≡ true) e known))
 new-unnamed sent kept (Poll pid) item known new = refl
 new-unnamed sent kept Idle item known new = refl
 new-unnamed sent kept Spent item known new = refl
@@ -187,14 +187,14 @@ takes_none false given e = cc
 pub taking-sends_none : (cube : Cube) (s : CubeState) (actor r : ℕ) (call : Call) (given : TakeResult) → taken_for r (entry_in cube s actor call) ≡ Some given
     → items_to r (entry_in cube s actor call) ≡ []
 unfolding answer
-taking-sends_none cube s actor r (takes asking dead poller) given e = refl
-taking-sends_none cube s actor r (sends pid to bytes) given e = absurd (takes_none (actor == r) given e)
-taking-sends_none cube s actor r (spawns pid image to) given e = absurd (takes_none (actor == r) given e)
-taking-sends_none cube s actor r (kills pid to) given e = absurd (takes_none (actor == r) given e)
-taking-sends_none cube s actor r (notes pid word) given e = refl
-taking-sends_none cube s actor r (arms count) given e = refl
-taking-sends_none cube s actor r looks given e = refl
-taking-sends_none cube s actor r takes_mail given e = refl
+taking-sends_none cube s actor r (take_call asking dead poller) given e = refl
+taking-sends_none cube s actor r (send_call pid to bytes) given e = absurd (takes_none (actor == r) given e)
+taking-sends_none cube s actor r (spawn_call pid image to) given e = absurd (takes_none (actor == r) given e)
+taking-sends_none cube s actor r (kill_call pid to) given e = absurd (takes_none (actor == r) given e)
+taking-sends_none cube s actor r (note_call pid word) given e = refl
+taking-sends_none cube s actor r (arm_call count) given e = refl
+taking-sends_none cube s actor r look_call given e = refl
+taking-sends_none cube s actor r mail_call given e = refl
 
 pub known_items : (cube : Cube) (sent r : ℕ) (kept : NodeRecord) (items : List Item) → AllByRecursion (IsItemOf cube r kept) items → AllByRecursion (λ n. n < sent) (numbers_of items)
     → AllByRecursion (λ item. IsKnown sent kept (given_as item)) items

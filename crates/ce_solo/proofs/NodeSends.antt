@@ -6,12 +6,12 @@ use Rattle.ce_model.specs.declared.topology.Place.{Place}
 use Rattle.ce_model.specs.declared.topology.BlockId.{BlockId}
 use Rattle.ce_model.specs.declared.entry.What.{What}
 use Rattle.ce_model.specs.declared.entry.What.TheVariants.{Send}
-use Rattle.ce_model.specs.Parcels.{Parcel, mail, parcels_from}
-use Rattle.ce_model.specs.Node.{Node, is_place, is_host_place, sends}
+use Rattle.ce_model.specs.Parcels.{Parcel, mail, message_parcels}
+use Rattle.ce_model.specs.Node.{Node, is_place, is_host_place, send_call}
 use Rattle.ce_model.specs.Kernel.{is_target}
-use Rattle.ce_model.specs.Trace.{Mark, marked_by}
+use Rattle.ce_model.specs.Trace.{Mark, mark_after}
 use Rattle.ce_model.specs.Saying.{says}
-use Rattle.ce_model.specs.Hearing.{told, hears}
+use Rattle.ce_model.specs.Hearing.{answer_of, node_after_hearing}
 use Rattle.ce_model.specs.Cube.{Cube, CubeState, IsCube}
 use Rattle.ce_model.specs.Sound.{IsSound}
 use Rattle.ce_solo.proofs.Counting.{count, count-nil, count-append, sum_run-at}
@@ -38,14 +38,14 @@ module _ (cube : Cube) (s : CubeState) (r : ℕ) (of : IsCube cube) (below : r <
   now = (says (s.node r)).node
 
   abbrev ps : List Parcel
-  ps = parcels_from (record { node = r; pid = pid }) s.standing.parcel_count bytes to
+  ps = message_parcels (record { node = r; pid = pid }) s.standing.parcel_count bytes to
 
   abbrev what : What
   what = Send pid s.standing.parcel_count to bytes
 
   -- the blocks that the call takes out of its own node
   abbrev gone : BlockId → ℕ → ℕ
-  gone id q = if r == q then count id (call_ids (sends pid to bytes)) else 0
+  gone id q = if r == q then count id (call_ids (send_call pid to bytes)) else 0
 
   abbrev come : BlockId → ℕ → ℕ
   come id q = count id (sent_ids (to_node q ps))
@@ -56,41 +56,41 @@ module _ (cube : Cube) (s : CubeState) (r : ℕ) (of : IsCube cube) (below : r <
   sends-other : (b : Bool) → b ≡ false → (n : ℕ) → (if b then n else 0) ≡ 0
   sends-other b f n = ap {B = ℕ} (λ b. if b then n else 0) f
 
-  pub sends-acts : HasMadeCall (s.node r) now (sends pid to bytes) → IsSound cube (state_after cube s (record { user = cube.user; actor = r; what = what }))
+  pub sends-acts : HasMadeCall (s.node r) now (send_call pid to bytes) → IsSound cube (state_after cube s (record { user = cube.user; actor = r; what = what }))
   sends-acts said =
       let same : now.dim ≡ cube.dim = said.became.dim ∙ (sound.nodes r below).dim in
       let are = are_sent cube (record { node = r; pid = pid }) s.standing.parcel_count bytes to
       (all-weaker (λ (target : Place × BlockId). is_target now target.0 ≡ true) (λ target. IsTargetOf cube target.0) to (λ target h. target_of cube now target.0 same h) said.of_node) in
       let sent' = s.standing.parcel_count + length ps in
       let keeps : (q : ℕ) (mark : Mark) → q < 2 ^ cube.dim
-      → HasStayedSound cube sent' q (s.standing.node_record q) (kept_with (joined (s.standing.node_record q).waiting (map mail (to_node q ps))) (s.standing.node_record q).spawned (s.standing.node_record q).killed mark) (sent_ids (to_node q ps)) [] =
+      → HasStayedSound cube sent' q (s.standing.node_record q) (kept_with (joined (s.standing.node_record q).waiting_items (map mail (to_node q ps))) (s.standing.node_record q).spawned_ids (s.standing.node_record q).killed_ids mark) (sent_ids (to_node q ps)) [] =
       λ q mark within. keeps-mails cube s.standing.parcel_count sent' q (s.standing.node_record q) mark (to_node q ps) are.more (sound.records q within) (sent-new cube s.standing.parcel_count sent' ps of are q within) in
       let heard = told-hears cube.images now 0 said.became.well said.turn in
-      let node = hears cube.images now (told 0) in
-      let mine = keeps r (marked_by (s.standing.node_record r).mark what) below in
+      let node = node_after_hearing cube.images now (answer_of 0) in
+      let mine = keeps r (mark_after (s.standing.node_record r).mark what) below in
       let both = became-then said.became heard.became in
       node-acts cube s r what come gone of below sound (record {
         others = λ q within differ.
             idle-goes cube sent' q (s.standing.node_record q) (record_by false q (record { user = cube.user; actor = r; what = what }) (s.standing.node_record q)) (s.node q) (sent_ids (to_node q ps))
-            (λ id. gone id q) (sound.nodes q within) (λ id. sends-other (r == q) (ne_eqb r q differ) (count id (call_ids (sends pid to bytes)))) (keeps q (s.standing.node_record q).mark within);
+            (λ id. gone id q) (sound.nodes q within) (λ id. sends-other (r == q) (ne_eqb r q differ) (count id (call_ids (send_call pid to bytes)))) (keeps q (s.standing.node_record q).mark within);
         own = record {
           record_sound = mine.sound;
-          node_sound = sound_node-became cube (s.standing.node_record r) (record_by true r (record { user = cube.user; actor = r; what = what }) (s.standing.node_record r)) r (s.node r) node [] (call_ids (sends pid to bytes) ++ []) (sound.nodes r below) mine.births both heard.turn;
-          blocks = λ id. omega (arith, mine.parcels id, both.blocks id, count-nil id, count-append id (call_ids (sends pid to bytes)) [], sends-own (r == r) (eq-eqb r r refl) (count id (call_ids (sends pid to bytes))));
+          node_sound = sound_node-became cube (s.standing.node_record r) (record_by true r (record { user = cube.user; actor = r; what = what }) (s.standing.node_record r)) r (s.node r) node [] (call_ids (send_call pid to bytes) ++ []) (sound.nodes r below) mine.births both heard.turn;
+          blocks = λ id. omega (arith, mine.parcels id, both.blocks id, count-nil id, count-append id (call_ids (send_call pid to bytes)) [], sends-own (r == r) (eq-eqb r r refl) (count id (call_ids (send_call pid to bytes))));
         };
-        host = sent-host cube s.standing.parcel_count sent' ps of are (s.standing.node_record HOST).waiting sound.host;
+        host = sent-host cube s.standing.parcel_count sent' ps of are (s.standing.node_record HOST).waiting_items sound.host;
         balance = λ id.
             let sum = sent-sum cube id ps of are.targets in
-            let left = sum_run-at (gone id) r 0 (2 ^ cube.dim) (omega arith) (omega arith) (λ k differ. sends-other (r == k) (ne_eqb r k (λ e. differ (sym e))) (count id (call_ids (sends pid to bytes)))) in
+            let left = sum_run-at (gone id) r 0 (2 ^ cube.dim) (omega arith) (omega arith) (λ k differ. sends-other (r == k) (ne_eqb r k (λ e. differ (sym e))) (count id (call_ids (send_call pid to bytes)))) in
             omega (
               arith,
               sum,
               left,
-              sends-own (r == r) (eq-eqb r r refl) (count id (call_ids (sends pid to bytes))),
+              sends-own (r == r) (eq-eqb r r refl) (count id (call_ids (send_call pid to bytes))),
               ap (count id) (from-ids (record { node = r; pid = pid }) bytes s.standing.parcel_count to),
-              ap (λ items. count id (parcel_ids items)) (joined-is (s.standing.node_record HOST).waiting (map mail (to_node HOST ps))),
-              ap (count id) (mails-ids (s.standing.node_record HOST).waiting (to_node HOST ps)),
-              count-append id (parcel_ids (s.standing.node_record HOST).waiting) (sent_ids (to_node HOST ps)),
+              ap (λ items. count id (parcel_ids items)) (joined-is (s.standing.node_record HOST).waiting_items (map mail (to_node HOST ps))),
+              ap (count id) (mails-ids (s.standing.node_record HOST).waiting_items (to_node HOST ps)),
+              count-append id (parcel_ids (s.standing.node_record HOST).waiting_items) (sent_ids (to_node HOST ps)),
             );
         dispatches = sound.dispatches;
       })

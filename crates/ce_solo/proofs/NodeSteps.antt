@@ -10,8 +10,8 @@ use Rattle.ce_model.specs.declared.entry.What.TheVariants.{Spawn, Kill, Note}
 use Rattle.ce_model.specs.declared.entry.KillFound.{KillFound}
 use Rattle.ce_model.specs.declared.entry.KillFound.TheVariants.{Killed, Unused, Already}
 use Rattle.ce_model.specs.Parcels.{Item, start, kill}
-use Rattle.ce_model.specs.Node.{Node, blocks_of, is_place, spawns, kills, notes}
-use Rattle.ce_model.specs.Trace.{Mark, NodeRecord, armed_by, dispatched_by}
+use Rattle.ce_model.specs.Node.{Node, blocks_of, is_place, spawn_call, kill_call, note_call}
+use Rattle.ce_model.specs.Trace.{Mark, NodeRecord, allowed_dispatches_after, made_dispatches_after}
 use Rattle.ce_model.specs.Answers.{is_among, kill_found}
 use Rattle.ce_model.specs.Saying.{says}
 use Rattle.ce_model.specs.Cube.{Cube, CubeState, IsCube}
@@ -54,7 +54,7 @@ module _ (cube : Cube) (s : CubeState) (r : ℕ) (of : IsCube cube) (below : r <
   abbrev entry_of : What → Entry
   entry_of what = record { user = cube.user; actor = r; what = what }
 
-  pub once_here : (id : BlockId) → count id (blocks_of (s.node r)) + count id (parcel_ids (kept_at r).waiting) ≤ 1
+  pub once_here : (id : BlockId) → count id (blocks_of (s.node r)) + count id (parcel_ids (kept_at r).waiting_items) ≤ 1
   once_here id = omega (arith, at_node-is id s r, at_node-le cube s r id sound below)
 
   pub node-said : IsSaid (s.node r) (says (s.node r))
@@ -74,7 +74,7 @@ module _ (cube : Cube) (s : CubeState) (r : ℕ) (of : IsCube cube) (below : r <
 
   -- an entry that moves no block
   quiet-acts : (what : What) → ((own : Bool) (q : ℕ) → q < 2 ^ cube.dim → HasStayedSound cube (sent_by s r what) q (kept_at q) (record_by own q (entry_of what) (kept_at q)) [] [])
-      → (record_by false HOST (entry_of what) (kept_at HOST)).waiting ≡ (kept_at HOST).waiting → dispatched_by s.standing.dispatched what ≤ armed_by s.standing.armed what
+      → (record_by false HOST (entry_of what) (kept_at HOST)).waiting_items ≡ (kept_at HOST).waiting_items → made_dispatches_after s.standing.made_dispatches what ≤ allowed_dispatches_after s.standing.allowed_dispatches what
       → HasBecome (now).turn (s.node r) now [] [] → HasHeardAnswer now (node_by true cube s r (entry_of what)) []
       → IsNodeAct cube s r what (λ id q. count id []) (λ id q. count id [])
   quiet-acts what keeps no_mail dispatches said heard = record {
@@ -84,7 +84,7 @@ module _ (cube : Cube) (s : CubeState) (r : ℕ) (of : IsCube cube) (below : r <
       node_sound = node_quiet (node_by true cube s r (entry_of what)) [] (record_by true r (entry_of what) (kept_at r)) said heard (keeps true r below).births;
       blocks = λ id. omega (arith, (keeps true r below).parcels id, blocks_quiet (node_by true cube s r (entry_of what)) [] said heard id, count-nil id);
     };
-    host = subst (IsSoundHost (sent_by s r what)) (sym no_mail) (host-more s.standing.parcel_count (sent_by s r what) (kept_at HOST).waiting (omega arith) sound.host);
+    host = subst (IsSoundHost (sent_by s r what)) (sym no_mail) (host-more s.standing.parcel_count (sent_by s r what) (kept_at HOST).waiting_items (omega arith) sound.host);
     balance = λ id. omega (arith, ap (λ items. count id (parcel_ids items)) no_mail);
     dispatches = dispatches;
   }
@@ -93,7 +93,7 @@ module _ (cube : Cube) (s : CubeState) (r : ℕ) (of : IsCube cube) (below : r <
   pub quiet-step : (what : What)
       → ((q : ℕ) → q < 2 ^ cube.dim → HasStayedSound cube (sent_by s r what) q (kept_at q) (record_by true q (entry_of what) (kept_at q)) [] [])
       → ((q : ℕ) → q < 2 ^ cube.dim → HasStayedSound cube (sent_by s r what) q (kept_at q) (record_by false q (entry_of what) (kept_at q)) [] [])
-      → (record_by false HOST (entry_of what) (kept_at HOST)).waiting ≡ (kept_at HOST).waiting → dispatched_by s.standing.dispatched what ≤ armed_by s.standing.armed what
+      → (record_by false HOST (entry_of what) (kept_at HOST)).waiting_items ≡ (kept_at HOST).waiting_items → made_dispatches_after s.standing.made_dispatches what ≤ allowed_dispatches_after s.standing.allowed_dispatches what
       → HasBecome (now).turn (s.node r) now [] [] → HasHeardAnswer now (node_by true cube s r (entry_of what)) [] → IsSound cube (state_after cube s (entry_of what))
   quiet-step what own others no_mail dispatches said heard =
       node-acts cube s r what (λ id q. count id []) (λ id q. count id []) of below sound
@@ -103,37 +103,37 @@ module _ (cube : Cube) (s : CubeState) (r : ℕ) (of : IsCube cube) (below : r <
 
   -- what is kept for a node of which an entry says nothing
   pub plain_keeps : (q : ℕ) (mark : Mark) → q < 2 ^ cube.dim
-      → HasStayedSound cube (s.standing.parcel_count + 0) q (kept_at q) (kept_with (kept_at q).waiting (kept_at q).spawned (kept_at q).killed mark) [] []
+      → HasStayedSound cube (s.standing.parcel_count + 0) q (kept_at q) (kept_with (kept_at q).waiting_items (kept_at q).spawned_ids (kept_at q).killed_ids mark) [] []
   plain_keeps q mark within = keeps-same cube s.standing.parcel_count (s.standing.parcel_count + 0) q (kept_at q) mark (omega arith) (sound.records q within)
 
   -- ---- notes
 
-  pub notes-acts : (pid word : ℕ) → HasMadeCall (s.node r) now (notes pid word) → IsSound cube (state_after cube s (entry_of (Note pid word)))
+  pub notes-acts : (pid word : ℕ) → HasMadeCall (s.node r) now (note_call pid word) → IsSound cube (state_after cube s (entry_of (Note pid word)))
   notes-acts pid word said =
       quiet-step (Note pid word) (λ q within. plain_keeps q _ within) (λ q within. plain_keeps q _ within)
       refl sound.dispatches said.became (nothing-hears cube.images now said.became.well said.turn)
 
   -- ---- spawns
 
-  pub spawned-acts : (pid image : ℕ) (to : Place) (fresh : Bool) → not (is_among to.pid (kept_at to.node).spawned) ≡ fresh → is_place cube.dim to ≡ true
-      → image < length cube.images → HasMadeCall (s.node r) now (spawns pid image to) → IsSound cube (state_after cube s (entry_of (Spawn pid image to fresh)))
+  pub spawned-acts : (pid image : ℕ) (to : Place) (fresh : Bool) → not (is_among to.pid (kept_at to.node).spawned_ids) ≡ fresh → is_place cube.dim to ≡ true
+      → image < length cube.images → HasMadeCall (s.node r) now (spawn_call pid image to) → IsSound cube (state_after cube s (entry_of (Spawn pid image to fresh)))
   spawned-acts pid image to false e place of_cube said =
       quiet-step (Spawn pid image to false) (λ q within. plain_keeps q _ within) (λ q within. plain_keeps q _ within)
       refl sound.dispatches said.became (told-hears cube.images now 2 said.became.well said.turn)
   spawned-acts pid image to true e place of_cube said =
       let parts = place_parts cube.dim to place in
-      let fresh : (q : ℕ) → (to.node == q) ≡ true → is_among to.pid (kept_at q).spawned ≡ false =
-      λ q t. subst (λ q. is_among to.pid (kept_at q).spawned ≡ false) (eqb-true to.node q t) (not-true _ e) in
+      let fresh : (q : ℕ) → (to.node == q) ≡ true → is_among to.pid (kept_at q).spawned_ids ≡ false =
+      λ q t. subst (λ q. is_among to.pid (kept_at q).spawned_ids ≡ false) (eqb-true to.node q t) (not-true _ e) in
       quiet-step (Spawn pid image to true)
       (λ q within. start-keeps cube s.standing.parcel_count q image to (kept_at q) _ (to.node == q) (sound.records q within) (fresh q) parts.1 of_cube)
       (λ q within. start-keeps cube s.standing.parcel_count q image to (kept_at q) _ (to.node == q) (sound.records q within) (fresh q) parts.1 of_cube)
-      (ap (λ b. joined (kept_at HOST).waiting ((if b then start to.pid image ∷ [] else []) ++ [])) (ne_eqb to.node HOST (λ e. omega (arith, not_host cube to.node of parts.0))))
+      (ap (λ b. joined (kept_at HOST).waiting_items ((if b then start to.pid image ∷ [] else []) ++ [])) (ne_eqb to.node HOST (λ e. omega (arith, not_host cube to.node of parts.0))))
       sound.dispatches said.became (told-hears cube.images now 0 said.became.well said.turn)
 
   -- ---- kills
 
   pub killed-acts : (pid : ℕ) (to : Place) (found : KillFound) → kill_found (kept_at to.node) to.pid ≡ found → is_place cube.dim to ≡ true
-      → HasMadeCall (s.node r) now (kills pid to) → IsSound cube (state_after cube s (entry_of (Kill pid to found)))
+      → HasMadeCall (s.node r) now (kill_call pid to) → IsSound cube (state_after cube s (entry_of (Kill pid to found)))
   killed-acts pid to Unused e place said =
       quiet-step (Kill pid to Unused) (λ q within. plain_keeps q _ within) (λ q within. plain_keeps q _ within)
       refl sound.dispatches said.became (told-hears cube.images now 2 said.became.well said.turn)
@@ -142,13 +142,13 @@ module _ (cube : Cube) (s : CubeState) (r : ℕ) (of : IsCube cube) (below : r <
       refl sound.dispatches said.became (told-hears cube.images now 3 said.became.well said.turn)
   killed-acts pid to Killed e place said =
       let parts = place_parts cube.dim to place in
-      let found = kill_accepted (is_among to.pid (kept_at to.node).spawned) (is_among to.pid (kept_at to.node).killed) e in
-      let known : (q : ℕ) → (to.node == q) ≡ true → is_among to.pid (kept_at q).spawned ≡ true =
-      λ q t. subst (λ q. is_among to.pid (kept_at q).spawned ≡ true) (eqb-true to.node q t) found.0 in
-      let fresh : (q : ℕ) → (to.node == q) ≡ true → is_among to.pid (kept_at q).killed ≡ false =
-      λ q t. subst (λ q. is_among to.pid (kept_at q).killed ≡ false) (eqb-true to.node q t) found.1 in
+      let found = kill_accepted (is_among to.pid (kept_at to.node).spawned_ids) (is_among to.pid (kept_at to.node).killed_ids) e in
+      let known : (q : ℕ) → (to.node == q) ≡ true → is_among to.pid (kept_at q).spawned_ids ≡ true =
+      λ q t. subst (λ q. is_among to.pid (kept_at q).spawned_ids ≡ true) (eqb-true to.node q t) found.0 in
+      let fresh : (q : ℕ) → (to.node == q) ≡ true → is_among to.pid (kept_at q).killed_ids ≡ false =
+      λ q t. subst (λ q. is_among to.pid (kept_at q).killed_ids ≡ false) (eqb-true to.node q t) found.1 in
       quiet-step (Kill pid to Killed)
       (λ q within. kill-keeps cube s.standing.parcel_count q to (kept_at q) _ (to.node == q) (sound.records q within) (known q) (fresh q))
       (λ q within. kill-keeps cube s.standing.parcel_count q to (kept_at q) _ (to.node == q) (sound.records q within) (known q) (fresh q))
-      (ap (λ b. joined (kept_at HOST).waiting ((if b then kill to.pid ∷ [] else []) ++ [])) (ne_eqb to.node HOST (λ e. omega (arith, not_host cube to.node of parts.0))))
+      (ap (λ b. joined (kept_at HOST).waiting_items ((if b then kill to.pid ∷ [] else []) ++ [])) (ne_eqb to.node HOST (λ e. omega (arith, not_host cube to.node of parts.0))))
       sound.dispatches said.became (told-hears cube.images now 0 said.became.well said.turn)

@@ -13,12 +13,12 @@ use Rattle.ce_model.specs.declared.entry.TakeResult.TheVariants.{Start, Kill, Po
 use Rattle.ce_model.specs.Limits.{process_count}
 use Rattle.ce_model.specs.Parcels.{Parcel, Item, start, mail, kill, is_eligible, given_as, is_named_by, parcel_in}
 use Rattle.ce_model.specs.Process.{Process, unborn_process, is_stopped}
-use Rattle.ce_model.specs.Node.{Node, process_at, blocks_of, takes, take_of}
-use Rattle.ce_model.specs.Trace.{Mark, NodeRecord, marked_by, is_work}
+use Rattle.ce_model.specs.Node.{Node, process_at, blocks_of, take_call, take_of}
+use Rattle.ce_model.specs.Trace.{Mark, NodeRecord, mark_after, is_work}
 use Rattle.ce_model.specs.Answers.{offer_of, is_used_up}
 use Rattle.ce_model.specs.Saying.{says}
-use Rattle.ce_model.specs.Hearing.{hears}
-use Rattle.ce_model.specs.Cube.{Cube, CubeState, IsCube, parcel_numbered, heard_parcel}
+use Rattle.ce_model.specs.Hearing.{node_after_hearing}
+use Rattle.ce_model.specs.Cube.{Cube, CubeState, IsCube, parcel_numbered, hearing_of_parcel}
 use Rattle.ce_model.specs.Sound.{is_unborn, is_polling, is_start_of, IsSoundNode, IsSoundRecord, IsSound}
 use Rattle.ce_solo.proofs.Counting.{count, count-nil}
 use Rattle.ce_solo.proofs.Items.{parcel_ids}
@@ -46,11 +46,11 @@ polling_is Polling h = (refl, refl)
 polling_is (Stopped cause) h = absurd (both_ways _ refl h)
 
 -- a process that is first among those that poll polls
-pub poller-polls : (node : Node) (pid : ℕ) → IsWell None node → slice_get node.polling 0 ≡ Some pid → is_polling (process_at node pid).status ≡ true
+pub poller-polls : (node : Node) (pid : ℕ) → IsWell None node → slice_get node.polling_ids 0 ≡ Some pid → is_polling (process_at node pid).status ≡ true
 poller-polls node pid well e =
     elim (cases_Bool (is_polling (process_at node pid).status)) [
       | inl t ↦ t
-      | inr f ↦ absurd (omega (arith, first-polls pid node.polling e, well.polling pid, one_if-false (is_polling (process_at node pid).status) f))
+      | inr f ↦ absurd (omega (arith, first-polls pid node.polling_ids e, well.polling_ids pid, one_if-false (is_polling (process_at node pid).status) f))
     ]
 
 pub poller-within : (node : Node) (pid : ℕ) → IsWell None node → is_polling (process_at node pid).status ≡ true → pid < process_count
@@ -62,7 +62,7 @@ poller-within node pid well h =
 
 -- ---- a Take
 
-module _ (cube : Cube) (s : CubeState) (r : ℕ) (of : IsCube cube) (below : r < 2 ^ cube.dim) (sound : IsSound cube s) (asking dead : ℕ) (poller : Option ℕ) (said : HasMadeCall (s.node r) (says (s.node r)).node (takes asking dead poller)) where
+module _ (cube : Cube) (s : CubeState) (r : ℕ) (of : IsCube cube) (below : r < 2 ^ cube.dim) (sound : IsSound cube s) (asking dead : ℕ) (poller : Option ℕ) (said : HasMadeCall (s.node r) (says (s.node r)).node (take_call asking dead poller)) where
   abbrev now : Node
   now = (says (s.node r)).node
 
@@ -76,7 +76,7 @@ module _ (cube : Cube) (s : CubeState) (r : ℕ) (of : IsCube cube) (below : r <
   now_well = subst (λ turn. IsWell turn now) said.of_node.1 said.became.well
 
   abbrev mark_of : TakeResult → Mark
-  mark_of given = marked_by kept.mark (Take asking dead poller given)
+  mark_of given = mark_after kept.mark (Take asking dead poller given)
 
   plain_given : (given : TakeResult) → IsNodeAct cube s r (Take asking dead poller given) (λ id q. count id []) (λ id q. count id []) → IsSound cube (state_after cube s (entry_of given))
   plain_given given acts = node-acts cube s r (Take asking dead poller given) (λ id q. count id []) (λ id q. count id []) of below sound acts
@@ -92,10 +92,10 @@ module _ (cube : Cube) (s : CubeState) (r : ℕ) (of : IsCube cube) (below : r <
       refl sound.dispatches said.became (nothing-hears cube.images now said.became.well said.turn)
 
   -- one dispatch more is allowed
-  one_more : is_used_up s.standing ≡ false → s.standing.dispatched + 1 ≤ s.standing.armed
-  one_more room = elim (cases_eq s.standing.dispatched s.standing.armed) [
-    | inl same ↦ absurd (both_ways _ room (eq-eqb s.standing.dispatched s.standing.armed same))
-    | inr differ ↦ elim (cases_lt s.standing.dispatched s.standing.armed) [
+  one_more : is_used_up s.standing ≡ false → s.standing.made_dispatches + 1 ≤ s.standing.allowed_dispatches
+  one_more room = elim (cases_eq s.standing.made_dispatches s.standing.allowed_dispatches) [
+    | inl same ↦ absurd (both_ways _ room (eq-eqb s.standing.made_dispatches s.standing.allowed_dispatches same))
+    | inr differ ↦ elim (cases_lt s.standing.made_dispatches s.standing.allowed_dispatches) [
       | inl less ↦ omega (arith, less)
       | inr more ↦ absurd (differ (omega (arith, more, sound.dispatches)))
     ]
@@ -103,53 +103,53 @@ module _ (cube : Cube) (s : CubeState) (r : ℕ) (of : IsCube cube) (below : r <
 
   poll-acts : (pid : ℕ) → poller ≡ Some pid → is_used_up s.standing ≡ false → IsSound cube (state_after cube s (entry_of (Poll pid)))
   poll-acts pid e room =
-      let at : slice_get (now).polling 0 ≡ Some pid = sym (take_poller (now) said.of_node.0) ∙ e in
+      let at : slice_get (now).polling_ids 0 ≡ Some pid = sym (take_poller (now) said.of_node.0) ∙ e in
       let polls = poller-polls now pid now_well at in
       let is = polling_is (process_at now pid).status polls in
       quiet-step cube s r of below sound (Take asking dead poller (Poll pid)) (λ q within. plain_keeps cube s r of below sound q _ within) (λ q within. plain_keeps cube s r of below sound q _ within)
       refl (one_more room) said.became (poll-hears cube.images now pid now_well (poller-within now pid now_well polls) is.0 is.1)
     where
-      take_poller : (node : Node) → takes asking dead poller ≡ take_of node → poller ≡ slice_get node.polling 0
-      take_poller node same = ap (λ call. elim call [ takes a d q ↦ q | other ↦ None ]) same
+      take_poller : (node : Node) → take_call asking dead poller ≡ take_of node → poller ≡ slice_get node.polling_ids 0
+      take_poller node same = ap (λ call. elim call [ take_call a d q ↦ q | other ↦ None ]) same
 
   -- ---- an item is given
 
   -- a Take is put together from what it makes of its own node
   given-acts : (given : TakeResult)
       → IsNodeStep cube (s.standing.parcel_count + 0) r kept (record_by true r (entry_of given) kept) (s.node r) (node_by true cube s r (entry_of given)) (λ id. count id []) (λ id. count id [])
-      → (if is_work given then s.standing.dispatched + 1 else s.standing.dispatched) ≤ s.standing.armed → IsSound cube (state_after cube s (entry_of given))
+      → (if is_work given then s.standing.made_dispatches + 1 else s.standing.made_dispatches) ≤ s.standing.allowed_dispatches → IsSound cube (state_after cube s (entry_of given))
   given-acts given own dispatches =
       plain_given given (record {
         others = λ q within differ.
             idle-goes cube (s.standing.parcel_count + 0) q (s.standing.node_record q) (record_by false q (entry_of given) (s.standing.node_record q)) (s.node q) [] (λ id. count id [])
             (sound.nodes q within) count-nil (plain_keeps cube s r of below sound q (s.standing.node_record q).mark within);
         own = own;
-        host = host-more s.standing.parcel_count (s.standing.parcel_count + 0) (s.standing.node_record HOST).waiting (omega arith) sound.host;
+        host = host-more s.standing.parcel_count (s.standing.parcel_count + 0) (s.standing.node_record HOST).waiting_items (omega arith) sound.host;
         balance = λ id. omega arith;
         dispatches = dispatches;
       })
 
   -- what is kept once an item is taken, and the node that heard of it
   item-goes : (item : Item) (mark : Mark) (node : Node)
-      → HasTakenItem cube s.standing.parcel_count r asking dead kept (kept_with (without_named item kept.waiting) kept.spawned kept.killed mark) item
-      → IsSoundNode cube (kept_with (without_named item kept.waiting) kept.spawned kept.killed mark) r node
+      → HasTakenItem cube s.standing.parcel_count r asking dead kept (kept_with (without_named item kept.waiting_items) kept.spawned_ids kept.killed_ids mark) item
+      → IsSoundNode cube (kept_with (without_named item kept.waiting_items) kept.spawned_ids kept.killed_ids mark) r node
       → ((id : BlockId) → count id (blocks_of node) ≡ count id (blocks_of (s.node r)) + count id (parcel_ids (item ∷ [])))
-      → IsNodeStep cube (s.standing.parcel_count + 0) r kept (kept_with (without_named item kept.waiting) kept.spawned kept.killed mark) (s.node r) node (λ id. count id []) (λ id. count id [])
+      → IsNodeStep cube (s.standing.parcel_count + 0) r kept (kept_with (without_named item kept.waiting_items) kept.spawned_ids kept.killed_ids mark) (s.node r) node (λ id. count id []) (λ id. count id [])
   item-goes item mark node taken sound_node blocks = record {
-    record_sound = subst (λ n. IsSoundRecord cube n r (kept_with (without_named item kept.waiting) kept.spawned kept.killed mark)) (omega arith) taken.sound;
+    record_sound = subst (λ n. IsSoundRecord cube n r (kept_with (without_named item kept.waiting_items) kept.spawned_ids kept.killed_ids mark)) (omega arith) taken.sound;
     node_sound = sound_node;
     blocks = λ id. omega (arith, taken.parcels id, blocks id);
   }
 
   -- the node that has heard of an item that is no start
   heard_node : (item : Item) (mark : Mark) (node : Node) → ((pid : ℕ) → is_start_of pid item ≡ false)
-      → HasTakenItem cube s.standing.parcel_count r asking dead kept (kept_with (without_named item kept.waiting) kept.spawned kept.killed mark) item
+      → HasTakenItem cube s.standing.parcel_count r asking dead kept (kept_with (without_named item kept.waiting_items) kept.spawned_ids kept.killed_ids mark) item
       → HasHeardAnswer now node (parcel_ids (item ∷ []))
-      → IsNodeStep cube (s.standing.parcel_count + 0) r kept (kept_with (without_named item kept.waiting) kept.spawned kept.killed mark) (s.node r) node (λ id. count id []) (λ id. count id [])
+      → IsNodeStep cube (s.standing.parcel_count + 0) r kept (kept_with (without_named item kept.waiting_items) kept.spawned_ids kept.killed_ids mark) (s.node r) node (λ id. count id []) (λ id. count id [])
   heard_node item mark node no_start taken heard =
       let both = became-then said.became heard.became in
       item-goes item mark node taken
-      (sound_node-became cube kept (kept_with (without_named item kept.waiting) kept.spawned kept.killed mark) r (s.node r) node (parcel_ids (item ∷ [])) [] (sound.nodes r below)
+      (sound_node-became cube kept (kept_with (without_named item kept.waiting_items) kept.spawned_ids kept.killed_ids mark) r (s.node r) node (parcel_ids (item ∷ [])) [] (sound.nodes r below)
       (λ pid. taken.births pid (no_start pid)) both heard.turn)
       (λ id. omega (arith, both.blocks id, count-nil id))
 
@@ -158,10 +158,10 @@ module _ (cube : Cube) (s : CubeState) (r : ℕ) (of : IsCube cube) (below : r <
   birth_of pid within = said.became.unborn pid ∙ ((sound.nodes r below).processes pid within).unborn
 
   -- the numbers of the parcels found are their own
-  pub numbered_parcel : (parcel : Parcel) → find (is_named_by (given_as (mail parcel))) kept.waiting ≡ Some (mail parcel) → parcel_numbered parcel.number kept.waiting ≡ Some parcel
+  pub numbered_parcel : (parcel : Parcel) → find (is_named_by (given_as (mail parcel))) kept.waiting_items ≡ Some (mail parcel) → parcel_numbered parcel.number kept.waiting_items ≡ Some parcel
   numbered_parcel parcel found = ap (option_and_then parcel_in) found
 
-  mail-acts : (parcel : Parcel) → find (is_eligible asking dead) kept.waiting ≡ Some (mail parcel) → is_used_up s.standing ≡ false
+  mail-acts : (parcel : Parcel) → find (is_eligible asking dead) kept.waiting_items ≡ Some (mail parcel) → is_used_up s.standing ≡ false
       → IsSound cube (state_after cube s (entry_of (given_as (mail parcel))))
   mail-acts parcel found room =
       let given = given_as (mail parcel) in
@@ -171,10 +171,10 @@ module _ (cube : Cube) (s : CubeState) (r : ℕ) (of : IsCube cube) (below : r <
       let heard = mail-hears cube.images now parcel now_well said.of_node.1 taken.of_node.1 once in
       given-acts given
       (heard_node (mail parcel) (mark_of given) (node_by true cube s r (entry_of given)) (λ pid. refl) taken
-      (subst (λ found. HasHeardAnswer now (hears cube.images now (heard_parcel found)) (parcel.block.id ∷ [])) (sym (numbered_parcel parcel taken.out.found)) heard))
+      (subst (λ found. HasHeardAnswer now (node_after_hearing cube.images now (hearing_of_parcel found)) (parcel.block.id ∷ [])) (sym (numbered_parcel parcel taken.out.found)) heard))
       (one_more room)
 
-  kill-acts : (pid : ℕ) → find (is_eligible asking dead) kept.waiting ≡ Some (kill pid) → is_used_up s.standing ≡ false
+  kill-acts : (pid : ℕ) → find (is_eligible asking dead) kept.waiting_items ≡ Some (kill pid) → is_used_up s.standing ≡ false
       → IsSound cube (state_after cube s (entry_of (Kill pid)))
   kill-acts pid found room =
       let taken = takes-item cube s.standing.parcel_count r asking dead kept (mark_of (Kill pid)) (kill pid) (sound.records r below) found in
@@ -206,18 +206,18 @@ module _ (cube : Cube) (s : CubeState) (r : ℕ) (of : IsCube cube) (below : r <
           stopped_holds = p.stopped_holds;
           running = p.running;
         };
-    polling = begins.well.polling;
+    polling_ids = begins.well.polling_ids;
     turn = begins.turn;
     store = begins.well.store;
   }
 
-  start-acts : (pid image : ℕ) → find (is_eligible asking dead) kept.waiting ≡ Some (start pid image) → is_used_up s.standing ≡ false
+  start-acts : (pid image : ℕ) → find (is_eligible asking dead) kept.waiting_items ≡ Some (start pid image) → is_used_up s.standing ≡ false
       → IsSound cube (state_after cube s (entry_of (Start pid image)))
   start-acts pid image found room =
       let taken = takes-item cube s.standing.parcel_count r asking dead kept (mark_of (Start pid image)) (start pid image) (sound.records r below) found in
       let kept' = record_by true r (entry_of (Start pid image)) kept in
       let is = start-taken cube s.standing.parcel_count r asking dead pid image kept kept' (sound.records r below) refl refl taken in
-      let within = among-all (λ q. q < process_count) pid kept.spawned (sound.records r below).ids taken.of_node.0 in
+      let within = among-all (λ q. q < process_count) pid kept.spawned_ids (sound.records r below).ids taken.of_node.0 in
       let begins = start-begins cube.images now pid image now_well within (birth_of pid within ∙ is.0) in
       given-acts (Start pid image)
       (item-goes (start pid image) (mark_of (Start pid image)) (node_by true cube s r (entry_of (Start pid image))) taken
@@ -227,12 +227,12 @@ module _ (cube : Cube) (s : CubeState) (r : ℕ) (of : IsCube cube) (below : r <
 
   -- ---- all that a node can be given
 
-  item-acts : (item : Item) → find (is_eligible asking dead) kept.waiting ≡ Some item → is_used_up s.standing ≡ false → IsSound cube (state_after cube s (entry_of (given_as item)))
+  item-acts : (item : Item) → find (is_eligible asking dead) kept.waiting_items ≡ Some item → is_used_up s.standing ≡ false → IsSound cube (state_after cube s (entry_of (given_as item)))
   item-acts (start pid image) found room = start-acts pid image found room
   item-acts (mail parcel) found room = mail-acts parcel found room
   item-acts (kill pid) found room = kill-acts pid found room
 
-  offered-acts : (found : Option Item) (polls : Option ℕ) (used : Bool) → find (is_eligible asking dead) kept.waiting ≡ found → poller ≡ polls → is_used_up s.standing ≡ used
+  offered-acts : (found : Option Item) (polls : Option ℕ) (used : Bool) → find (is_eligible asking dead) kept.waiting_items ≡ found → poller ≡ polls → is_used_up s.standing ≡ used
       → IsSound cube (state_after cube s (entry_of (offer_of found polls used)))
   offered-acts (Some item) polls true f p u = spent-acts
   offered-acts (Some item) polls false f p u = item-acts item f u
@@ -240,5 +240,5 @@ module _ (cube : Cube) (s : CubeState) (r : ℕ) (of : IsCube cube) (below : r <
   offered-acts None (Some pid) false f p u = poll-acts pid p u
   offered-acts None None used f p u = idle-acts
 
-  pub takes-acts : IsSound cube (state_after cube s (entry_of (offer_of (find (is_eligible asking dead) kept.waiting) poller (is_used_up s.standing))))
-  takes-acts = offered-acts (find (is_eligible asking dead) kept.waiting) poller (is_used_up s.standing) refl refl refl
+  pub takes-acts : IsSound cube (state_after cube s (entry_of (offer_of (find (is_eligible asking dead) kept.waiting_items) poller (is_used_up s.standing))))
+  takes-acts = offered-acts (find (is_eligible asking dead) kept.waiting_items) poller (is_used_up s.standing) refl refl refl

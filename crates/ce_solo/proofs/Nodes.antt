@@ -57,17 +57,17 @@ pub record IsWellProcess (turn : Option Turn) (pid : ℕ) (p : Process) : Type 0
 pub record IsWell (turn : Option Turn) (node : Node) : Type 0 where
   pub process_ids : length node.processes ≡ process_count
   pub processes : (pid : ℕ) → pid < process_count → IsWellProcess turn pid (process_at node pid)
-  pub polling : (pid : ℕ) → polls pid node.polling ≡ (if is_polling (process_at node pid).status then 1 else 0)
+  pub polling_ids : (pid : ℕ) → polls pid node.polling_ids ≡ (if is_polling (process_at node pid).status then 1 else 0)
   pub store : IsRising node.store
   pub once : (id : BlockId) → count id (blocks_of node) ≤ 1
 
 -- a node is as well at another point of its process's turn
-pub well-turn : (node : Node) (turn : Turn) (left calls : ℕ) → IsWell (Some turn) node → IsWell (Some (record turn { left = left; calls = calls })) node
+pub well-turn : (node : Node) (turn : Turn) (left calls : ℕ) → IsWell (Some turn) node → IsWell (Some (record turn { instructions_left = left; calls = calls })) node
 well-turn node turn left calls well = record {
   process_ids = well.process_ids;
   processes = λ q h. let was = well.processes q h in
       record { registers = was.registers; windows = was.windows; unborn_used = was.unborn_used; stopped_holds = was.stopped_holds; running = was.running };
-  polling = well.polling;
+  polling_ids = well.polling_ids;
   store = well.store;
   once = well.once;
 }
@@ -124,7 +124,7 @@ at_changed ps pid p P within here others q =
 -- the node whose process, store and list of those that poll are as given
 abbrev pub changed_to : Node → ℕ → Process → List BlockId → List ℕ → Option Turn → Node
 changed_to node pid p store polling turn =
-    record node { processes = slice_set node.processes pid p; store = store; polling = polling; turn = turn }
+    record node { processes = slice_set node.processes pid p; store = store; polling_ids = polling; turn = turn }
 
 -- a change of a node that leaves it well
 pub record IsChange (turn turn' : Option Turn) (node : Node) (pid : ℕ) (p : Process) (store : List BlockId) (polling : List ℕ) (come gone : List BlockId) : Type 0 where
@@ -134,7 +134,7 @@ pub record IsChange (turn turn' : Option Turn) (node : Node) (pid : ℕ) (p : Pr
   pub turns : (q : ℕ) → (q ≡ pid → ⊥) → is_turn_of q turn' ≡ is_turn_of q turn
   pub rising : IsRising store
   pub poll : polls pid polling ≡ (if is_polling p.status then 1 else 0)
-  pub others_poll : (q : ℕ) → (q ≡ pid → ⊥) → polls q polling ≡ polls q node.polling
+  pub others_poll : (q : ℕ) → (q ≡ pid → ⊥) → polls q polling ≡ polls q node.polling_ids
   pub blocks : (id : BlockId)
       → count id store + count id (mapped_ids p.space) + count id gone
       ≡ count id node.store + count id (mapped_ids (process_at node pid).space) + count id come
@@ -165,8 +165,8 @@ module _ (turn turn' turn'' : Option Turn) (node : Node) (pid : ℕ) (p : Proces
   change-well = record {
     process_ids = length-set node.processes pid p ∙ c.well.process_ids;
     processes = well_process;
-    polling = at_changed node.processes pid p (λ q r. polls q polling ≡ (if is_polling r.status then 1 else 0)) within_list c.poll
-        (λ q differ. c.others_poll q differ ∙ c.well.polling q);
+    polling_ids = at_changed node.processes pid p (λ q r. polls q polling ≡ (if is_polling r.status then 1 else 0)) within_list c.poll
+        (λ q differ. c.others_poll q differ ∙ c.well.polling_ids q);
     store = c.rising;
     once = λ id. omega (arith, change-blocks id, c.once id);
   }
@@ -187,9 +187,9 @@ module _ (turn turn' turn'' : Option Turn) (node : Node) (pid : ℕ) (p : Proces
 
 -- ---- a process stops
 
-pub polls-once : (turn : Option Turn) (node : Node) (pid : ℕ) → IsWell turn node → pid < process_count → polls pid node.polling ≤ 1
+pub polls-once : (turn : Option Turn) (node : Node) (pid : ℕ) → IsWell turn node → pid < process_count → polls pid node.polling_ids ≤ 1
 polls-once turn node pid well within =
-    let at = well.polling pid in
+    let at = well.polling_ids pid in
     elim (cases_Bool (is_polling (process_at node pid).status)) [
       | inl t ↦ omega (arith, at, ap {B = ℕ} (λ b. if b then 1 else 0) t)
       | inr f ↦ omega (arith, at, ap {B = ℕ} (λ b. if b then 1 else 0) f)
@@ -212,7 +212,7 @@ empty_window window = None
 pub stop-change : (turn : Option Turn) (node : Node) (pid : ℕ) (p : Process) (cause : Stop) → IsWell turn node → pid < process_count
     → length p.regs ≡ register_count → length p.space.windows ≤ window_count → IsSameHeld (process_at node pid).space p.space
     → ((q : ℕ) → (q ≡ pid → ⊥) → is_turn_of q turn ≡ false)
-    → IsChange turn None node pid (ended_process cause p) (put_all (mapped_ids p.space) node.store) (without_poller pid node.polling) [] []
+    → IsChange turn None node pid (ended_process cause p) (put_all (mapped_ids p.space) node.store) (without_poller pid node.polling_ids) [] []
 stop-change turn node pid p cause well within registers windows held turns = record {
   well = well;
   within = within;
@@ -226,8 +226,8 @@ stop-change turn node pid p cause well within registers windows held turns = rec
   turns = λ q differ. sym (turns q differ);
   rising = rising-put_all (mapped_ids p.space) node.store well.store
       (λ id. omega (arith, once_together turn node pid id well within, ap (count id) held.ids));
-  poll = polls-without pid node.polling (polls-once turn node pid well within);
-  others_poll = λ q differ. polls-other pid q node.polling differ;
+  poll = polls-without pid node.polling_ids (polls-once turn node pid well within);
+  others_poll = λ q differ. polls-other pid q node.polling_ids differ;
   blocks = λ id. omega (arith, count-put_all id (mapped_ids p.space) node.store, ap (count id) held.ids, ap (count id) (ids-emptied p.space.windows), count-nil id);
   once = λ id. omega (arith, well.once id, count-nil id);
 }
@@ -238,5 +238,5 @@ pub stop-became : (turn : Option Turn) (node : Node) (pid : ℕ) (p : Process) (
     → ((q : ℕ) → (q ≡ pid → ⊥) → is_turn_of q turn ≡ false) → is_unborn (process_at node pid).status ≡ false
     → HasBecome None node (with_stopped node pid p cause) [] []
 stop-became turn node pid p cause well within registers windows held turns born =
-    change-became turn None None node pid (ended_process cause p) (put_all (mapped_ids p.space) node.store) (without_poller pid node.polling) [] []
+    change-became turn None None node pid (ended_process cause p) (put_all (mapped_ids p.space) node.store) (without_poller pid node.polling_ids) [] []
     (stop-change turn node pid p cause well within registers windows held turns) (sym born) (λ h. refl)

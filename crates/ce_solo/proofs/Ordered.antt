@@ -7,11 +7,11 @@ use Rattle.ce_model.specs.declared.entry.Entry.{Entry}
 use Rattle.ce_model.specs.declared.entry.TakeResult.{TakeResult}
 use Rattle.ce_model.specs.Lists.{EachAfter}
 use Rattle.ce_model.specs.Process.{is_stopped}
-use Rattle.ce_model.specs.Node.{process_at, Call, takes, sends, spawns, kills, notes, arms, looks, takes_mail}
-use Rattle.ce_model.specs.Trace.{taken_in}
+use Rattle.ce_model.specs.Node.{process_at, Call, take_call, send_call, spawn_call, kill_call, note_call, arm_call, look_call, mail_call}
+use Rattle.ce_model.specs.Trace.{taken_result}
 use Rattle.ce_model.specs.Answers.{answer}
 use Rattle.ce_model.specs.Saying.{says}
-use Rattle.ce_model.specs.Cube.{Cube, CubeState, IsCube, HostCall, node_numbers, left_by, IsNext, IsAloneFrom}
+use Rattle.ce_model.specs.Cube.{Cube, CubeState, IsCube, HostCall, node_numbers, state_after_trace, IsNext, IsAloneFrom}
 use Rattle.ce_model.specs.Sound.{IsSound}
 use Rattle.ce_model.specs.Order.{bytes_between, bytes_handed, IsInOrder}
 use Rattle.ce_model.proofs.Walked.{kept_by_each, each_of_front}
@@ -21,7 +21,7 @@ use Rattle.ce_solo.proofs.Words.{HasMadeCall}
 use Rattle.ce_solo.proofs.Sending.{host_past}
 use Rattle.ce_solo.proofs.Steps.{node_by, state_after, entry_in}
 use Rattle.ce_solo.proofs.Made.{IsMadeCall, by_host, by_node, made-leaves}
-use Rattle.ce_solo.proofs.Stands.{taken_in-of, no_take, IsSoundTrace, IsEntryOf, entry_of-next, stands-made, stands-nil}
+use Rattle.ce_solo.proofs.Stands.{taken_result-of, no_take, IsSoundTrace, IsEntryOf, entry_of-next, stands-made, stands-nil}
 use Rattle.ce_solo.proofs.Stopped.{gone, own-stays, gone-stays}
 use Rattle.ce_solo.proofs.InOrder.{AreInOrder, HasPassed, order-nil, order-step}
 use Rattle.ce_solo.proofs.Passing.{unnamed, host-takes, node-takes}
@@ -30,8 +30,8 @@ module _ (cube : Cube) (s : CubeState) (of : IsCube cube) (sound : IsSound cube 
   -- what the receiver's own entry does to the bytes between the two
   abbrev IsPassed : Call → TakeResult → Type 0
   IsPassed call given =
-      HasPassed (bytes_handed from to (s.standing.node_record to.node).waiting (entry_in cube s to.node call)) (bytes_between from to (s.standing.node_record to.node).waiting)
-      (bytes_between from to (unnamed given (s.standing.node_record to.node).waiting)) (gone cube s to) (gone cube (state_after cube s (entry_in cube s to.node call)) to)
+      HasPassed (bytes_handed from to (s.standing.node_record to.node).waiting_items (entry_in cube s to.node call)) (bytes_between from to (s.standing.node_record to.node).waiting_items)
+      (bytes_between from to (unnamed given (s.standing.node_record to.node).waiting_items)) (gone cube s to) (gone cube (state_after cube s (entry_in cube s to.node call)) to)
 
   -- the host does not stop
   host_here : to.node ≡ HOST → gone cube s to ≡ false
@@ -45,38 +45,38 @@ module _ (cube : Cube) (s : CubeState) (of : IsCube cube) (sound : IsSound cube 
       (subst (λ b. is_stopped (process_at (node_by b cube s to.node (entry_in cube s to.node call)) to.pid).status ≡ true) (sym (eq-eqb to.node to.node refl))
       (own-stays cube s to.node of below sound call said to.pid h))
 
-  passed-own : (asked : Option HostCall) (call : Call) (given : TakeResult) → IsMadeCall cube s to.node asked call → taken_in (answer (node_numbers cube.dim) s.standing to.node call) ≡ Some given → IsPassed call given
+  passed-own : (asked : Option HostCall) (call : Call) (given : TakeResult) → IsMadeCall cube s to.node asked call → taken_result (answer (node_numbers cube.dim) s.standing to.node call) ≡ Some given → IsPassed call given
   unfolding answer
-  passed-own asked (takes asking dead poller) given (by_host is e) t = absurd (no_take cube s asked (takes asking dead poller) refl e)
-  passed-own asked (takes asking dead poller) given (by_node below e) t =
-      let said = made-leaves cube s to.node (takes asking dead poller) of below sound e in
-      node-takes cube s of sound from to below asking dead poller said given (gone cube (state_after cube s (entry_in cube s to.node (takes asking dead poller))) to) t
-      (stops-later (takes asking dead poller) below said)
-  passed-own asked (sends pid targets bytes) given m t = absurd (cc)
-  passed-own asked (spawns pid image place) given m t = absurd (cc)
-  passed-own asked (kills pid place) given m t = absurd (cc)
-  passed-own asked (notes pid word) given m t = absurd (cc)
-  passed-own asked (arms count) given m t = absurd (cc)
-  passed-own asked looks given m t = absurd (cc)
-  passed-own asked takes_mail given (by_host is e) t =
-      host-takes cube s from to given sound is t (host_here is) (gone cube (state_after cube s (entry_in cube s to.node takes_mail)) to) cube.user
-  passed-own asked takes_mail given (by_node below e) t = absurd (made-leaves cube s to.node takes_mail of below sound e).of_node
+  passed-own asked (take_call asking dead poller) given (by_host is e) t = absurd (no_take cube s asked (take_call asking dead poller) refl e)
+  passed-own asked (take_call asking dead poller) given (by_node below e) t =
+      let said = made-leaves cube s to.node (take_call asking dead poller) of below sound e in
+      node-takes cube s of sound from to below asking dead poller said given (gone cube (state_after cube s (entry_in cube s to.node (take_call asking dead poller))) to) t
+      (stops-later (take_call asking dead poller) below said)
+  passed-own asked (send_call pid targets bytes) given m t = absurd (cc)
+  passed-own asked (spawn_call pid image place) given m t = absurd (cc)
+  passed-own asked (kill_call pid place) given m t = absurd (cc)
+  passed-own asked (note_call pid word) given m t = absurd (cc)
+  passed-own asked (arm_call count) given m t = absurd (cc)
+  passed-own asked look_call given m t = absurd (cc)
+  passed-own asked mail_call given (by_host is e) t =
+      host-takes cube s from to given sound is t (host_here is) (gone cube (state_after cube s (entry_in cube s to.node mail_call)) to) cube.user
+  passed-own asked mail_call given (by_node below e) t = absurd (made-leaves cube s to.node mail_call of below sound e).of_node
 
   pub passed-by : (actor : ℕ) (asked : Option HostCall) (call : Call) (given : TakeResult) → IsMadeCall cube s actor asked call → taken_for to.node (entry_in cube s actor call) ≡ Some given
-      → HasPassed (bytes_handed from to (s.standing.node_record to.node).waiting (entry_in cube s actor call)) (bytes_between from to (s.standing.node_record to.node).waiting)
-      (bytes_between from to (unnamed given (s.standing.node_record to.node).waiting)) (gone cube s to) (gone cube (state_after cube s (entry_in cube s actor call)) to)
+      → HasPassed (bytes_handed from to (s.standing.node_record to.node).waiting_items (entry_in cube s actor call)) (bytes_between from to (s.standing.node_record to.node).waiting_items)
+      (bytes_between from to (unnamed given (s.standing.node_record to.node).waiting_items)) (gone cube s to) (gone cube (state_after cube s (entry_in cube s actor call)) to)
   passed-by actor asked call given m t =
-      let parts = taken_in-of actor to.node (taken_in (entry_in cube s actor call).what) given t in
+      let parts = taken_result-of actor to.node (taken_result (entry_in cube s actor call).what) given t in
       let same = eqb-true actor to.node parts.0 in
-      subst (λ actor. IsMadeCall cube s actor asked call → taken_in (answer (node_numbers cube.dim) s.standing actor call) ≡ Some given
-      → HasPassed (bytes_handed from to (s.standing.node_record to.node).waiting (entry_in cube s actor call)) (bytes_between from to (s.standing.node_record to.node).waiting)
-      (bytes_between from to (unnamed given (s.standing.node_record to.node).waiting)) (gone cube s to) (gone cube (state_after cube s (entry_in cube s actor call)) to))
+      subst (λ actor. IsMadeCall cube s actor asked call → taken_result (answer (node_numbers cube.dim) s.standing actor call) ≡ Some given
+      → HasPassed (bytes_handed from to (s.standing.node_record to.node).waiting_items (entry_in cube s actor call)) (bytes_between from to (s.standing.node_record to.node).waiting_items)
+      (bytes_between from to (unnamed given (s.standing.node_record to.node).waiting_items)) (gone cube s to) (gone cube (state_after cube s (entry_in cube s actor call)) to))
       (sym same) (passed-own asked call given) m parts.1
 
-order-made : (cube : Cube) (o : CubeState) (from to : Place) (t : List Entry) (entry : Entry) → IsCube cube → IsSoundTrace cube o t → IsEntryOf cube (left_by cube o t) entry
+order-made : (cube : Cube) (o : CubeState) (from to : Place) (t : List Entry) (entry : Entry) → IsCube cube → IsSoundTrace cube o t → IsEntryOf cube (state_after_trace cube o t) entry
     → AreInOrder cube o from to t → AreInOrder cube o from to (t ++ entry ∷ [])
 order-made cube o from to t entry of stands e is =
-    let s = left_by cube o t in
+    let s = state_after_trace cube o t in
     let made_entry : IsEntryOf cube s (entry_in cube s e.actor e.call) = record { actor = e.actor; asked = e.asked; call = e.call; by = e.by; is = refl } in
     subst (λ entry. AreInOrder cube o from to (t ++ entry ∷ [])) (sym e.is)
     (order-step cube o from to t of stands e.actor e.call made_entry (taken_for to.node (entry_in cube s e.actor e.call)) refl

@@ -10,7 +10,7 @@ use Rattle.ce_model.specs.declared.entry.TakeResult.{TakeResult}
 use Rattle.ce_model.specs.declared.entry.TakeResult.TheVariants.{Start, Mail, Kill}
 use Rattle.ce_model.specs.Parcels.{Parcel, Item, start, mail, kill, is_member, is_eligible, is_item, given_as, is_named_by, parcel_in}
 use Rattle.ce_model.specs.Process.{is_receiving, is_stopped}
-use Rattle.ce_model.specs.Node.{Node, process_at, takes, take_of, ids_of}
+use Rattle.ce_model.specs.Node.{Node, process_at, take_call, take_of, ids_of}
 use Rattle.ce_model.specs.Answers.{offer_of, is_used_up, first_number}
 use Rattle.ce_model.specs.Saying.{says}
 use Rattle.ce_model.specs.Cube.{Cube, CubeState, IsCube, parcel_numbered}
@@ -86,22 +86,22 @@ host-passed from to (mail parcel ∷ rest) given handed g' own rising e is =
     ])
 
 pub host-takes : (cube : Cube) (s : CubeState) (from to : Place) (given : TakeResult) → IsSound cube s → to.node ≡ HOST
-    → option_map (λ n. Mail 0 n) (first_number (s.standing.node_record to.node).waiting) ≡ Some given → gone cube s to ≡ false → (g' : Bool) → (user : ℕ)
-    → HasPassed (bytes_handed from to (s.standing.node_record to.node).waiting (record { user = user; actor = to.node; what = HostTake (first_number (s.standing.node_record to.node).waiting) }))
-    (bytes_between from to (s.standing.node_record to.node).waiting) (bytes_between from to (unnamed given (s.standing.node_record to.node).waiting)) (gone cube s to) g'
+    → option_map (λ n. Mail 0 n) (first_number (s.standing.node_record to.node).waiting_items) ≡ Some given → gone cube s to ≡ false → (g' : Bool) → (user : ℕ)
+    → HasPassed (bytes_handed from to (s.standing.node_record to.node).waiting_items (record { user = user; actor = to.node; what = HostTake (first_number (s.standing.node_record to.node).waiting_items) }))
+    (bytes_between from to (s.standing.node_record to.node).waiting_items) (bytes_between from to (unnamed given (s.standing.node_record to.node).waiting_items)) (gone cube s to) g'
 host-takes cube s from to given sound is e here g' user =
-    let items = (s.standing.node_record to.node).waiting in
+    let items = (s.standing.node_record to.node).waiting_items in
     let entry : Entry = record { user = user; actor = to.node; what = HostTake (first_number items) } in
-    let host = subst (λ q. IsSoundHost s.standing.parcel_count (s.standing.node_record q).waiting) (sym is) sound.host in
+    let host = subst (λ q. IsSoundHost s.standing.parcel_count (s.standing.node_record q).waiting_items) (sym is) sound.host in
     subst (λ g. HasPassed (bytes_handed from to items entry) (bytes_between from to items) (bytes_between from to (unnamed given items)) g g') (sym here)
     (host-passed from to items given (bytes_handed from to items entry) g' host.own host.numbered.rising e
     (handed-own from to items entry (number_handed to.pid (HostTake (first_number items))) (eq-eqb to.node to.node refl) refl))
 
 -- ---- a node takes an item
 
-module _ (cube : Cube) (s : CubeState) (of : IsCube cube) (sound : IsSound cube s) (from to : Place) (below : to.node < 2 ^ cube.dim) (asking dead : ℕ) (poller : Option ℕ) (said : HasMadeCall (s.node to.node) (says (s.node to.node)).node (takes asking dead poller)) where
+module _ (cube : Cube) (s : CubeState) (of : IsCube cube) (sound : IsSound cube s) (from to : Place) (below : to.node < 2 ^ cube.dim) (asking dead : ℕ) (poller : Option ℕ) (said : HasMadeCall (s.node to.node) (says (s.node to.node)).node (take_call asking dead poller)) where
   abbrev items : List Item
-  items = (s.standing.node_record to.node).waiting
+  items = (s.standing.node_record to.node).waiting_items
 
   abbrev now : Node
   now = (says (s.node to.node)).node
@@ -123,7 +123,7 @@ module _ (cube : Cube) (s : CubeState) (of : IsCube cube) (sound : IsSound cube 
       let receives = asking-of now said.of_node.0 in
       both_ways _ (receiving_is (process_at now to.pid).status receives).1 (said.became.stopped to.pid parts.1))
     where
-      asking-of : (node : Node) → takes asking dead poller ≡ take_of node → is_receiving (process_at node to.pid).status ≡ true
+      asking-of : (node : Node) → take_call asking dead poller ≡ take_of node → is_receiving (process_at node to.pid).status ≡ true
       asking-of node same =
           let is : asking ≡ ids_of is_receiving node.processes = cc in
           member-of is_receiving node.processes to.pid (ap (is_member to.pid) (sym is) ∙ h)

@@ -15,17 +15,17 @@ use Rattle.ce_solo.proofs.Lists.{all-append, all-weaker, all-filter, all-split, 
 use Rattle.ce_solo.proofs.Items.{parcel_ids, ids-append, numbers-append, among-mails, all_numbers-filter, AreRising, rising-filter, start-mails, kill-mails, start_first-mails, start-append, start_first-append, start_first-after, start_first-filter, start_first-at, own-starts, own-kills, own-more, named-itself, named-start, named-kill, named-mail, start_can_be_given}
 
 abbrev pub kept_with : List Item → List ℕ → List ℕ → Mark → NodeRecord
-kept_with waiting spawned killed mark = record { waiting = waiting; spawned = spawned; killed = killed; mark = mark }
+kept_with waiting spawned killed mark = record { waiting_items = waiting; spawned_ids = spawned; killed_ids = killed; mark = mark }
 
 -- whether the process of an id is unborn, by what is kept
 abbrev pub births : NodeRecord → ℕ → Bool
-births kept pid = not (is_among pid kept.spawned) || has_start pid kept.waiting
+births kept pid = not (is_among pid kept.spawned_ids) || has_start pid kept.waiting_items
 
 -- what is kept for a node stays sound, nothing is born, and parcels came with these blocks and went with those
 pub record HasStayedSound (cube : Cube) (sent' r : ℕ) (kept kept' : NodeRecord) (come gone : List BlockId) : Type 0 where
   pub sound : IsSoundRecord cube sent' r kept'
   pub births : (pid : ℕ) → births kept' pid ≡ births kept pid
-  pub parcels : (id : BlockId) → count id (parcel_ids kept'.waiting) + count id gone ≡ count id (parcel_ids kept.waiting) + count id come
+  pub parcels : (id : BlockId) → count id (parcel_ids kept'.waiting_items) + count id gone ≡ count id (parcel_ids kept.waiting_items) + count id come
 
 pub numbered-more : (sent sent' : ℕ) (items : List Item) → sent ≤ sent' → AreNumbered sent items → AreNumbered sent' items
 numbered-more sent sent' items more numbered = record {
@@ -34,11 +34,11 @@ numbered-more sent sent' items more numbered = record {
 }
 
 pub keeps-same : (cube : Cube) (sent sent' r : ℕ) (kept : NodeRecord) (mark : Mark) → sent ≤ sent' → IsSoundRecord cube sent r kept
-    → HasStayedSound cube sent' r kept (kept_with kept.waiting kept.spawned kept.killed mark) [] []
+    → HasStayedSound cube sent' r kept (kept_with kept.waiting_items kept.spawned_ids kept.killed_ids mark) [] []
 keeps-same cube sent sent' r kept mark more sound = record {
   sound = record {
-    numbered = numbered-more sent sent' kept.waiting more sound.numbered;
-    own = own-more cube r kept (kept_with kept.waiting kept.spawned kept.killed mark) kept.waiting (λ pid h. h) (λ pid h. h) sound.own;
+    numbered = numbered-more sent sent' kept.waiting_items more sound.numbered;
+    own = own-more cube r kept (kept_with kept.waiting_items kept.spawned_ids kept.killed_ids mark) kept.waiting_items (λ pid h. h) (λ pid h. h) sound.own;
     one_start = sound.one_start;
     one_kill = sound.one_kill;
     start_first = sound.start_first;
@@ -87,29 +87,29 @@ pub mails-ids : (items : List Item) (ps : List Parcel) → parcel_ids (items ++ 
 mails-ids items ps = ids-append items (map mail ps) ∙ ap (λ qs. parcel_ids items ++ map (λ (p : Parcel). p.block.id) qs) (among-mails ps)
 
 keeps-appended : (cube : Cube) (sent sent' r : ℕ) (kept : NodeRecord) (mark : Mark) (ps : List Parcel) → sent ≤ sent' → IsSoundRecord cube sent r kept
-    → AreNew sent sent' r ps → HasStayedSound cube sent' r kept (kept_with (kept.waiting ++ map mail ps) kept.spawned kept.killed mark) (map (λ p. p.block.id) ps) []
+    → AreNew sent sent' r ps → HasStayedSound cube sent' r kept (kept_with (kept.waiting_items ++ map mail ps) kept.spawned_ids kept.killed_ids mark) (map (λ p. p.block.id) ps) []
 keeps-appended cube sent sent' r kept mark ps more sound new = record {
   sound = record {
-    numbered = numbered-mails sent sent' r kept.waiting ps more sound.numbered new.rising new.from_count new.below;
-    own = all-append (IsItemOf cube r (kept_with (kept.waiting ++ map mail ps) kept.spawned kept.killed mark)) kept.waiting (map mail ps)
-        (own-more cube r kept (kept_with (kept.waiting ++ map mail ps) kept.spawned kept.killed mark) kept.waiting (λ pid h. h) (λ pid h. h) sound.own)
-        (own-mails cube r (kept_with (kept.waiting ++ map mail ps) kept.spawned kept.killed mark) ps new.places);
-    one_start = λ pid. omega (arith, sound.one_start pid, count_by-append (is_start_of pid) kept.waiting (map mail ps), no_starts pid ps);
-    one_kill = λ pid. omega (arith, sound.one_kill pid, count_by-append (is_kill_of pid) kept.waiting (map mail ps), count_by-none (is_kill_of pid) (map mail ps) (kill-mails pid ps));
-    start_first = λ pid. start_first-append pid kept.waiting (map mail ps) (start-mails pid ps) (sound.start_first pid) (start_first-mails pid ps);
+    numbered = numbered-mails sent sent' r kept.waiting_items ps more sound.numbered new.rising new.from_count new.below;
+    own = all-append (IsItemOf cube r (kept_with (kept.waiting_items ++ map mail ps) kept.spawned_ids kept.killed_ids mark)) kept.waiting_items (map mail ps)
+        (own-more cube r kept (kept_with (kept.waiting_items ++ map mail ps) kept.spawned_ids kept.killed_ids mark) kept.waiting_items (λ pid h. h) (λ pid h. h) sound.own)
+        (own-mails cube r (kept_with (kept.waiting_items ++ map mail ps) kept.spawned_ids kept.killed_ids mark) ps new.places);
+    one_start = λ pid. omega (arith, sound.one_start pid, count_by-append (is_start_of pid) kept.waiting_items (map mail ps), no_starts pid ps);
+    one_kill = λ pid. omega (arith, sound.one_kill pid, count_by-append (is_kill_of pid) kept.waiting_items (map mail ps), count_by-none (is_kill_of pid) (map mail ps) (kill-mails pid ps));
+    start_first = λ pid. start_first-append pid kept.waiting_items (map mail ps) (start-mails pid ps) (sound.start_first pid) (start_first-mails pid ps);
     ids = sound.ids;
     spawned_once = sound.spawned_once;
     killed = sound.killed;
     killed_once = sound.killed_once;
   };
-  births = λ pid. ap (λ b. not (is_among pid kept.spawned) || b) (start-append pid kept.waiting (map mail ps) (start-mails pid ps));
-  parcels = λ id. omega (arith, ap (count id) (mails-ids kept.waiting ps), count-append id (parcel_ids kept.waiting) (map (λ p. p.block.id) ps), count-nil id);
+  births = λ pid. ap (λ b. not (is_among pid kept.spawned_ids) || b) (start-append pid kept.waiting_items (map mail ps) (start-mails pid ps));
+  parcels = λ id. omega (arith, ap (count id) (mails-ids kept.waiting_items ps), count-append id (parcel_ids kept.waiting_items) (map (λ p. p.block.id) ps), count-nil id);
 }
 
 pub keeps-mails : (cube : Cube) (sent sent' r : ℕ) (kept : NodeRecord) (mark : Mark) (ps : List Parcel) → sent ≤ sent' → IsSoundRecord cube sent r kept
-    → AreNew sent sent' r ps → HasStayedSound cube sent' r kept (kept_with (joined kept.waiting (map mail ps)) kept.spawned kept.killed mark) (map (λ p. p.block.id) ps) []
+    → AreNew sent sent' r ps → HasStayedSound cube sent' r kept (kept_with (joined kept.waiting_items (map mail ps)) kept.spawned_ids kept.killed_ids mark) (map (λ p. p.block.id) ps) []
 keeps-mails cube sent sent' r kept mark ps more sound new =
-    subst (λ waiting. HasStayedSound cube sent' r kept (kept_with waiting kept.spawned kept.killed mark) (map (λ p. p.block.id) ps) []) (joined-is kept.waiting (map mail ps))
+    subst (λ waiting. HasStayedSound cube sent' r kept (kept_with waiting kept.spawned_ids kept.killed_ids mark) (map (λ p. p.block.id) ps) []) (joined-is kept.waiting_items (map mail ps))
     (keeps-appended cube sent sent' r kept mark ps more sound new)
 
 -- ---- a start or a kill comes
@@ -158,72 +158,72 @@ numbered-other sent items others none numbered =
     record { rising = subst AreRising (sym same) numbered.rising; below = subst (AllByRecursion (λ n. n < sent)) (sym same) numbered.below }
 
 pub keeps-start : (cube : Cube) (sent r pid image : ℕ) (kept : NodeRecord) (mark : Mark) → IsSoundRecord cube sent r kept
-    → is_among pid kept.spawned ≡ false → pid < process_count → image < length cube.images
-    → HasStayedSound cube sent r kept (kept_with (kept.waiting ++ start pid image ∷ []) (kept.spawned ++ pid ∷ []) kept.killed mark) [] []
+    → is_among pid kept.spawned_ids ≡ false → pid < process_count → image < length cube.images
+    → HasStayedSound cube sent r kept (kept_with (kept.waiting_items ++ start pid image ∷ []) (kept.spawned_ids ++ pid ∷ []) kept.killed_ids mark) [] []
 keeps-start cube sent r pid image kept mark sound fresh within of_cube =
     let items = start pid image ∷ [] in
-    let kept' = kept_with (kept.waiting ++ items) (kept.spawned ++ pid ∷ []) kept.killed mark in
-    let more : (q : ℕ) → is_among q kept.spawned ≡ true → is_among q kept'.spawned ≡ true = λ q h. among-more q pid kept.spawned h in
-    let none = own-starts cube r pid kept kept.waiting fresh sound.own in
+    let kept' = kept_with (kept.waiting_items ++ items) (kept.spawned_ids ++ pid ∷ []) kept.killed_ids mark in
+    let more : (q : ℕ) → is_among q kept.spawned_ids ≡ true → is_among q kept'.spawned_ids ≡ true = λ q h. among-more q pid kept.spawned_ids h in
+    let none = own-starts cube r pid kept kept.waiting_items fresh sound.own in
     record {
       sound = record {
-        numbered = numbered-other sent kept.waiting items refl sound.numbered;
-        own = all-append (IsItemOf cube r kept') kept.waiting items (own-more cube r kept kept' kept.waiting more (λ q h. h) sound.own)
-            ((among-last pid kept.spawned, of_cube), tt);
+        numbered = numbered-other sent kept.waiting_items items refl sound.numbered;
+        own = all-append (IsItemOf cube r kept') kept.waiting_items items (own-more cube r kept kept' kept.waiting_items more (λ q h. h) sound.own)
+            ((among-last pid kept.spawned_ids, of_cube), tt);
         one_start = λ q. elim (cases_eq q pid) [
-          | inl same ↦ omega (arith, subst (λ k. count_by (is_start_of k) kept.waiting ≡ 0) (sym same) (count_by-none (is_start_of pid) kept.waiting none), count_by-append (is_start_of q) kept.waiting items, count_by-cons (is_start_of q) (start pid image) [], one_if-le (pid == q))
-          | inr differ ↦ omega (arith, sound.one_start q, count_by-append (is_start_of q) kept.waiting items, count_by-cons (is_start_of q) (start pid image) [], one_if-false (pid == q) (ne_eqb pid q (λ e. differ (sym e))))
+          | inl same ↦ omega (arith, subst (λ k. count_by (is_start_of k) kept.waiting_items ≡ 0) (sym same) (count_by-none (is_start_of pid) kept.waiting_items none), count_by-append (is_start_of q) kept.waiting_items items, count_by-cons (is_start_of q) (start pid image) [], one_if-le (pid == q))
+          | inr differ ↦ omega (arith, sound.one_start q, count_by-append (is_start_of q) kept.waiting_items items, count_by-cons (is_start_of q) (start pid image) [], one_if-false (pid == q) (ne_eqb pid q (λ e. differ (sym e))))
         ];
-        one_kill = λ q. omega (arith, sound.one_kill q, count_by-append (is_kill_of q) kept.waiting items, count_by-cons (is_kill_of q) (start pid image) []);
+        one_kill = λ q. omega (arith, sound.one_kill q, count_by-append (is_kill_of q) kept.waiting_items items, count_by-cons (is_kill_of q) (start pid image) []);
         start_first = λ q. elim (cases_eq q pid) [
           | inl same ↦
-              subst (λ k. IsStartFirst k (kept.waiting ++ items)) (sym same)
-              (start_first-after pid kept.waiting items (own-kills cube r pid kept kept.waiting (killed-spawned pid kept.spawned kept.killed sound.killed fresh) sound.own)
+              subst (λ k. IsStartFirst k (kept.waiting_items ++ items)) (sym same)
+              (start_first-after pid kept.waiting_items items (own-kills cube r pid kept kept.waiting_items (killed-spawned pid kept.spawned_ids kept.killed_ids sound.killed fresh) sound.own)
               ((λ h. refl), tt))
-          | inr differ ↦ start_first-append q kept.waiting items (start-other pid q image differ) (sound.start_first q) ((λ h. refl), tt)
+          | inr differ ↦ start_first-append q kept.waiting_items items (start-other pid q image differ) (sound.start_first q) ((λ h. refl), tt)
         ];
-        ids = all-append (λ q. q < process_count) kept.spawned (pid ∷ []) sound.ids (within, tt);
-        spawned_once = distinct-more pid kept.spawned fresh sound.spawned_once;
-        killed = all-weaker (λ q. IsTrue (is_among q kept.spawned)) (λ q. IsTrue (is_among q kept'.spawned)) kept.killed more sound.killed;
+        ids = all-append (λ q. q < process_count) kept.spawned_ids (pid ∷ []) sound.ids (within, tt);
+        spawned_once = distinct-more pid kept.spawned_ids fresh sound.spawned_once;
+        killed = all-weaker (λ q. IsTrue (is_among q kept.spawned_ids)) (λ q. IsTrue (is_among q kept'.spawned_ids)) kept.killed_ids more sound.killed;
         killed_once = sound.killed_once;
       };
       births = λ q. elim (cases_eq q pid) [
         | inl same ↦
             subst (λ k. births kept' k ≡ births kept k) (sym same)
-            (or_right _ _ (start-last pid image kept.waiting) ∙ sym (or_left _ _ (not_from_false (is_among pid kept.spawned) fresh)))
+            (or_right _ _ (start-last pid image kept.waiting_items) ∙ sym (or_left _ _ (not_from_false (is_among pid kept.spawned_ids) fresh)))
         | inr differ ↦
-            ap (λ b. not b || has_start q (kept.waiting ++ items)) (among-other q pid kept.spawned differ)
-            ∙ ap (λ b. not (is_among q kept.spawned) || b) (start-append q kept.waiting items (start-other pid q image differ))
+            ap (λ b. not b || has_start q (kept.waiting_items ++ items)) (among-other q pid kept.spawned_ids differ)
+            ∙ ap (λ b. not (is_among q kept.spawned_ids) || b) (start-append q kept.waiting_items items (start-other pid q image differ))
       ];
-      parcels = λ id. omega (arith, ap (count id) (ids-append kept.waiting items ∙ append-nil (parcel_ids kept.waiting)), count-nil id);
+      parcels = λ id. omega (arith, ap (count id) (ids-append kept.waiting_items items ∙ append-nil (parcel_ids kept.waiting_items)), count-nil id);
     }
 
 pub keeps-kill : (cube : Cube) (sent r pid : ℕ) (kept : NodeRecord) (mark : Mark) → IsSoundRecord cube sent r kept
-    → is_among pid kept.spawned ≡ true → is_among pid kept.killed ≡ false
-    → HasStayedSound cube sent r kept (kept_with (kept.waiting ++ kill pid ∷ []) kept.spawned (kept.killed ++ pid ∷ []) mark) [] []
+    → is_among pid kept.spawned_ids ≡ true → is_among pid kept.killed_ids ≡ false
+    → HasStayedSound cube sent r kept (kept_with (kept.waiting_items ++ kill pid ∷ []) kept.spawned_ids (kept.killed_ids ++ pid ∷ []) mark) [] []
 keeps-kill cube sent r pid kept mark sound known fresh =
     let items = kill pid ∷ [] in
-    let kept' = kept_with (kept.waiting ++ items) kept.spawned (kept.killed ++ pid ∷ []) mark in
-    let more : (q : ℕ) → is_among q kept.killed ≡ true → is_among q kept'.killed ≡ true = λ q h. among-more q pid kept.killed h in
-    let none = own-kills cube r pid kept kept.waiting fresh sound.own in
+    let kept' = kept_with (kept.waiting_items ++ items) kept.spawned_ids (kept.killed_ids ++ pid ∷ []) mark in
+    let more : (q : ℕ) → is_among q kept.killed_ids ≡ true → is_among q kept'.killed_ids ≡ true = λ q h. among-more q pid kept.killed_ids h in
+    let none = own-kills cube r pid kept kept.waiting_items fresh sound.own in
     record {
       sound = record {
-        numbered = numbered-other sent kept.waiting items refl sound.numbered;
-        own = all-append (IsItemOf cube r kept') kept.waiting items (own-more cube r kept kept' kept.waiting (λ q h. h) more sound.own)
-            (among-last pid kept.killed, tt);
-        one_start = λ q. omega (arith, sound.one_start q, count_by-append (is_start_of q) kept.waiting items, count_by-cons (is_start_of q) (kill pid) []);
+        numbered = numbered-other sent kept.waiting_items items refl sound.numbered;
+        own = all-append (IsItemOf cube r kept') kept.waiting_items items (own-more cube r kept kept' kept.waiting_items (λ q h. h) more sound.own)
+            (among-last pid kept.killed_ids, tt);
+        one_start = λ q. omega (arith, sound.one_start q, count_by-append (is_start_of q) kept.waiting_items items, count_by-cons (is_start_of q) (kill pid) []);
         one_kill = λ q. elim (cases_eq q pid) [
-          | inl same ↦ omega (arith, subst (λ k. count_by (is_kill_of k) kept.waiting ≡ 0) (sym same) (count_by-none (is_kill_of pid) kept.waiting none), count_by-append (is_kill_of q) kept.waiting items, count_by-cons (is_kill_of q) (kill pid) [], one_if-le (pid == q))
-          | inr differ ↦ omega (arith, sound.one_kill q, count_by-append (is_kill_of q) kept.waiting items, count_by-cons (is_kill_of q) (kill pid) [], one_if-false (pid == q) (ne_eqb pid q (λ e. differ (sym e))))
+          | inl same ↦ omega (arith, subst (λ k. count_by (is_kill_of k) kept.waiting_items ≡ 0) (sym same) (count_by-none (is_kill_of pid) kept.waiting_items none), count_by-append (is_kill_of q) kept.waiting_items items, count_by-cons (is_kill_of q) (kill pid) [], one_if-le (pid == q))
+          | inr differ ↦ omega (arith, sound.one_kill q, count_by-append (is_kill_of q) kept.waiting_items items, count_by-cons (is_kill_of q) (kill pid) [], one_if-false (pid == q) (ne_eqb pid q (λ e. differ (sym e))))
         ];
-        start_first = λ q. start_first-append q kept.waiting items refl (sound.start_first q) ((λ h. refl), tt);
+        start_first = λ q. start_first-append q kept.waiting_items items refl (sound.start_first q) ((λ h. refl), tt);
         ids = sound.ids;
         spawned_once = sound.spawned_once;
-        killed = all-append (λ q. IsTrue (is_among q kept.spawned)) kept.killed (pid ∷ []) sound.killed (known, tt);
-        killed_once = distinct-more pid kept.killed fresh sound.killed_once;
+        killed = all-append (λ q. IsTrue (is_among q kept.spawned_ids)) kept.killed_ids (pid ∷ []) sound.killed (known, tt);
+        killed_once = distinct-more pid kept.killed_ids fresh sound.killed_once;
       };
-      births = λ q. ap (λ b. not (is_among q kept.spawned) || b) (start-append q kept.waiting items refl);
-      parcels = λ id. omega (arith, ap (count id) (ids-append kept.waiting items ∙ append-nil (parcel_ids kept.waiting)), count-nil id);
+      births = λ q. ap (λ b. not (is_among q kept.spawned_ids) || b) (start-append q kept.waiting_items items refl);
+      parcels = λ id. omega (arith, ap (count id) (ids-append kept.waiting_items items ∙ append-nil (parcel_ids kept.waiting_items)), count-nil id);
     }
 
 pub among-all : (P : ℕ → Type 0) (pid : ℕ) (pids : List ℕ) → AllByRecursion P pids → is_among pid pids ≡ true → P pid
@@ -234,19 +234,19 @@ among-all P pid (other ∷ pids) all h =
 -- ---- an item is taken
 
 -- how often an item's name fits those that wait
-pub named_once : (cube : Cube) (sent r : ℕ) (kept : NodeRecord) (item : Item) → IsSoundRecord cube sent r kept → count_by (is_named_by (given_as item)) kept.waiting ≤ 1
+pub named_once : (cube : Cube) (sent r : ℕ) (kept : NodeRecord) (item : Item) → IsSoundRecord cube sent r kept → count_by (is_named_by (given_as item)) kept.waiting_items ≤ 1
 named_once cube sent r kept (start pid image) sound =
-    omega (arith, sound.one_start pid, count_by-agree (is_named_by (given_as (start pid image))) (is_start_of pid) kept.waiting (named-start pid image))
-named_once cube sent r kept (mail parcel) sound = named-mail parcel.to.pid parcel.number kept.waiting sound.numbered.rising
+    omega (arith, sound.one_start pid, count_by-agree (is_named_by (given_as (start pid image))) (is_start_of pid) kept.waiting_items (named-start pid image))
+named_once cube sent r kept (mail parcel) sound = named-mail parcel.to.pid parcel.number kept.waiting_items sound.numbered.rising
 named_once cube sent r kept (kill pid) sound =
-    omega (arith, sound.one_kill pid, count_by-agree (is_named_by (given_as (kill pid))) (is_kill_of pid) kept.waiting (named-kill pid))
+    omega (arith, sound.one_kill pid, count_by-agree (is_named_by (given_as (kill pid))) (is_kill_of pid) kept.waiting_items (named-kill pid))
 
 -- what is left once an item is taken that can be given first
 pub record HasTakenItem (cube : Cube) (sent r asking dead : ℕ) (kept kept' : NodeRecord) (item : Item) : Type 0 where
   pub sound : IsSoundRecord cube sent r kept'
-  pub parcels : (id : BlockId) → count id (parcel_ids kept'.waiting) + count id (parcel_ids (item ∷ [])) ≡ count id (parcel_ids kept.waiting)
+  pub parcels : (id : BlockId) → count id (parcel_ids kept'.waiting_items) + count id (parcel_ids (item ∷ [])) ≡ count id (parcel_ids kept.waiting_items)
   pub births : (pid : ℕ) → is_start_of pid item ≡ false → births kept' pid ≡ births kept pid
-  pub out : IsOut (is_eligible asking dead) (is_named_by (given_as item)) kept.waiting item
+  pub out : IsOut (is_eligible asking dead) (is_named_by (given_as item)) kept.waiting_items item
   pub of_node : IsItemOf cube r kept item
 
 abbrev pub without_named : Item → List Item → List Item
@@ -257,23 +257,23 @@ start-out pid [] item behind other = ap (λ b. b || has_start pid behind) other
 start-out pid (x ∷ before) item behind other = ap (λ b. is_start_of pid x || b) (start-out pid before item behind other)
 
 pub takes-item : (cube : Cube) (sent r asking dead : ℕ) (kept : NodeRecord) (mark : Mark) (item : Item) → IsSoundRecord cube sent r kept
-    → find (is_eligible asking dead) kept.waiting ≡ Some item
-    → HasTakenItem cube sent r asking dead kept (kept_with (without_named item kept.waiting) kept.spawned kept.killed mark) item
+    → find (is_eligible asking dead) kept.waiting_items ≡ Some item
+    → HasTakenItem cube sent r asking dead kept (kept_with (without_named item kept.waiting_items) kept.spawned_ids kept.killed_ids mark) item
 takes-item cube sent r asking dead kept mark item sound found =
     let test = λ (x : Item). not (is_named_by (given_as item) x) in
-    let left = filter test kept.waiting in
-    let kept' = kept_with left kept.spawned kept.killed mark in
-    let out = find-out (is_eligible asking dead) (is_named_by (given_as item)) kept.waiting item found (named-itself item) (named_once cube sent r kept item sound) in
+    let left = filter test kept.waiting_items in
+    let kept' = kept_with left kept.spawned_ids kept.killed_ids mark in
+    let out = find-out (is_eligible asking dead) (is_named_by (given_as item)) kept.waiting_items item found (named-itself item) (named_once cube sent r kept item sound) in
     record {
       sound = record {
         numbered = record {
-          rising = rising-filter test kept.waiting sound.numbered.rising;
-          below = all_numbers-filter (λ n. n < sent) test kept.waiting sound.numbered.below;
+          rising = rising-filter test kept.waiting_items sound.numbered.rising;
+          below = all_numbers-filter (λ n. n < sent) test kept.waiting_items sound.numbered.below;
         };
-        own = all-filter (IsItemOf cube r kept') test kept.waiting (own-more cube r kept kept' kept.waiting (λ q h. h) (λ q h. h) sound.own);
-        one_start = λ pid. omega (arith, sound.one_start pid, count_by-filter (is_start_of pid) test kept.waiting);
-        one_kill = λ pid. omega (arith, sound.one_kill pid, count_by-filter (is_kill_of pid) test kept.waiting);
-        start_first = λ pid. start_first-filter pid test kept.waiting (sound.start_first pid);
+        own = all-filter (IsItemOf cube r kept') test kept.waiting_items (own-more cube r kept kept' kept.waiting_items (λ q h. h) (λ q h. h) sound.own);
+        one_start = λ pid. omega (arith, sound.one_start pid, count_by-filter (is_start_of pid) test kept.waiting_items);
+        one_kill = λ pid. omega (arith, sound.one_kill pid, count_by-filter (is_kill_of pid) test kept.waiting_items);
+        start_first = λ pid. start_first-filter pid test kept.waiting_items (sound.start_first pid);
         ids = sound.ids;
         spawned_once = sound.spawned_once;
         killed = sound.killed;
@@ -290,16 +290,16 @@ takes-item cube sent r asking dead kept mark item sound found =
         ap (count id) (ids-append (item ∷ []) out.behind),
         count-append id (parcel_ids (item ∷ [])) (parcel_ids out.behind),
       );
-      births = λ pid other. ap (λ xs. not (is_among pid kept.spawned) || has_start pid xs) out.rest
-          ∙ sym (ap (λ b. not (is_among pid kept.spawned) || b) (start-out pid out.before item out.behind other))
-          ∙ sym (ap (λ xs. not (is_among pid kept.spawned) || has_start pid xs) out.whole);
+      births = λ pid other. ap (λ xs. not (is_among pid kept.spawned_ids) || has_start pid xs) out.rest
+          ∙ sym (ap (λ b. not (is_among pid kept.spawned_ids) || b) (start-out pid out.before item out.behind other))
+          ∙ sym (ap (λ xs. not (is_among pid kept.spawned_ids) || has_start pid xs) out.whole);
       out = out;
       of_node = all-split (IsItemOf cube r kept) out.before item out.behind (subst (AllByRecursion (IsItemOf cube r kept)) out.whole sound.own);
     }
 
 -- the start of a process that is taken was the only one
-pub start-taken : (cube : Cube) (sent r asking dead pid image : ℕ) (kept kept' : NodeRecord) → IsSoundRecord cube sent r kept → kept'.spawned ≡ kept.spawned
-    → kept'.waiting ≡ without_named (start pid image) kept.waiting
+pub start-taken : (cube : Cube) (sent r asking dead pid image : ℕ) (kept kept' : NodeRecord) → IsSoundRecord cube sent r kept → kept'.spawned_ids ≡ kept.spawned_ids
+    → kept'.waiting_items ≡ without_named (start pid image) kept.waiting_items
     → HasTakenItem cube sent r asking dead kept kept' (start pid image) → (births kept pid ≡ true) × (births kept' pid ≡ false)
 start-taken cube sent r asking dead pid image kept kept' sound spawned waiting taken =
     let here = eq-eqb pid pid refl in
@@ -315,7 +315,7 @@ start-taken cube sent r asking dead pid image kept kept' sound spawned waiting t
     ) in
     let none = any-none (is_start_of pid) (taken.out.before ++ taken.out.behind) (none-from_count (is_start_of pid) (taken.out.before ++ taken.out.behind) others) in (
       or_right _ _ (ap (has_start pid) taken.out.whole ∙ (list_any-append (is_start_of pid) taken.out.before (start pid image ∷ taken.out.behind) ∙ or_right _ _ (or_left _ _ here))),
-      or_from _ _ (ap (λ pids. not (is_among pid pids)) spawned ∙ not_from_true (is_among pid kept.spawned) taken.of_node.0)
+      or_from _ _ (ap (λ pids. not (is_among pid pids)) spawned ∙ not_from_true (is_among pid kept.spawned_ids) taken.of_node.0)
           (ap (has_start pid) (waiting ∙ taken.out.rest) ∙ none),
     )
 
@@ -323,12 +323,12 @@ start-taken cube sent r asking dead pid image kept kept' sound spawned waiting t
 pub kill-taken : (cube : Cube) (sent r asking dead pid : ℕ) (kept kept' : NodeRecord) → IsSoundRecord cube sent r kept
     → HasTakenItem cube sent r asking dead kept kept' (kill pid) → (pid < process_count) × (births kept pid ≡ false)
 kill-taken cube sent r asking dead pid kept kept' sound taken =
-    let spawned : is_among pid kept.spawned ≡ true =
-    true_from_ne_false (is_among pid kept.spawned) (λ none. both_ways _ (killed-spawned pid kept.spawned kept.killed sound.killed none) taken.of_node) in
+    let spawned : is_among pid kept.spawned_ids ≡ true =
+    true_from_ne_false (is_among pid kept.spawned_ids) (λ none. both_ways _ (killed-spawned pid kept.spawned_ids kept.killed_ids sound.killed none) taken.of_node) in
     let before = any-none (is_start_of pid) taken.out.before
     (all-weaker (λ x. is_eligible asking dead x ≡ false) (λ x. is_start_of pid x ≡ false) taken.out.before (start_can_be_given asking dead pid) taken.out.earlier) in
     let behind = start_first-at pid taken.out.before taken.out.behind (subst (IsStartFirst pid) taken.out.whole (sound.start_first pid)) in (
-      among-all (λ q. q < process_count) pid kept.spawned sound.ids spawned,
-      or_from _ _ (not_from_true (is_among pid kept.spawned) spawned)
+      among-all (λ q. q < process_count) pid kept.spawned_ids sound.ids spawned,
+      or_from _ _ (not_from_true (is_among pid kept.spawned_ids) spawned)
           (ap (has_start pid) taken.out.whole ∙ (list_any-append (is_start_of pid) taken.out.before (kill pid ∷ taken.out.behind) ∙ or_from _ _ before behind)),
     )

@@ -13,9 +13,9 @@ use Rattle.ce_model.specs.Limits.{home_blocks_lem}
 use Rattle.ce_model.specs.Lists.{IsFront}
 use Rattle.ce_model.specs.Parcels.{Item, mail, item_id, is_eligible, is_member}
 use Rattle.ce_model.specs.Node.{host_place}
-use Rattle.ce_model.specs.Trace.{sent_to, taken_by, waiting_items}
+use Rattle.ce_model.specs.Trace.{sent_items, taken_results, waiting_items}
 use Rattle.ce_model.specs.Answers.{offer_of}
-use Rattle.ce_model.specs.Cube.{opening, left_by}
+use Rattle.ce_model.specs.Cube.{opening, state_after_trace}
 use Rattle.ce_model.specs.Owners.{IsBlockOf, IsOwned}
 use Rattle.ce_model.specs.Order.{messages_sent, messages_got, IsInOrder}
 use Rattle.ce_model.proofs.Rows.Cubes.{one_cube, by, place_0, host_block, host_parcel}
@@ -36,7 +36,7 @@ two_parcels = by HOST (Send 0 0 (one_block_each (host_block 0) (place_0 ∷ plac
 -- what waits behind it
 two_wait : (image : ImageParts)
     → waiting_items (opening (one_cube image)).standing 0 two_parcels ≡ mail (host_parcel 0 0 (1 ∷ [])) ∷ mail (host_parcel 1 0 (1 ∷ [])) ∷ []
-unfolding waiting_items sent_to taken_by
+unfolding waiting_items sent_items taken_results
 two_wait image = refl
 
 of_the_cube : (image : ImageParts) → IsBlockOf (one_cube image).dim (host_block 0)
@@ -45,7 +45,7 @@ of_the_cube image = record { home = inr refl; index = omega (arith, home_blocks_
 pub two_parcels-refused : (image : ImageParts) → IsOwned (one_cube image) (opening (one_cube image)) two_parcels → ⊥
 two_parcels-refused image owned =
     let cube = one_cube image in
-    let s = left_by cube (opening cube) two_parcels in
+    let s = state_after_trace cube (opening cube) two_parcels in
     let id = host_block 0 in
     let one = owned two_parcels ([], refl) id (of_the_cube image) in
     omega (
@@ -92,7 +92,7 @@ newest_first =
     ∷ []
 
 pub newest_first-refused : (image : ImageParts) → IsInOrder (opening (one_cube image)).standing newest_first → ⊥
-unfolding messages_got messages_sent waiting_items sent_to taken_by
+unfolding messages_got messages_sent waiting_items sent_items taken_results
 newest_first-refused image order = not_front (order newest_first ([], refl) host_place place_0)
 
 -- ---- early mail dropped
@@ -116,5 +116,5 @@ early_dropped =
     ∷ []
 
 pub early_dropped-refused : (image : ImageParts) → IsInOrder (opening (one_cube image)).standing early_dropped → ⊥
-unfolding messages_got messages_sent waiting_items sent_to taken_by
+unfolding messages_got messages_sent waiting_items sent_items taken_results
 early_dropped-refused image order = not_front (order early_dropped ([], refl) host_place place_0)

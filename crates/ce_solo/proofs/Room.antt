@@ -180,7 +180,7 @@ starts-small : (cube : Cube) (sent r : ℕ) (kept : NodeRecord) (items : List It
 unfolding start_pids
 starts-small cube sent r kept [] sound own = tt
 starts-small cube sent r kept (start pid image ∷ items) sound own =
-    (among-all (λ q. q < process_count) pid kept.spawned sound.ids own.0.0, starts-small cube sent r kept items sound own.1)
+    (among-all (λ q. q < process_count) pid kept.spawned_ids sound.ids own.0.0, starts-small cube sent r kept items sound own.1)
 starts-small cube sent r kept (mail parcel ∷ items) sound own = starts-small cube sent r kept items sound own.1
 starts-small cube sent r kept (kill pid ∷ items) sound own = starts-small cube sent r kept items sound own.1
 
@@ -191,8 +191,8 @@ kills-small cube sent r kept [] sound own = tt
 kills-small cube sent r kept (start pid image ∷ items) sound own = kills-small cube sent r kept items sound own.1
 kills-small cube sent r kept (mail parcel ∷ items) sound own = kills-small cube sent r kept items sound own.1
 kills-small cube sent r kept (kill pid ∷ items) sound own = (
-  among-all (λ q. q < process_count) pid kept.spawned sound.ids
-      (true_from_ne_false (is_among pid kept.spawned) (λ none. both_ways _ (killed-spawned pid kept.spawned kept.killed sound.killed none) own.0)),
+  among-all (λ q. q < process_count) pid kept.spawned_ids sound.ids
+      (true_from_ne_false (is_among pid kept.spawned_ids) (λ none. both_ways _ (killed-spawned pid kept.spawned_ids kept.killed_ids sound.killed none) own.0)),
   kills-small cube sent r kept items sound own.1,
 )
 
@@ -208,16 +208,16 @@ held_blocks cube s ids sound within =
 
 -- no more items wait at a node than a start and a kill for each id and a parcel for each block
 pub node_room : (cube : Cube) (s : CubeState) (r : ℕ) → IsCube cube → IsSound cube s → r < 2 ^ cube.dim
-    → length (s.standing.node_record r).waiting ≤ (2 ^ cube.dim + 1) * home_blocks + 2 * process_count
+    → length (s.standing.node_record r).waiting_items ≤ (2 ^ cube.dim + 1) * home_blocks + 2 * process_count
 node_room cube s r of sound below =
     let kept = s.standing.node_record r in
     let is = sound.records r below in
-    let within : (id : BlockId) → count id (parcel_ids kept.waiting) ≤ total id cube.dim s =
+    let within : (id : BlockId) → count id (parcel_ids kept.waiting_items) ≤ total id cube.dim s =
     λ id. omega (arith, total-is id cube.dim s, at_node-is id s r, sum_run-part (at_node id s) r 0 (2 ^ cube.dim) (omega arith) (omega arith)) in
-    let blocks = few-blocks cube (parcel_ids kept.waiting) of (held_blocks cube s (parcel_ids kept.waiting) sound within) (λ id. omega (arith, within id, total-le cube s id sound)) in
-    let starts = few-distinct (start_pids kept.waiting) process_count (starts-small cube s.standing.parcel_count r kept kept.waiting is is.own) (λ pid. omega (arith, is.one_start pid, starts-times pid kept.waiting)) in
-    let kills = few-distinct (kill_pids kept.waiting) process_count (kills-small cube s.standing.parcel_count r kept kept.waiting is is.own) (λ pid. omega (arith, is.one_kill pid, kills-times pid kept.waiting)) in
-    omega (arith, length-items kept.waiting, blocks, starts, kills)
+    let blocks = few-blocks cube (parcel_ids kept.waiting_items) of (held_blocks cube s (parcel_ids kept.waiting_items) sound within) (λ id. omega (arith, within id, total-le cube s id sound)) in
+    let starts = few-distinct (start_pids kept.waiting_items) process_count (starts-small cube s.standing.parcel_count r kept kept.waiting_items is is.own) (λ pid. omega (arith, is.one_start pid, starts-times pid kept.waiting_items)) in
+    let kills = few-distinct (kill_pids kept.waiting_items) process_count (kills-small cube s.standing.parcel_count r kept kept.waiting_items is is.own) (λ pid. omega (arith, is.one_kill pid, kills-times pid kept.waiting_items)) in
+    omega (arith, length-items kept.waiting_items, blocks, starts, kills)
 
 host_pids : (items : List Item) → AllByRecursion IsHostItem items → length items ≡ length (parcel_ids items)
 host_pids [] own = refl
@@ -226,9 +226,9 @@ host_pids (mail parcel ∷ items) own = ap suc (host_pids items own.1)
 host_pids (kill pid ∷ items) own = absurd own.0
 
 -- and no more parcels wait at the host than the cube has blocks
-pub host_room : (cube : Cube) (s : CubeState) → IsCube cube → IsSound cube s → length (s.standing.node_record HOST).waiting ≤ (2 ^ cube.dim + 1) * home_blocks
+pub host_room : (cube : Cube) (s : CubeState) → IsCube cube → IsSound cube s → length (s.standing.node_record HOST).waiting_items ≤ (2 ^ cube.dim + 1) * home_blocks
 host_room cube s of sound =
-    let items = (s.standing.node_record HOST).waiting in
+    let items = (s.standing.node_record HOST).waiting_items in
     let within : (id : BlockId) → count id (parcel_ids items) ≤ total id cube.dim s = λ id. omega (arith, total-is id cube.dim s) in
     omega (
       arith,

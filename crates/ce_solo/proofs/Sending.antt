@@ -7,7 +7,7 @@ use Rattle.ce_model.specs.declared.topology.Place.{Place}
 use Rattle.ce_model.specs.declared.topology.BlockId.{BlockId}
 use Rattle.ce_model.specs.Limits.{process_count, greatest_dim_lem}
 use Rattle.ce_model.specs.Lists.{ArePairwise}
-use Rattle.ce_model.specs.Parcels.{Parcel, Item, start, mail, kill, item_id, parcels_from}
+use Rattle.ce_model.specs.Parcels.{Parcel, Item, start, mail, kill, item_id, message_parcels}
 use Rattle.ce_model.specs.Node.{is_place, is_host_place, host_place}
 use Rattle.ce_model.specs.Trace.{Mark, NodeRecord}
 use Rattle.ce_model.specs.Answers.{is_among}
@@ -60,33 +60,33 @@ abbrev pub to_node : ℕ → List Parcel → List Parcel
 to_node r ps = filter (λ parcel. parcel.to.node == r) ps
 
 module _ (from : Place) (bytes : List ℕ) where
-  pub from-count : (number : ℕ) (to : List (Place × BlockId)) → AllByRecursion (λ (p : Parcel). number ≤ p.number) (parcels_from from number bytes to)
+  pub from-count : (number : ℕ) (to : List (Place × BlockId)) → AllByRecursion (λ (p : Parcel). number ≤ p.number) (message_parcels from number bytes to)
   from-count number [] = tt
   from-count number (target ∷ targets) =
-      (omega arith, all-weaker (λ (p : Parcel). number + 1 ≤ p.number) (λ p. number ≤ p.number) (parcels_from from (number + 1) bytes targets) (λ p h. omega arith) (from-count (number + 1) targets))
+      (omega arith, all-weaker (λ (p : Parcel). number + 1 ≤ p.number) (λ p. number ≤ p.number) (message_parcels from (number + 1) bytes targets) (λ p h. omega arith) (from-count (number + 1) targets))
 
   pub from-below : (number : ℕ) (to : List (Place × BlockId))
-      → AllByRecursion (λ (p : Parcel). p.number < number + length (parcels_from from number bytes to)) (parcels_from from number bytes to)
+      → AllByRecursion (λ (p : Parcel). p.number < number + length (message_parcels from number bytes to)) (message_parcels from number bytes to)
   from-below number [] = tt
   from-below number (target ∷ targets) = (
     omega arith,
-    all-weaker (λ (p : Parcel). p.number < number + 1 + length (parcels_from from (number + 1) bytes targets))
-        (λ p. p.number < number + suc (length (parcels_from from (number + 1) bytes targets))) (parcels_from from (number + 1) bytes targets) (λ p h. omega arith) (from-below (number + 1) targets),
+    all-weaker (λ (p : Parcel). p.number < number + 1 + length (message_parcels from (number + 1) bytes targets))
+        (λ p. p.number < number + suc (length (message_parcels from (number + 1) bytes targets))) (message_parcels from (number + 1) bytes targets) (λ p h. omega arith) (from-below (number + 1) targets),
   )
 
-  pub from-rising : (number : ℕ) (to : List (Place × BlockId)) → ArePairwise (λ (p q : Parcel). p.number < q.number) (parcels_from from number bytes to)
+  pub from-rising : (number : ℕ) (to : List (Place × BlockId)) → ArePairwise (λ (p q : Parcel). p.number < q.number) (message_parcels from number bytes to)
   from-rising number [] = tt
   from-rising number (target ∷ targets) = (
-    all-weaker (λ (p : Parcel). number + 1 ≤ p.number) (λ p. number < p.number) (parcels_from from (number + 1) bytes targets) (λ p h. omega arith) (from-count (number + 1) targets),
+    all-weaker (λ (p : Parcel). number + 1 ≤ p.number) (λ p. number < p.number) (message_parcels from (number + 1) bytes targets) (λ p h. omega arith) (from-count (number + 1) targets),
     from-rising (number + 1) targets,
   )
 
   pub from-targets : (P : Place → Type 0) (number : ℕ) (to : List (Place × BlockId)) → AllByRecursion (λ target. P target.0) to
-      → AllByRecursion (λ (p : Parcel). P p.to) (parcels_from from number bytes to)
+      → AllByRecursion (λ (p : Parcel). P p.to) (message_parcels from number bytes to)
   from-targets P number [] all = tt
   from-targets P number (target ∷ targets) all = (all.0, from-targets P (number + 1) targets all.1)
 
-  pub from-ids : (number : ℕ) (to : List (Place × BlockId)) → sent_ids (parcels_from from number bytes to) ≡ map (λ target. target.1) to
+  pub from-ids : (number : ℕ) (to : List (Place × BlockId)) → sent_ids (message_parcels from number bytes to) ≡ map (λ target. target.1) to
   from-ids number [] = refl
   from-ids number (target ∷ targets) = ap (λ ids. target.1 ∷ ids) (from-ids (number + 1) targets)
 
@@ -103,7 +103,7 @@ pub record AreSent (cube : Cube) (count count' : ℕ) (ps : List Parcel) : Type 
   pub more : count ≤ count'
 
 pub are_sent : (cube : Cube) (from : Place) (number : ℕ) (bytes : List ℕ) (to : List (Place × BlockId)) → AllByRecursion (λ target. IsTargetOf cube target.0) to
-    → AreSent cube number (number + length (parcels_from from number bytes to)) (parcels_from from number bytes to)
+    → AreSent cube number (number + length (message_parcels from number bytes to)) (message_parcels from number bytes to)
 are_sent cube from number bytes to targets = record {
   rising = from-rising from bytes number to;
   from_count = from-count from bytes number to;
@@ -208,20 +208,20 @@ sent-sum cube id (p ∷ ps) of all =
 
 -- a start of a fresh id comes to its node, and to no other
 pub start-keeps : (cube : Cube) (sent r image : ℕ) (to : Place) (kept : NodeRecord) (mark : Mark) (b : Bool) → IsSoundRecord cube sent r kept
-    → (b ≡ true → is_among to.pid kept.spawned ≡ false) → to.pid < process_count → image < length cube.images
+    → (b ≡ true → is_among to.pid kept.spawned_ids ≡ false) → to.pid < process_count → image < length cube.images
     → HasStayedSound cube (sent + 0) r kept
-    (kept_with (joined kept.waiting ((if b then start to.pid image ∷ [] else []) ++ [])) (joined kept.spawned (map item_id (if b then start to.pid image ∷ [] else []))) kept.killed mark) [] []
+    (kept_with (joined kept.waiting_items ((if b then start to.pid image ∷ [] else []) ++ [])) (joined kept.spawned_ids (map item_id (if b then start to.pid image ∷ [] else []))) kept.killed_ids mark) [] []
 start-keeps cube sent r image to kept mark true sound fresh within of_cube =
-    subst (λ n. HasStayedSound cube n r kept (kept_with (kept.waiting ++ start to.pid image ∷ []) (kept.spawned ++ to.pid ∷ []) kept.killed mark) [] []) (omega arith)
+    subst (λ n. HasStayedSound cube n r kept (kept_with (kept.waiting_items ++ start to.pid image ∷ []) (kept.spawned_ids ++ to.pid ∷ []) kept.killed_ids mark) [] []) (omega arith)
     (keeps-start cube sent r to.pid image kept mark sound (fresh refl) within of_cube)
 start-keeps cube sent r image to kept mark false sound fresh within of_cube = keeps-same cube sent (sent + 0) r kept mark (omega arith) sound
 
 -- so does an accepted kill
 pub kill-keeps : (cube : Cube) (sent r : ℕ) (to : Place) (kept : NodeRecord) (mark : Mark) (b : Bool) → IsSoundRecord cube sent r kept
-    → (b ≡ true → is_among to.pid kept.spawned ≡ true) → (b ≡ true → is_among to.pid kept.killed ≡ false)
+    → (b ≡ true → is_among to.pid kept.spawned_ids ≡ true) → (b ≡ true → is_among to.pid kept.killed_ids ≡ false)
     → HasStayedSound cube (sent + 0) r kept
-    (kept_with (joined kept.waiting ((if b then kill to.pid ∷ [] else []) ++ [])) kept.spawned (joined kept.killed (map item_id (if b then kill to.pid ∷ [] else []))) mark) [] []
+    (kept_with (joined kept.waiting_items ((if b then kill to.pid ∷ [] else []) ++ [])) kept.spawned_ids (joined kept.killed_ids (map item_id (if b then kill to.pid ∷ [] else []))) mark) [] []
 kill-keeps cube sent r to kept mark true sound known fresh =
-    subst (λ n. HasStayedSound cube n r kept (kept_with (kept.waiting ++ kill to.pid ∷ []) kept.spawned (kept.killed ++ to.pid ∷ []) mark) [] []) (omega arith)
+    subst (λ n. HasStayedSound cube n r kept (kept_with (kept.waiting_items ++ kill to.pid ∷ []) kept.spawned_ids (kept.killed_ids ++ to.pid ∷ []) mark) [] []) (omega arith)
     (keeps-kill cube sent r to.pid kept mark sound (known refl) (fresh refl))
 kill-keeps cube sent r to kept mark false sound known fresh = keeps-same cube sent (sent + 0) r kept mark (omega arith) sound

@@ -7,11 +7,11 @@ use Rattle.ce_model.specs.declared.entry.What.{What}
 use Rattle.ce_model.specs.declared.entry.What.TheVariants.{Spawn, Kill}
 use Rattle.ce_model.specs.declared.entry.KillFound.TheVariants.{Killed}
 use Rattle.ce_model.specs.Parcels.{Item, start, kill, item_id}
-use Rattle.ce_model.specs.Trace.{NodeRecord, Standing, parcels_of, starts_in, kills_in, mails_in, items_to, spawned_in, killed_in, sent_to, spawned_ids, killed_ids}
+use Rattle.ce_model.specs.Trace.{NodeRecord, Standing, sent_parcels, starts_in, kills_in, mails_in, items_to, start_ids_in, kill_ids_in, sent_items, spawned_ids, killed_ids}
 use Rattle.ce_model.specs.Answers.{is_among}
-use Rattle.ce_model.specs.Cube.{Cube, CubeState, left_by}
+use Rattle.ce_model.specs.Cube.{Cube, CubeState, state_after_trace}
 use Rattle.ce_model.specs.Sound.{is_start_of, is_kill_of, IsSound}
-use Rattle.ce_model.proofs.OneMore.{sent_to-more, spawned-more, killed-more}
+use Rattle.ce_model.proofs.OneMore.{sent_items-more, spawned-more, killed-more}
 use Rattle.ce_solo.proofs.Lists.{all-front, all-back, count_by-cons, count_by-append, one_if, one_if-true, one_if-false, one_if-le, count_by-none, none-from_any}
 use Rattle.ce_solo.proofs.Items.{start-mails, kill-mails, own-starts, own-kills}
 use Rattle.ce_solo.proofs.Records.{among-last, among-other}
@@ -43,15 +43,15 @@ module _ (sent : ℕ) (kept : NodeRecord) (r pid c : ℕ) where
   one_if_new test ids x true same fresh new h = omega (arith, one_more pid (item_id x) c ids h (fresh new.0), count_by-cons test x [], ap one_if same)
   one_if_new test ids x false same fresh new h = none_more pid c ids h
 
-  starts_step : (what : What) → AllByRecursion (IsNewItem sent kept) (starts_in r what) → c ≤ one_if (is_among pid kept.spawned)
-      → c + count_by (is_start_of pid) (starts_in r what) ≤ one_if (is_among pid (kept.spawned ++ spawned_in r what))
-  starts_step (Spawn by image to true) new h = one_if_new (is_start_of pid) kept.spawned (start to.pid image) (to.node == r) refl (λ fresh. fresh) new h
-  starts_step other new h = none_more pid c kept.spawned h
+  starts_step : (what : What) → AllByRecursion (IsNewItem sent kept) (starts_in r what) → c ≤ one_if (is_among pid kept.spawned_ids)
+      → c + count_by (is_start_of pid) (starts_in r what) ≤ one_if (is_among pid (kept.spawned_ids ++ start_ids_in r what))
+  starts_step (Spawn by image to true) new h = one_if_new (is_start_of pid) kept.spawned_ids (start to.pid image) (to.node == r) refl (λ fresh. fresh) new h
+  starts_step other new h = none_more pid c kept.spawned_ids h
 
-  kills_step : (what : What) → AllByRecursion (IsNewItem sent kept) (kills_in r what) → c ≤ one_if (is_among pid kept.killed)
-      → c + count_by (is_kill_of pid) (kills_in r what) ≤ one_if (is_among pid (kept.killed ++ killed_in r what))
-  kills_step (Kill by to Killed) new h = one_if_new (is_kill_of pid) kept.killed (kill to.pid) (to.node == r) refl (λ fresh. fresh) new h
-  kills_step other new h = none_more pid c kept.killed h
+  kills_step : (what : What) → AllByRecursion (IsNewItem sent kept) (kills_in r what) → c ≤ one_if (is_among pid kept.killed_ids)
+      → c + count_by (is_kill_of pid) (kills_in r what) ≤ one_if (is_among pid (kept.killed_ids ++ kill_ids_in r what))
+  kills_step (Kill by to Killed) new h = one_if_new (is_kill_of pid) kept.killed_ids (kill to.pid) (to.node == r) refl (λ fresh. fresh) new h
+  kills_step other new h = none_more pid c kept.killed_ids h
 
 no_starts-kills : (pid r : ℕ) (what : What) → count_by (is_start_of pid) (kills_in r what) ≡ 0
 no_starts-kills pid r (Kill by to Killed) = cond_both (to.node == r) (kill to.pid ∷ []) [] (λ items. count_by (is_start_of pid) items ≡ 0) (λ t. refl) (λ f. refl)
@@ -74,7 +74,7 @@ without_mails test r entry none =
 
 starts-to : (pid r : ℕ) (entry : Entry) → count_by (is_start_of pid) (items_to r entry) ≡ count_by (is_start_of pid) (starts_in r entry.what)
 starts-to pid r entry =
-    omega (arith, without_mails (is_start_of pid) r entry (none-from_any (is_start_of pid) (mails_in r entry) (start-mails pid (to_node r (parcels_of entry.actor entry.what)))), no_starts-kills pid r entry.what)
+    omega (arith, without_mails (is_start_of pid) r entry (none-from_any (is_start_of pid) (mails_in r entry) (start-mails pid (to_node r (sent_parcels entry.actor entry.what)))), no_starts-kills pid r entry.what)
 
 kills-to : (pid r : ℕ) (entry : Entry) → count_by (is_kill_of pid) (items_to r entry) ≡ count_by (is_kill_of pid) (kills_in r entry.what)
 kills-to pid r entry =
@@ -84,8 +84,8 @@ kills-to pid r entry =
 
 -- what was sent to a node has a start only of an id that was spawned, and of each one; and so with kills
 pub record HasSentOnce (o : Standing) (r pid : ℕ) (t : List Entry) : Type 0 where
-  pub starts : count_by (is_start_of pid) (sent_to o r t) ≤ one_if (is_among pid (spawned_ids o r t))
-  pub kills : count_by (is_kill_of pid) (sent_to o r t) ≤ one_if (is_among pid (killed_ids o r t))
+  pub starts : count_by (is_start_of pid) (sent_items o r t) ≤ one_if (is_among pid (spawned_ids o r t))
+  pub kills : count_by (is_kill_of pid) (sent_items o r t) ≤ one_if (is_among pid (killed_ids o r t))
 
 -- an item of the id waits only where the id is among these
 once_at : (test : Item → Bool) (pid : ℕ) (ids : List ℕ) (items : List Item) → count_by test items ≤ 1
@@ -99,19 +99,19 @@ once_at test pid ids items once none =
     ]
 
 pub once-nil : (cube : Cube) (o : CubeState) (r pid : ℕ) → r < 2 ^ cube.dim → IsSound cube o → HasSentOnce o.standing r pid []
-unfolding sent_to spawned_ids killed_ids
+unfolding sent_items spawned_ids killed_ids
 once-nil cube o r pid below sound =
     let kept = o.standing.node_record r in
     let is = sound.records r below in
     record {
-      starts = once_at (is_start_of pid) pid kept.spawned kept.waiting (is.one_start pid) (λ f. own-starts cube r pid kept kept.waiting f is.own);
-      kills = once_at (is_kill_of pid) pid kept.killed kept.waiting (is.one_kill pid) (λ f. own-kills cube r pid kept kept.waiting f is.own);
+      starts = once_at (is_start_of pid) pid kept.spawned_ids kept.waiting_items (is.one_start pid) (λ f. own-starts cube r pid kept kept.waiting_items f is.own);
+      kills = once_at (is_kill_of pid) pid kept.killed_ids kept.waiting_items (is.one_kill pid) (λ f. own-kills cube r pid kept kept.waiting_items f is.own);
     }
 
-pub once-more : (cube : Cube) (o : CubeState) (r pid : ℕ) (t : List Entry) (entry : Entry) → HasSentOnce o.standing r pid t → IsEntryOf cube (left_by cube o t) entry
+pub once-more : (cube : Cube) (o : CubeState) (r pid : ℕ) (t : List Entry) (entry : Entry) → HasSentOnce o.standing r pid t → IsEntryOf cube (state_after_trace cube o t) entry
     → HasSentOnce o.standing r pid (t ++ entry ∷ [])
 once-more cube o r pid t entry once e =
-    let s = left_by cube o t in
+    let s = state_after_trace cube o t in
     let kept = s.standing.node_record r in
     let new : AllByRecursion (IsNewItem s.standing.parcel_count kept) (items_to r entry) =
     subst (λ entry. AllByRecursion (IsNewItem s.standing.parcel_count kept) (items_to r entry)) (sym e.is) (items-new cube s e.actor r e.call) in
@@ -121,18 +121,18 @@ once-more cube o r pid t entry once e =
     record {
       starts = omega (
         arith,
-        ap (count_by (is_start_of pid)) (sent_to-more o.standing r t entry),
-        count_by-append (is_start_of pid) (sent_to o.standing r t) (items_to r entry),
+        ap (count_by (is_start_of pid)) (sent_items-more o.standing r t entry),
+        count_by-append (is_start_of pid) (sent_items o.standing r t) (items_to r entry),
         starts-to pid r entry,
         ap (λ xs. one_if (is_among pid xs)) (spawned-more o.standing r t entry),
-        starts_step s.standing.parcel_count kept r pid (count_by (is_start_of pid) (sent_to o.standing r t)) entry.what starts once.starts,
+        starts_step s.standing.parcel_count kept r pid (count_by (is_start_of pid) (sent_items o.standing r t)) entry.what starts once.starts,
       );
       kills = omega (
         arith,
-        ap (count_by (is_kill_of pid)) (sent_to-more o.standing r t entry),
-        count_by-append (is_kill_of pid) (sent_to o.standing r t) (items_to r entry),
+        ap (count_by (is_kill_of pid)) (sent_items-more o.standing r t entry),
+        count_by-append (is_kill_of pid) (sent_items o.standing r t) (items_to r entry),
         kills-to pid r entry,
         ap (λ xs. one_if (is_among pid xs)) (killed-more o.standing r t entry),
-        kills_step s.standing.parcel_count kept r pid (count_by (is_kill_of pid) (sent_to o.standing r t)) entry.what kills once.kills,
+        kills_step s.standing.parcel_count kept r pid (count_by (is_kill_of pid) (sent_items o.standing r t)) entry.what kills once.kills,
       );
     }

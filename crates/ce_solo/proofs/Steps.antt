@@ -6,11 +6,11 @@ use Rattle.ce_model.specs.declared.entry.Entry.{Entry}
 use Rattle.ce_model.specs.declared.entry.TakeResult.{TakeResult}
 use Rattle.ce_model.specs.Parcels.{Item, is_named_by}
 use Rattle.ce_model.specs.Node.{Node, Call, blocks_of}
-use Rattle.ce_model.specs.Trace.{NodeRecord, Standing, items_to, taken_in, spawned_in, killed_in, parcels_of, armed_by, dispatched_by, marked_by}
+use Rattle.ce_model.specs.Trace.{NodeRecord, Standing, items_to, taken_result, start_ids_in, kill_ids_in, sent_parcels, allowed_dispatches_after, made_dispatches_after, mark_after}
 use Rattle.ce_model.specs.Saying.{says}
-use Rattle.ce_model.specs.Hearing.{hears}
+use Rattle.ce_model.specs.Hearing.{node_after_hearing}
 use Rattle.ce_model.specs.Answers.{answer}
-use Rattle.ce_model.specs.Cube.{Cube, CubeState, node_numbers, heard_in, stored_by}
+use Rattle.ce_model.specs.Cube.{Cube, CubeState, node_numbers, hearing_of_entry, store_after}
 use Rattle.ce_model.specs.Sound.{IsSoundTurn, IsSoundNode, IsSoundRecord, IsSoundHost, IsRising, IsSound}
 use Rattle.ce_solo.proofs.Counting.{count, sum_run, sum_run-same, sum_run-add}
 use Rattle.ce_solo.proofs.Lists.{joined}
@@ -29,25 +29,25 @@ waiting_after (Some given) items waiting = filter (λ item. not (is_named_by giv
 -- what is kept for node r behind an entry, that is its own or another's
 abbrev pub record_by : Bool → ℕ → Entry → NodeRecord → NodeRecord
 record_by own r entry kept =
-    kept_with (waiting_after (if own then taken_in entry.what else None) (items_to r entry) kept.waiting) (joined kept.spawned (spawned_in r entry.what))
-    (joined kept.killed (killed_in r entry.what)) (if own then marked_by kept.mark entry.what else kept.mark)
+    kept_with (waiting_after (if own then taken_result entry.what else None) (items_to r entry) kept.waiting_items) (joined kept.spawned_ids (start_ids_in r entry.what))
+    (joined kept.killed_ids (kill_ids_in r entry.what)) (if own then mark_after kept.mark entry.what else kept.mark)
 
 abbrev pub node_by : Bool → Cube → CubeState → ℕ → Entry → Node
-node_by own cube s r entry = if own then hears cube.images (says (s.node r)).node (heard_in (s.standing.node_record r).waiting entry.what) else s.node r
+node_by own cube s r entry = if own then node_after_hearing cube.images (says (s.node r)).node (hearing_of_entry (s.standing.node_record r).waiting_items entry.what) else s.node r
 
 abbrev pub standing_after : Standing → Entry → Standing
 standing_after o entry = record {
   node_record = λ r. record_by (entry.actor == r) r entry (o.node_record r);
-  armed = armed_by o.armed entry.what;
-  dispatched = dispatched_by o.dispatched entry.what;
-  parcel_count = o.parcel_count + length (parcels_of entry.actor entry.what);
+  allowed_dispatches = allowed_dispatches_after o.allowed_dispatches entry.what;
+  made_dispatches = made_dispatches_after o.made_dispatches entry.what;
+  parcel_count = o.parcel_count + length (sent_parcels entry.actor entry.what);
 }
 
 abbrev pub state_after : Cube → CubeState → Entry → CubeState
 state_after cube s entry = record {
   node = λ r. node_by (entry.actor == r) cube s r entry;
   standing = standing_after s.standing entry;
-  hoststore = if entry.actor == HOST then stored_by (s.standing.node_record HOST).waiting s.hoststore entry.what else s.hoststore;
+  hoststore = if entry.actor == HOST then store_after (s.standing.node_record HOST).waiting_items s.hoststore entry.what else s.hoststore;
 }
 
 -- the entry that a call makes in this state
@@ -61,7 +61,7 @@ well_of cube kept r node sound once = record {
   process_ids = sound.process_ids;
   processes = λ pid h. let p = sound.processes pid h in
       record { registers = p.registers; windows = p.windows; unborn_used = p.unborn_used; stopped_holds = p.stopped_holds; running = p.running };
-  polling = sound.polling;
+  polling_ids = sound.polling_ids;
   store = sound.store;
   once = once;
 }
@@ -84,7 +84,7 @@ sound_node-became cube kept kept' r node node' come gone sound same became turn 
         stopped_holds = p.stopped_holds;
         running = p.running;
       };
-  polling = became.well.polling;
+  polling_ids = became.well.polling_ids;
   turn = turn;
   store = became.well.store;
 }
@@ -106,7 +106,7 @@ sound_node-same cube kept kept' r node sound same = record {
         stopped_holds = p.stopped_holds;
         running = p.running;
       };
-  polling = sound.polling;
+  polling_ids = sound.polling_ids;
   turn = sound.turn;
   store = sound.store;
 }
@@ -116,7 +116,7 @@ pub record IsNodeStep (cube : Cube) (sent' r : ℕ) (kept kept' : NodeRecord) (n
   pub record_sound : IsSoundRecord cube sent' r kept'
   pub node_sound : IsSoundNode cube kept' r node'
   pub blocks : (id : BlockId)
-      → count id (blocks_of node') + count id (parcel_ids kept'.waiting) + gone id ≡ count id (blocks_of node) + count id (parcel_ids kept.waiting) + come id
+      → count id (blocks_of node') + count id (parcel_ids kept'.waiting_items) + gone id ≡ count id (blocks_of node) + count id (parcel_ids kept.waiting_items) + come id
 
 -- ---- the cube
 
@@ -124,12 +124,12 @@ pub record IsNodeStep (cube : Cube) (sent' r : ℕ) (kept kept' : NodeRecord) (n
 pub record IsCubeStep (cube : Cube) (s s' : CubeState) (come gone : BlockId → ℕ → ℕ) : Type 0 where
   pub nodes : (r : ℕ) → r < 2 ^ cube.dim
       → IsNodeStep cube s'.standing.parcel_count r (s.standing.node_record r) (s'.standing.node_record r) (s.node r) (s'.node r) (λ id. come id r) (λ id. gone id r)
-  pub host : IsSoundHost s'.standing.parcel_count (s'.standing.node_record HOST).waiting
+  pub host : IsSoundHost s'.standing.parcel_count (s'.standing.node_record HOST).waiting_items
   pub hoststore : IsRising s'.hoststore
   pub balance : (id : BlockId)
-      → sum_run (come id) 0 (2 ^ cube.dim) + count id (parcel_ids (s'.standing.node_record HOST).waiting) + count id s'.hoststore
-      ≡ sum_run (gone id) 0 (2 ^ cube.dim) + count id (parcel_ids (s.standing.node_record HOST).waiting) + count id s.hoststore
-  pub dispatches : s'.standing.dispatched ≤ s'.standing.armed
+      → sum_run (come id) 0 (2 ^ cube.dim) + count id (parcel_ids (s'.standing.node_record HOST).waiting_items) + count id s'.hoststore
+      ≡ sum_run (gone id) 0 (2 ^ cube.dim) + count id (parcel_ids (s.standing.node_record HOST).waiting_items) + count id s.hoststore
+  pub dispatches : s'.standing.made_dispatches ≤ s'.standing.allowed_dispatches
 
 total-goes : (cube : Cube) (s s' : CubeState) (come gone : BlockId → ℕ → ℕ) (id : BlockId) → IsCubeStep cube s s' come gone → total id cube.dim s' ≡ total id cube.dim s
 total-goes cube s s' come gone id goes =

@@ -8,12 +8,12 @@ use Rattle.ce_model.specs.declared.process.Status.TheVariants.{Unborn, Running, 
 use Rattle.ce_model.specs.Limits.{process_count}
 use Rattle.ce_model.specs.Parcels.{Item, start, mail, kill, is_eligible, given_as}
 use Rattle.ce_model.specs.Process.{Process, is_stopped}
-use Rattle.ce_model.specs.Node.{Node, process_at, blocks_of, Call, takes, sends, spawns, kills, notes, arms, looks, takes_mail, take_of}
+use Rattle.ce_model.specs.Node.{Node, process_at, blocks_of, Call, take_call, send_call, spawn_call, kill_call, note_call, arm_call, look_call, mail_call, take_of}
 use Rattle.ce_model.specs.Trace.{NodeRecord}
 use Rattle.ce_model.specs.Answers.{is_among, kill_found, offer_of, is_used_up, answer}
 use Rattle.ce_model.specs.Saying.{says}
-use Rattle.ce_model.specs.Hearing.{hears, nothing}
-use Rattle.ce_model.specs.Cube.{Cube, CubeState, IsCube, heard_given, heard_parcel, kill_answer, HostCall}
+use Rattle.ce_model.specs.Hearing.{node_after_hearing, nothing}
+use Rattle.ce_model.specs.Cube.{Cube, CubeState, IsCube, hearing_of_result, hearing_of_parcel, kill_answer, HostCall}
 use Rattle.ce_model.specs.Sound.{is_unborn, IsSound}
 use Rattle.ce_solo.proofs.Counting.{count, count-nil}
 use Rattle.ce_solo.proofs.Words.{HasMadeCall}
@@ -44,12 +44,12 @@ module _ (cube : Cube) (s : CubeState) (r : ℕ) (of : IsCube cube) (below : r <
   abbrev kept : NodeRecord
   kept = s.standing.node_record r
 
-  module _ (asking dead : ℕ) (poller : Option ℕ) (said : HasMadeCall (s.node r) now (takes asking dead poller)) where
-    item-stays : (item : Item) → find (is_eligible asking dead) kept.waiting ≡ Some item → AreStillStopped now (hears cube.images now (heard_given kept.waiting (given_as item)))
+  module _ (asking dead : ℕ) (poller : Option ℕ) (said : HasMadeCall (s.node r) now (take_call asking dead poller)) where
+    item-stays : (item : Item) → find (is_eligible asking dead) kept.waiting_items ≡ Some item → AreStillStopped now (node_after_hearing cube.images now (hearing_of_result kept.waiting_items (given_as item)))
     item-stays (start pid image) found =
         let taken = takes-item cube s.standing.parcel_count r asking dead kept kept.mark (start pid image) (sound.records r below) found in
-        let is = start-taken cube s.standing.parcel_count r asking dead pid image kept (kept_with (without_named (start pid image) kept.waiting) kept.spawned kept.killed kept.mark) (sound.records r below) refl refl taken in
-        let within = among-all (λ q. q < process_count) pid kept.spawned (sound.records r below).ids taken.of_node.0 in
+        let is = start-taken cube s.standing.parcel_count r asking dead pid image kept (kept_with (without_named (start pid image) kept.waiting_items) kept.spawned_ids kept.killed_ids kept.mark) (sound.records r below) refl refl taken in
+        let within = among-all (λ q. q < process_count) pid kept.spawned_ids (sound.records r below).ids taken.of_node.0 in
         let unborn = birth_of cube s r of below sound asking dead poller said pid within ∙ is.0 in
         let begins = start-begins cube.images now pid image (now_well cube s r of below sound asking dead poller said) within unborn in
         λ q h. elim (cases_eq q pid) [
@@ -61,27 +61,27 @@ module _ (cube : Cube) (s : CubeState) (r : ℕ) (of : IsCube cube) (below : r <
         let once : (id : BlockId) → count id (blocks_of now) + count id (parcel.block.id ∷ []) ≤ 1 =
         λ id. omega (arith, once_here cube s r of below sound id, taken.parcels id, said.became.blocks id, count-nil id) in
         let heard = mail-hears cube.images now parcel (now_well cube s r of below sound asking dead poller said) said.of_node.1 taken.of_node.1 once in
-        subst (λ found. AreStillStopped now (hears cube.images now (heard_parcel found))) (sym (numbered_parcel cube s r of below sound asking dead poller said parcel taken.out.found)) heard.became.stopped
+        subst (λ found. AreStillStopped now (node_after_hearing cube.images now (hearing_of_parcel found))) (sym (numbered_parcel cube s r of below sound asking dead poller said parcel taken.out.found)) heard.became.stopped
     item-stays (kill pid) found =
         let taken = takes-item cube s.standing.parcel_count r asking dead kept kept.mark (kill pid) (sound.records r below) found in
-        let is = kill-taken cube s.standing.parcel_count r asking dead pid kept (kept_with (without_named (kill pid) kept.waiting) kept.spawned kept.killed kept.mark) (sound.records r below) taken in
+        let is = kill-taken cube s.standing.parcel_count r asking dead pid kept (kept_with (without_named (kill pid) kept.waiting_items) kept.spawned_ids kept.killed_ids kept.mark) (sound.records r below) taken in
         (kill-hears cube.images now pid (now_well cube s r of below sound asking dead poller said) said.of_node.1 is.0 (birth_of cube s r of below sound asking dead poller said pid is.0 ∙ is.1)).became.stopped
 
-    poller-at : (node : Node) → takes asking dead poller ≡ take_of node → slice_get node.polling 0 ≡ poller
+    poller-at : (node : Node) → take_call asking dead poller ≡ take_of node → slice_get node.polling_ids 0 ≡ poller
     poller-at node same = cc
 
-    poll-stays : (pid : ℕ) → poller ≡ Some pid → AreStillStopped now (hears cube.images now (heard_given kept.waiting (Poll pid)))
+    poll-stays : (pid : ℕ) → poller ≡ Some pid → AreStillStopped now (node_after_hearing cube.images now (hearing_of_result kept.waiting_items (Poll pid)))
     poll-stays pid e =
         let well = now_well cube s r of below sound asking dead poller said in
         let polls = poller-polls now pid well (poller-at now said.of_node.0 ∙ e) in
         let is = polling_is (process_at now pid).status polls in
         (poll-hears cube.images now pid well (poller-within now pid well polls) is.0 is.1).became.stopped
 
-    nothing-stays : AreStillStopped now (hears cube.images now nothing)
+    nothing-stays : AreStillStopped now (node_after_hearing cube.images now nothing)
     nothing-stays = (nothing-hears cube.images now said.became.well said.turn).became.stopped
 
-    offered-stays : (found : Option Item) (p : Option ℕ) (used : Bool) → find (is_eligible asking dead) kept.waiting ≡ found → poller ≡ p
-        → AreStillStopped now (hears cube.images now (heard_given kept.waiting (offer_of found p used)))
+    offered-stays : (found : Option Item) (p : Option ℕ) (used : Bool) → find (is_eligible asking dead) kept.waiting_items ≡ found → poller ≡ p
+        → AreStillStopped now (node_after_hearing cube.images now (hearing_of_result kept.waiting_items (offer_of found p used)))
     offered-stays (Some item) p true f e = nothing-stays
     offered-stays (Some item) p false f e = item-stays item f
     offered-stays None (Some pid) true f e = nothing-stays
@@ -91,16 +91,16 @@ module _ (cube : Cube) (s : CubeState) (r : ℕ) (of : IsCube cube) (below : r <
   -- by the node's own entry
   pub own-stays : (call : Call) → HasMadeCall (s.node r) now call → AreStillStopped now (node_by true cube s r (entry_in cube s r call))
   unfolding answer
-  own-stays (takes asking dead poller) said = offered-stays asking dead poller said (find (is_eligible asking dead) kept.waiting) poller (is_used_up s.standing) refl refl
-  own-stays (sends pid to bytes) said = (told-hears cube.images now 0 said.became.well said.turn).became.stopped
-  own-stays (spawns pid image to) said =
-      (told-hears cube.images now (if not (is_among to.pid (s.standing.node_record to.node).spawned) then 0 else 2) said.became.well said.turn).became.stopped
-  own-stays (kills pid to) said =
+  own-stays (take_call asking dead poller) said = offered-stays asking dead poller said (find (is_eligible asking dead) kept.waiting_items) poller (is_used_up s.standing) refl refl
+  own-stays (send_call pid to bytes) said = (told-hears cube.images now 0 said.became.well said.turn).became.stopped
+  own-stays (spawn_call pid image to) said =
+      (told-hears cube.images now (if not (is_among to.pid (s.standing.node_record to.node).spawned_ids) then 0 else 2) said.became.well said.turn).became.stopped
+  own-stays (kill_call pid to) said =
       (told-hears cube.images now (kill_answer (kill_found (s.standing.node_record to.node) to.pid)) said.became.well said.turn).became.stopped
-  own-stays (notes pid word) said = (nothing-hears cube.images now said.became.well said.turn).became.stopped
-  own-stays (arms count) said = absurd said.of_node
-  own-stays looks said = absurd said.of_node
-  own-stays takes_mail said = absurd said.of_node
+  own-stays (note_call pid word) said = (nothing-hears cube.images now said.became.well said.turn).became.stopped
+  own-stays (arm_call count) said = absurd said.of_node
+  own-stays look_call said = absurd said.of_node
+  own-stays mail_call said = absurd said.of_node
 
 -- whether the process at this place is one of the cube that has stopped
 abbrev pub gone : Cube → CubeState → Place → Bool

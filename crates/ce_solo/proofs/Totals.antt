@@ -7,7 +7,7 @@ use Rattle.std.proofs.lemmas.List.Sums.{length-filter}
 use Rattle.ce_model.specs.declared.topology.TheConstants.{HOST}
 use Rattle.ce_model.specs.declared.topology.BlockId.{BlockId}
 use Rattle.ce_model.specs.Blocks.{Block, is_same_id}
-use Rattle.ce_model.specs.Parcels.{Parcel, Item, parcels_among}
+use Rattle.ce_model.specs.Parcels.{Parcel, Item, item_parcels}
 use Rattle.ce_model.specs.Space.{mapped_ids}
 use Rattle.ce_model.specs.Process.{Process}
 use Rattle.ce_model.specs.Node.{Node, blocks_of}
@@ -57,22 +57,22 @@ names-node r node =
     ∙ ap (λ ids. node.store ++ ids) (names-processes r 0 node.processes)
 
 names-parcels : (r : ℕ) (items : List Item) → names (held_by_parcels r items) ≡ parcel_ids items
-names-parcels r items = names-with (λ (parcel : Parcel). in_parcel r parcel.number) (λ parcel. parcel.block.id) (parcels_among items)
+names-parcels r items = names-with (λ (parcel : Parcel). in_parcel r parcel.number) (λ parcel. parcel.block.id) (item_parcels items)
 
 -- how often a block is at a node: in its store, its windows, and the parcels that wait there
 unfoldable pub at_node : BlockId → CubeState → ℕ → ℕ
-at_node id s r = count id (blocks_of (s.node r)) + count id (parcel_ids (s.standing.node_record r).waiting)
+at_node id s r = count id (blocks_of (s.node r)) + count id (parcel_ids (s.standing.node_record r).waiting_items)
 
-pub at_node-is : (id : BlockId) (s : CubeState) (r : ℕ) → at_node id s r ≡ count id (blocks_of (s.node r)) + count id (parcel_ids (s.standing.node_record r).waiting)
+pub at_node-is : (id : BlockId) (s : CubeState) (r : ℕ) → at_node id s r ≡ count id (blocks_of (s.node r)) + count id (parcel_ids (s.standing.node_record r).waiting_items)
 unfolding at_node
 at_node-is id s r = refl
 
 -- how often it is in the cube
 unfoldable pub total : BlockId → ℕ → CubeState → ℕ
-total id dim s = sum_run (at_node id s) 0 (2 ^ dim) + count id (parcel_ids (s.standing.node_record HOST).waiting) + count id s.hoststore
+total id dim s = sum_run (at_node id s) 0 (2 ^ dim) + count id (parcel_ids (s.standing.node_record HOST).waiting_items) + count id s.hoststore
 
 pub total-is : (id : BlockId) (dim : ℕ) (s : CubeState)
-    → total id dim s ≡ sum_run (at_node id s) 0 (2 ^ dim) + count id (parcel_ids (s.standing.node_record HOST).waiting) + count id s.hoststore
+    → total id dim s ≡ sum_run (at_node id s) 0 (2 ^ dim) + count id (parcel_ids (s.standing.node_record HOST).waiting_items) + count id s.hoststore
 unfolding total
 total-is id dim s = refl
 
@@ -82,24 +82,24 @@ names-flat f (r ∷ rs) = names-append (f r) (flat_map f rs) ∙ ap (λ ids. nam
 
 -- what a node and the parcels that wait there hold
 abbrev at : CubeState → ℕ → List Held
-at s r = held_by_node r (s.node r) ++ held_by_parcels r (s.standing.node_record r).waiting
+at s r = held_by_node r (s.node r) ++ held_by_parcels r (s.standing.node_record r).waiting_items
 
 count-at : (id : BlockId) (s : CubeState) (r : ℕ) → count id (names (at s r)) ≡ at_node id s r
 unfolding at_node
 count-at id s r =
     omega (
       arith,
-      ap (count id) (names-append (held_by_node r (s.node r)) (held_by_parcels r (s.standing.node_record r).waiting)),
-      count-append id (names (held_by_node r (s.node r))) (names (held_by_parcels r (s.standing.node_record r).waiting)),
+      ap (count id) (names-append (held_by_node r (s.node r)) (held_by_parcels r (s.standing.node_record r).waiting_items)),
+      count-append id (names (held_by_node r (s.node r))) (names (held_by_parcels r (s.standing.node_record r).waiting_items)),
       ap (count id) (names-node r (s.node r)),
-      ap (count id) (names-parcels r (s.standing.node_record r).waiting),
+      ap (count id) (names-parcels r (s.standing.node_record r).waiting_items),
     )
 
 pub names-total : (id : BlockId) (dim : ℕ) (s : CubeState) → count id (names (holdings dim s)) ≡ total id dim s
 unfolding total holdings
 names-total id dim s =
     let nodes = flat_map (at s) (node_numbers dim) in
-    let parcels = held_by_parcels HOST (s.standing.node_record HOST).waiting in
+    let parcels = held_by_parcels HOST (s.standing.node_record HOST).waiting_items in
     let store : List Held = map (λ id. (in_hoststore, id)) s.hoststore in
     let of_nodes : count id (names nodes) ≡ sum_run (at_node id s) 0 (2 ^ dim) =
     ap (count id) (names-flat (at s) (node_numbers dim)) ∙ count-run id (λ r. names (at s r)) 0 (2 ^ dim)
@@ -111,7 +111,7 @@ names-total id dim s =
       count-append id (names (nodes ++ parcels)) (names store),
       ap (count id) (names-append nodes parcels),
       count-append id (names nodes) (names parcels),
-      ap (count id) (names-parcels HOST (s.standing.node_record HOST).waiting),
+      ap (count id) (names-parcels HOST (s.standing.node_record HOST).waiting_items),
       ap (count id) (names-with (λ (id : BlockId). in_hoststore) (λ id. id) s.hoststore ∙ map-same s.hoststore),
     )
 

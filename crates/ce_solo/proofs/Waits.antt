@@ -6,7 +6,7 @@ use Rattle.ce_model.specs.declared.entry.TakeResult.TheVariants.{Mail}
 use Rattle.ce_model.specs.Lists.{EachAfter, IsFront}
 use Rattle.ce_model.specs.Trace.{spawned_ids, killed_ids}
 use Rattle.ce_model.specs.Answers.{is_among}
-use Rattle.ce_model.specs.Cube.{Cube, CubeState, IsCube, left_by, IsNext, IsAloneFrom}
+use Rattle.ce_model.specs.Cube.{Cube, CubeState, IsCube, state_after_trace, IsNext, IsAloneFrom}
 use Rattle.ce_model.specs.Sound.{IsSound}
 use Rattle.ce_model.proofs.Walked.{kept_by_each, each_of_front, each_behind}
 use Rattle.ce_model.proofs.AloneByEntries.{entries_of_alone}
@@ -42,5 +42,5 @@ handed_over cube o t of sound alone before r asking dead pid number user poller 
     let entry : Entry = record { user = user; actor = r; what = Take asking dead poller (Mail pid number) } in
     let last = last_next cube o t before entry alone is in
     let stands = stands-each cube o before of sound last.0 in
-    let s = left_by cube o before in
+    let s = state_after_trace cube o before in
     taken-for cube s r asking dead pid number (entry-taken cube s of stands.sound r asking dead pid number poller below user (entry_of-next cube o before entry last.1))

@@ -10,7 +10,7 @@ use Rattle.rv_model.specs.declared.stop.Stop.TheVariants.{Misaligned, Unmapped, 
 use Rattle.ce_model.specs.declared.topology.BlockId.{BlockId}
 use Rattle.ce_model.specs.Blocks.{Block}
 use Rattle.ce_model.specs.Limits.{window_base}
-use Rattle.ce_model.specs.Space.{Space, window_of, offset_of, mapped_space, mapped_ids, Spot, in_private, in_block, spot_in, spot, with_number_in, result_map, stored_at, named_in, is_window_start, block_named}
+use Rattle.ce_model.specs.Space.{Space, window_of, offset_of, mapped_space, mapped_ids, AccessSite, in_private, in_block, site_in, access_site, with_number_in, result_map, stored_at, named_in, is_window_start, block_named}
 use Rattle.ce_solo.proofs.Counting.{hit, count, count-nil, count-cons}
 
 -- the names of the blocks at these windows
@@ -60,27 +60,27 @@ pub same_held : (space : Space) → IsSameHeld space space
 same_held space = record { ids = refl; windows = refl }
 
 -- a spot in a block is in one at a window
-abbrev pub IsSpotOf : Space → Spot → Type 0
+abbrev pub IsSpotOf : Space → AccessSite → Type 0
 IsSpotOf space (in_private offset) = Unit {0}
 IsSpotOf space (in_block k block offset) = slice_get space.windows k ≡ Some (Some block)
 
 spot_in-of : (space : Space) (a size : ℕ) (at : Option (Option Block)) → slice_get space.windows (window_of a) ≡ at
-    → IfOk (spot_in at a size) (IsSpotOf space)
+    → IfOk (site_in at a size) (IsSpotOf space)
 spot_in-of space a size None e = tt
 spot_in-of space a size (Some None) e = tt
 spot_in-of space a size (Some (Some block)) e =
     cond_both (nat_le (offset_of a + size) (length block.bytes)) (Ok (in_block (window_of a) block (offset_of a))) _ (λ r. IfOk r (IsSpotOf space))
     (λ t. e) (λ f. tt)
 
-pub spot-of : (space : Space) (a size : ℕ) → IfOk (spot space a size) (IsSpotOf space)
-unfolding spot
+pub spot-of : (space : Space) (a size : ℕ) → IfOk (access_site space a size) (IsSpotOf space)
+unfolding access_site
 spot-of space a size =
     cond_both (not (a % size == 0)) (Err (Misaligned a)) _ (λ r. IfOk r (IsSpotOf space)) (λ t. tt)
     (λ f. cond_both (is_private a) (Ok (in_private (a - PRIVATE_START))) _ (λ r. IfOk r (IsSpotOf space)) (λ t. tt)
     (λ g. cond_both (nat_lt a window_base) (Err (Unmapped a)) _ (λ r. IfOk r (IsSpotOf space)) (λ t. tt)
     (λ h. spot_in-of space a size (slice_get space.windows (window_of a)) refl)))
 
-written-held : (space : Space) (size n : ℕ) (spot : Spot) → IsSpotOf space spot → IsSameHeld space (with_number_in space size n spot)
+written-held : (space : Space) (size n : ℕ) (access_site : AccessSite) → IsSpotOf space access_site → IsSameHeld space (with_number_in space size n access_site)
 written-held space size n (in_private offset) of = record { ids = refl; windows = refl }
 written-held space size n (in_block k block offset) of = record {
   ids = ids-written space.windows k block (with_number_at block.bytes offset size n) of;
@@ -93,7 +93,7 @@ map_ok f (Err cause) P Q up p = tt
 
 -- a store leaves each block at its window
 pub stored-held : (space : Space) (a size n : ℕ) → IfOk (stored_at space a size n) (IsSameHeld space)
-stored-held space a size n = map_ok (with_number_in space size n) (spot space a size) (IsSpotOf space) (IsSameHeld space) (written-held space size n) (spot-of space a size)
+stored-held space a size n = map_ok (with_number_in space size n) (access_site space a size) (IsSpotOf space) (IsSameHeld space) (written-held space size n) (spot-of space a size)
 
 named_in-of : (space : Space) (p : ℕ) (at : Option (Option Block)) → slice_get space.windows (window_of p) ≡ at
     → IfOk (named_in at p) (λ found. slice_get space.windows found.0 ≡ Some (Some found.1))

@@ -10,8 +10,8 @@ use Rattle.ce_model.specs.Limits.{window_count, block_room}
 use Rattle.ce_model.specs.Blocks.{Block, put}
 use Rattle.ce_model.specs.Space.{window_start, has_unused_window, mapped_space, mapped_ids, block_named}
 use Rattle.ce_model.specs.Process.{Process, register_count, argument, with_answer, is_stopped}
-use Rattle.ce_model.specs.Node.{Turn, Node, process_at, is_place, with_stopped, Call, takes, sends, spawns, kills, notes, take_of}
-use Rattle.ce_model.specs.Kernel.{CallOutcome, goes_on, leaves, turn_ends, returns, says_call, read_or_stop, with_space, gives_up, maps_least, xmalloc, frees, xfree, xlength, is_target, place_named, sends_block, xsend}
+use Rattle.ce_model.specs.Node.{Turn, Node, process_at, is_place, with_stopped, Call, take_call, send_call, spawn_call, kill_call, note_call, take_of}
+use Rattle.ce_model.specs.Kernel.{CallOutcome, continuation, departure, turn_conclusion, return_outcome, leave_outcome, read_outcome, with_space, process_left_behind, map_outcome, xmalloc, free_outcome, xfree, xlength, is_target, place_named, send_outcome, xsend}
 use Rattle.ce_model.specs.Sound.{is_unborn, is_running, is_polling, IsSoundTurn, IsRising}
 use Rattle.ce_solo.proofs.Counting.{hit-self, count, count-nil, count-one, count-cons, count-append, count-put, rising-put}
 use Rattle.ce_solo.proofs.Windows.{IsSameHeld, ids-mapped, count-unmapped, named-of}
@@ -36,16 +36,16 @@ running_is (Stopped cause) h = absurd (cc)
 
 -- the blocks that a call takes out of its node
 abbrev pub call_ids : Call → List BlockId
-call_ids (sends pid to bytes) = map (λ target. target.1) to
+call_ids (send_call pid to bytes) = map (λ target. target.1) to
 call_ids other = []
 
 -- a call that this node can make
 abbrev pub IsCallOf : Node → Call → Type 0
-IsCallOf node (takes asking dead poller) = (takes asking dead poller ≡ take_of node) × (node.turn ≡ None)
-IsCallOf node (sends pid to bytes) = AllByRecursion (λ target. is_target node target.0 ≡ true) to
-IsCallOf node (spawns pid image to) = (image < node.images) × (is_place node.dim to ≡ true)
-IsCallOf node (kills pid to) = is_place node.dim to ≡ true
-IsCallOf node (notes pid word) = Unit {0}
+IsCallOf node (take_call asking dead poller) = (take_call asking dead poller ≡ take_of node) × (node.turn ≡ None)
+IsCallOf node (send_call pid to bytes) = AllByRecursion (λ target. is_target node target.0 ≡ true) to
+IsCallOf node (spawn_call pid image to) = (image < node.images) × (is_place node.dim to ≡ true)
+IsCallOf node (kill_call pid to) = is_place node.dim to ≡ true
+IsCallOf node (note_call pid word) = Unit {0}
 IsCallOf node other = ⊥
 
 -- what a node becomes that makes a call
@@ -64,9 +64,9 @@ pub record HasEndedTurn (node node' : Node) : Type 0 where
   pub turn : node'.turn ≡ None
 
 abbrev pub IsDone : Node → CallOutcome → Type 0
-IsDone node (goes_on node' turn') = IsGoingOn node node' turn'
-IsDone node (leaves node' call) = HasMadeCall node node' call
-IsDone node (turn_ends node') = HasEndedTurn node node'
+IsDone node (continuation node' turn') = IsGoingOn node node' turn'
+IsDone node (departure node' call) = HasMadeCall node node' call
+IsDone node (turn_conclusion node') = HasEndedTurn node node'
 
 module _ (node : Node) (turn : Turn) (p : Process) (c : IsInItsTurn node turn p) where
   pub in_turn-running : is_running p.status ≡ true
@@ -81,18 +81,18 @@ module _ (node : Node) (turn : Turn) (p : Process) (c : IsInItsTurn node turn p)
   pub going_before : is_stopped (process_at node turn.pid).status ≡ false
   going_before = ap is_stopped (sym c.status) ∙ (running_is p.status in_turn-running).1
 
-  pub polls_before : polls turn.pid node.polling ≡ 0
-  polls_before = c.well.polling turn.pid ∙ ap {B = ℕ} (λ s. if is_polling s then 1 else 0) (sym c.status) ∙ ap {B = ℕ} (λ b. if b then 1 else 0) (running_is p.status in_turn-running).2
+  pub polls_before : polls turn.pid node.polling_ids ≡ 0
+  polls_before = c.well.polling_ids turn.pid ∙ ap {B = ℕ} (λ s. if is_polling s then 1 else 0) (sym c.status) ∙ ap {B = ℕ} (λ b. if b then 1 else 0) (running_is p.status in_turn-running).2
 
   -- the process runs on with other registers and another memory, and the store is as given
   pub runs-became : (turn' : Turn) (turn'' : Option Turn) (p' : Process) (store : List BlockId) (gone : List BlockId) → turn'.pid ≡ turn.pid
       → p'.status ≡ p.status → length p'.regs ≡ register_count → length p'.space.windows ≤ window_count → IsRising store
       → ((id : BlockId) → count id store + count id (mapped_ids p'.space) + count id gone ≡ count id node.store + count id (mapped_ids p.space))
-      → HasBecome (Some turn') node (changed_to node turn.pid p' store node.polling turn'') [] gone
+      → HasBecome (Some turn') node (changed_to node turn.pid p' store node.polling_ids turn'') [] gone
   runs-became turn' turn'' p' store gone same status registers windows rising blocks =
       let going : is_running p'.status ≡ true = ap is_running status ∙ in_turn-running in
       let not_others = running_is p'.status going in
-      change-became (Some turn) (Some turn') turn'' node turn.pid p' store node.polling [] gone
+      change-became (Some turn) (Some turn') turn'' node turn.pid p' store node.polling_ids [] gone
       (record {
         well = c.well;
         within = c.sound.pid;
@@ -114,7 +114,7 @@ module _ (node : Node) (turn : Turn) (p : Process) (c : IsInItsTurn node turn p)
 
   pub goes-done : (p' : Process) (store : List BlockId) → p'.status ≡ p.status → length p'.regs ≡ register_count → length p'.space.windows ≤ window_count
       → IsRising store → ((id : BlockId) → count id store + count id (mapped_ids p'.space) ≡ count id node.store + count id (mapped_ids p.space))
-      → IsGoingOn node (changed_to node turn.pid p' store node.polling node.turn) turn
+      → IsGoingOn node (changed_to node turn.pid p' store node.polling_ids node.turn) turn
   goes-done p' store status registers windows rising blocks = record {
     became = runs-became turn node.turn p' store [] refl status registers windows rising (λ id. omega (arith, blocks id, count-nil id));
     sound = c.sound;
@@ -123,15 +123,15 @@ module _ (node : Node) (turn : Turn) (p : Process) (c : IsInItsTurn node turn p)
   answered_length : (value : ℕ) (q : Process) → length q.regs ≡ register_count → length (with_answer value q).regs ≡ register_count
   answered_length value q h = length-set q.regs 10 value ∙ h
 
-  pub returns-done : (value : ℕ) → IsDone node (returns node turn p value)
+  pub returns-done : (value : ℕ) → IsDone node (return_outcome node turn p value)
   returns-done value =
       goes-done (with_answer value p) node.store refl (answered_length value p c.registers) in_turn-windows c.well.store (λ id. refl)
 
   pub leaves-done : (p' : Process) (store : List BlockId) (call : Call) → p'.status ≡ p.status → length p'.regs ≡ register_count
       → length p'.space.windows ≤ window_count → IsRising store
       → ((id : BlockId) → count id store + count id (mapped_ids p'.space) + count id (call_ids call) ≡ count id node.store + count id (mapped_ids p.space))
-      → IsCallOf (changed_to node turn.pid p' store node.polling (Some turn)) call
-      → HasMadeCall node (changed_to node turn.pid p' store node.polling (Some turn)) call
+      → IsCallOf (changed_to node turn.pid p' store node.polling_ids (Some turn)) call
+      → HasMadeCall node (changed_to node turn.pid p' store node.polling_ids (Some turn)) call
   leaves-done p' store call status registers windows rising blocks of_node = record {
     became = runs-became turn (Some turn) p' store (call_ids call) refl status registers windows rising blocks;
     turn = c.sound;
@@ -146,13 +146,13 @@ module _ (node : Node) (turn : Turn) (p : Process) (c : IsInItsTurn node turn p)
   }
 
   pub reading-done : {X : Type 0} (r : Result X Stop) (P : X → Type 0) (onward : X → CallOutcome) → IfOk r P
-      → ((x : X) → P x → IsDone node (onward x)) → IsDone node (read_or_stop node turn p r onward)
+      → ((x : X) → P x → IsDone node (onward x)) → IsDone node (read_outcome node turn p r onward)
   reading-done (Ok x) P onward of done = done x of
   reading-done (Err cause) P onward of done = stops-done cause
 
   -- ---- blocks
 
-  maps-done : (len : ℕ) (store : List BlockId) → node.store ≡ store → length p.space.windows < window_count → IsDone node (maps_least node turn p len store)
+  maps-done : (len : ℕ) (store : List BlockId) → node.store ≡ store → length p.space.windows < window_count → IsDone node (map_outcome node turn p len store)
   maps-done len [] e room = returns-done 0
   maps-done len (id ∷ store) e room =
       let block : Block = record { id = id; bytes = replicate len 0 } in
@@ -163,38 +163,38 @@ module _ (node : Node) (turn : Turn) (p : Process) (c : IsInItsTurn node turn p)
 
   pub xmalloc-done : IsDone node (xmalloc node turn p)
   xmalloc-done =
-      cond_both (nat_lt block_room (argument p 0) || not (has_unused_window p.space)) (returns node turn p 0) (maps_least node turn p (argument p 0) node.store)
+      cond_both (nat_lt block_room (argument p 0) || not (has_unused_window p.space)) (return_outcome node turn p 0) (map_outcome node turn p (argument p 0) node.store)
       (IsDone node) (λ t. returns-done 0)
       (λ f. maps-done (argument p 0) node.store refl (ltb-true _ _ (not-false _ (or_parts _ _ f).1)))
 
-  pub gives_up-windows : (k : ℕ) → length (gives_up k p).space.windows ≤ window_count
-  gives_up-windows k = omega (arith, length-set p.space.windows k None, in_turn-windows)
+  pub process_without-windows : (k : ℕ) → length (process_left_behind k p).space.windows ≤ window_count
+  process_without-windows k = omega (arith, length-set p.space.windows k None, in_turn-windows)
 
-  pub frees-done : (found : ℕ × Block) → slice_get p.space.windows found.0 ≡ Some (Some found.1) → IsDone node (frees node turn p found)
+  pub frees-done : (found : ℕ × Block) → slice_get p.space.windows found.0 ≡ Some (Some found.1) → IsDone node (free_outcome node turn p found)
   frees-done found at =
-      goes-done (with_answer 0 (gives_up found.0 p)) (put found.1.id node.store) refl (answered_length 0 p c.registers) (gives_up-windows found.0)
+      goes-done (with_answer 0 (process_left_behind found.0 p)) (put found.1.id node.store) refl (answered_length 0 p c.registers) (process_without-windows found.0)
       (rising-put found.1.id node.store c.well.store
       (omega (arith, once_together (Some turn) node turn.pid found.1.id c.well c.sound.pid, ap (count found.1.id) c.held.ids, count-unmapped found.1.id p.space.windows found.0 found.1 at, hit-self found.1.id)))
       (λ id. omega (arith, count-put id found.1.id node.store, count-unmapped id p.space.windows found.0 found.1 at))
 
   pub xfree-done : IsDone node (xfree node turn p)
-  xfree-done = reading-done (block_named p.space (argument p 0)) _ (frees node turn p) (named-of p.space (argument p 0)) frees-done
+  xfree-done = reading-done (block_named p.space (argument p 0)) _ (free_outcome node turn p) (named-of p.space (argument p 0)) frees-done
 
   pub xlength-done : IsDone node (xlength node turn p)
   xlength-done =
-      reading-done (block_named p.space (argument p 0)) _ (λ found. returns node turn p (length found.1.bytes)) (named-of p.space (argument p 0))
+      reading-done (block_named p.space (argument p 0)) _ (λ found. return_outcome node turn p (length found.1.bytes)) (named-of p.space (argument p 0))
       (λ found at. returns-done (length found.1.bytes))
 
   -- ---- messages
 
-  sends_block-done : (found : ℕ × Block) → slice_get p.space.windows found.0 ≡ Some (Some found.1) → IsDone node (sends_block node turn p found)
-  sends_block-done found at =
+  send_outcome-done : (found : ℕ × Block) → slice_get p.space.windows found.0 ≡ Some (Some found.1) → IsDone node (send_outcome node turn p found)
+  send_outcome-done found at =
       cond_both (is_target node (place_named p 1))
-      (says_call node turn (gives_up found.0 p) (sends turn.pid ((place_named p 1, found.1.id) ∷ []) found.1.bytes)) (returns node turn p 1)
+      (leave_outcome node turn (process_left_behind found.0 p) (send_call turn.pid ((place_named p 1, found.1.id) ∷ []) found.1.bytes)) (return_outcome node turn p 1)
       (IsDone node)
-      (λ t. leaves-done (gives_up found.0 p) node.store (sends turn.pid ((place_named p 1, found.1.id) ∷ []) found.1.bytes) refl c.registers (gives_up-windows found.0) c.well.store
+      (λ t. leaves-done (process_left_behind found.0 p) node.store (send_call turn.pid ((place_named p 1, found.1.id) ∷ []) found.1.bytes) refl c.registers (process_without-windows found.0) c.well.store
       (λ id. omega (arith, count-unmapped id p.space.windows found.0 found.1 at, count-one id found.1.id)) (t, tt))
       (λ f. returns-done 1)
 
   pub xsend-done : IsDone node (xsend node turn p)
-  xsend-done = reading-done (block_named p.space (argument p 0)) _ (sends_block node turn p) (named-of p.space (argument p 0)) sends_block-done
+  xsend-done = reading-done (block_named p.space (argument p 0)) _ (send_outcome node turn p) (named-of p.space (argument p 0)) send_outcome-done

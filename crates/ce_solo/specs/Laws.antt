@@ -11,15 +11,15 @@ use Rattle.ce_model.specs.Parcels.{is_member}
 use Rattle.ce_model.specs.Process.{is_stopped}
 use Rattle.ce_model.specs.Node.{Node, process_at, blocks_of}
 use Rattle.ce_model.specs.Saying.{says}
-use Rattle.ce_model.specs.Hearing.{Hearing, mail_of, hears}
-use Rattle.ce_model.specs.Trace.{sent_to}
-use Rattle.ce_model.specs.Cube.{Cube, IsCube, CubeState, opening, left_by, rest, host_calls, actors, IsAloneFrom, IsAlone}
+use Rattle.ce_model.specs.Hearing.{Hearing, mail_of, node_after_hearing}
+use Rattle.ce_model.specs.Trace.{sent_items}
+use Rattle.ce_model.specs.Cube.{Cube, IsCube, CubeState, opening, state_after_trace, rest, host_calls, actors, IsAloneFrom, IsAlone}
 use Rattle.ce_model.specs.Owners.{IsOwned, IsBlockOf}
 use Rattle.ce_model.specs.Order.{IsInOrder}
 use Rattle.ce_model.specs.Sound.{is_start_of, is_kill_of, IsSound}
 use Rattle.ce_model.specs.Subcubes.{subcubes}
-use Rattle.ce_model.specs.Renaming.{CubeGrant, node_outward, saying_outward, heard_with, block_outward}
-use Rattle.ce_model.specs.Views.{from_grant, view}
+use Rattle.ce_model.specs.Renaming.{CubeGrant, node_outward, saying_outward, renamed_hearing, block_outward}
+use Rattle.ce_model.specs.Views.{history_behind_grant, view}
 use Rattle.ce_model.specs.Machine.{MachineParts, IsMachine, Request, is_alone, IsFitting, IsLawfulEntry, IsLawful, cube_of}
 
 -- ---- a cube alone
@@ -33,21 +33,21 @@ abbrev pub FreshIsSound : Type 0
 FreshIsSound = (cube : Cube) → IsCube cube → IsSound cube (opening cube)
 
 -- each block has exactly one owner, after every front of the trace
-abbrev pub OneOwner : Type 0
-OneOwner = OfEachTrace IsOwned
+abbrev pub BlocksHaveOneOwner : Type 0
+BlocksHaveOneOwner = OfEachTrace IsOwned
 
 -- what any one got from another is a front of what that one sent it, after every front of the trace
-abbrev pub Prefix : Type 0
-Prefix = OfEachTrace (λ cube o t. IsInOrder o.standing t)
+abbrev pub MessagesAreInOrder : Type 0
+MessagesAreInOrder = OfEachTrace (λ cube o t. IsInOrder o.standing t)
 
 -- what a trace leaves is sound, so all that is said of a sound state holds after it
-abbrev pub StaysSound : Type 0
-StaysSound = OfEachTrace (λ cube o t. IsSound cube (left_by cube o t))
+abbrev pub StatesStaySound : Type 0
+StatesStaySound = OfEachTrace (λ cube o t. IsSound cube (state_after_trace cube o t))
 
 -- an id has one start and one kill at most among all that was sent to its node
 abbrev pub IsSentOnce : Cube → CubeState → List Entry → Type 0
 IsSentOnce cube o t = (r pid : ℕ) → r < 2 ^ cube.dim
-    → (count_by (is_start_of pid) (sent_to o.standing r t) ≤ 1) × (count_by (is_kill_of pid) (sent_to o.standing r t) ≤ 1)
+    → (count_by (is_start_of pid) (sent_items o.standing r t) ≤ 1) × (count_by (is_kill_of pid) (sent_items o.standing r t) ≤ 1)
 
 -- a parcel that a Take was answered with was handed over, unless its receiver has stopped
 abbrev pub IsHandedOver : Cube → CubeState → List Entry → Type 0
@@ -56,37 +56,37 @@ IsHandedOver cube o t = (before : List Entry) (r asking dead pid number user : �
     → IsTrue (is_member pid asking) ⊎ IsTrue (is_stopped (process_at (rest cube o r before) pid).status)
 
 -- what the queues of a cube's nodes can hold
-abbrev pub Waiting : Type 0
-Waiting = OfEachTrace (λ cube o t. IsSentOnce cube o t × IsHandedOver cube o t)
+abbrev pub QueuesAreBounded : Type 0
+QueuesAreBounded = OfEachTrace (λ cube o t. IsSentOnce cube o t × IsHandedOver cube o t)
 
 -- a trace can be cut: the cube goes on with the second part from what the first part left
-abbrev pub GoesOn : Type 0
-GoesOn = OfEachTrace (λ cube o t. (s : List Entry) → IsAloneFrom cube (left_by cube o t) s → IsAloneFrom cube o (t ++ s))
+abbrev pub TracesGoOn : Type 0
+TracesGoOn = OfEachTrace (λ cube o t. (s : List Entry) → IsAloneFrom cube (state_after_trace cube o t) s → IsAloneFrom cube o (t ++ s))
 
 -- ---- the machine
 
 -- the cube of each grant of a lawful history gives the grant's view alone
-abbrev pub Projection : Type 0
-Projection = (parts : MachineParts) (history : List Entry) (number : ℕ) → IsMachine parts → IsLawful parts history
-    → IfSome (from_grant history number) (λ found. IsAlone (cube_of parts.images found.0) (view history number))
+abbrev pub ViewsAreAlone : Type 0
+ViewsAreAlone = (parts : MachineParts) (history : List Entry) (number : ℕ) → IsMachine parts → IsLawful parts history
+    → IfSome (history_behind_grant history number) (λ found. IsAlone (cube_of parts.images found.0) (view history number))
 
 -- the trace is one that the cube gives alone, in it each block has one owner, and what any one got from another is a front of what was sent
-abbrev pub IsLegal : Cube → List Entry → Type 0
-IsLegal cube t = IsAlone cube t × IsOwned cube (opening cube) t × IsInOrder (opening cube).standing t
+abbrev pub IsLegalTrace : Cube → List Entry → Type 0
+IsLegalTrace cube t = IsAlone cube t × IsOwned cube (opening cube) t × IsInOrder (opening cube).standing t
 
 -- so is the view of each grant of a lawful history
 abbrev pub LawfulIsLegal : Type 0
 LawfulIsLegal = (parts : MachineParts) (history : List Entry) (number : ℕ) → IsMachine parts → IsLawful parts history
-    → IfSome (from_grant history number) (λ found. IsLegal (cube_of parts.images found.0) (view history number))
+    → IfSome (history_behind_grant history number) (λ found. IsLegalTrace (cube_of parts.images found.0) (view history number))
 
 -- two views of one cube are the same where their hosts were asked the same and their actors acted in the same order, whatever the
 -- machines, where on them the cube lies, and what others did
 abbrev pub AreSame : Cube → Cube → List Entry → List Entry → Type 0
 AreSame cube cube' t t' = cube ≡ cube' → host_calls t ≡ host_calls t' → actors t ≡ actors t' → t ≡ t'
 
-abbrev pub SameTrace : Type 0
-SameTrace = (parts parts' : MachineParts) (history history' : List Entry) (number number' : ℕ) → IsMachine parts → IsMachine parts' → IsLawful parts history
-    → IsLawful parts' history' → IfSome (from_grant history number) (λ found. IfSome (from_grant history' number') (λ found'.
+abbrev pub AreViewsSame : Type 0
+AreViewsSame = (parts parts' : MachineParts) (history history' : List Entry) (number number' : ℕ) → IsMachine parts → IsMachine parts' → IsLawful parts history
+    → IsLawful parts' history' → IfSome (history_behind_grant history number) (λ found. IfSome (history_behind_grant history' number') (λ found'.
     AreSame (cube_of parts.images found.0) (cube_of parts'.images found'.0) (view history number) (view history' number')))
 
 -- an entry is of another user, or of another actor and not one that is made alone
@@ -95,8 +95,8 @@ IsForeign user actor entry request = ((entry.user == user) ≡ false) ⊎ (((ent
 
 -- what fits a lawful history fits still behind one more lawful entry of another user, and behind one of another actor that is not
 -- made alone
-abbrev pub StillFits : Type 0
-StillFits = (parts : MachineParts) (history : List Entry) (user actor : ℕ) (request : Request) (entry : Entry) → IsMachine parts → IsLawful parts history
+abbrev pub RequestsStillFit : Type 0
+RequestsStillFit = (parts : MachineParts) (history : List Entry) (user actor : ℕ) (request : Request) (entry : Entry) → IsMachine parts → IsLawful parts history
     → IsFitting parts history user actor request → (lawful : IsLawfulEntry parts history entry) → IsForeign user actor entry lawful.request
     → IsFitting parts (history ++ entry ∷ []) user actor request
 
@@ -117,8 +117,8 @@ IsHeardOf dim (mail_of parcel) = IsBlockOf dim parcel.block.id
 IsHeardOf dim other = Unit {0}
 
 -- a node with the machine's names for its blocks says and hears what the node with the cube's names does, renamed
-abbrev pub Renaming : Type 0
-Renaming = (dim : ℕ) (grant : CubeGrant) (node : Node) → IsGrant dim grant → IsNodeOf grant.dim node
+abbrev pub RenamedNodesAgree : Type 0
+RenamedNodesAgree = (dim : ℕ) (grant : CubeGrant) (node : Node) → IsGrant dim grant → IsNodeOf grant.dim node
     → (says (node_outward grant node) ≡ saying_outward grant (says node))
     × ((images : List ImageParts) (heard : Hearing) → IsHeardOf grant.dim heard
-    → hears images (node_outward grant node) (heard_with (block_outward grant) heard) ≡ node_outward grant (hears images node heard))
+    → node_after_hearing images (node_outward grant node) (renamed_hearing (block_outward grant) heard) ≡ node_outward grant (node_after_hearing images node heard))

@@ -1,6 +1,6 @@
 //! What is proved of each cube within the machine's limits and of each trace that it gives alone, and of the machine's
 //! lawful histories. The functions do nothing: a contract is the law, which proofs cite.
-ghost use Rattle.ce_solo.specs.Laws.{FreshIsSound, StaysSound, OneOwner, Waiting, Prefix, GoesOn, Renaming, Projection, LawfulIsLegal, SameTrace, StillFits};
+ghost use Rattle.ce_solo.specs.Laws.{FreshIsSound, StatesStaySound, BlocksHaveOneOwner, QueuesAreBounded, MessagesAreInOrder, TracesGoOn, RenamedNodesAgree, ViewsAreAlone, LawfulIsLegal, AreViewsSame, RequestsStillFit};
 
 /// A cube that has just been granted is sound.
 pub fn fresh_is_sound_law()
@@ -9,39 +9,39 @@ pub fn fresh_is_sound_law()
 
 /// What a trace leaves is sound again, if the cube was sound at its beginning.
 pub fn stays_sound_law()
-    ensures law { StaysSound }
+    ensures law { StatesStaySound }
 {}
 
 /// Each block of the cube has exactly one owner, after every front of the trace.
-pub fn one_owner_law()
-    ensures law { OneOwner }
+pub fn blocks_have_one_owner_law()
+    ensures law { BlocksHaveOneOwner }
 {}
 
 /// At most one start and one kill are sent to an id, and a parcel that a node was given is for a process
 /// that asks for one, or that has stopped.
-pub fn waiting_law()
-    ensures law { Waiting }
+pub fn queues_are_bounded_law()
+    ensures law { QueuesAreBounded }
 {}
 
 /// For any two places, what the one got from the other is a front of what that one sent it, after every
 /// front of the trace.
-pub fn prefix_law()
-    ensures law { Prefix }
+pub fn messages_are_in_order_law()
+    ensures law { MessagesAreInOrder }
 {}
 
 /// A trace can be cut: what the cube gives alone from what the first part left, it gives behind that part.
 pub fn goes_on_law()
-    ensures law { GoesOn }
+    ensures law { TracesGoOn }
 {}
 
 /// A node with the machine's names for its blocks says and hears what the node with the cube's names does, renamed.
-pub fn renaming_law()
-    ensures law { Renaming }
+pub fn renamed_nodes_agree_law()
+    ensures law { RenamedNodesAgree }
 {}
 
 /// Of every lawful history of a machine within its limits, the view of each grant is a trace that its cube gives alone.
-pub fn projection_law()
-    ensures law { Projection }
+pub fn views_are_alone_law()
+    ensures law { ViewsAreAlone }
 {}
 
 /// Of every lawful history of a machine within its limits, the view of each grant is a trace that its cube gives alone, each
@@ -53,11 +53,11 @@ pub fn lawful_is_legal_law()
 /// Two views of one cube, of one lawful history or of two, are the same where its host was asked the same and its actors acted
 /// in the same order, whatever others did and wherever on its machine the cube lies.
 pub fn same_trace_law()
-    ensures law { SameTrace }
+    ensures law { AreViewsSame }
 {}
 
 /// What fits a lawful history fits still behind one more lawful entry of another user, and behind one of another actor of the
 /// same user that is not made alone.
 pub fn still_fits_law()
-    ensures law { StillFits }
+    ensures law { RequestsStillFit }
 {}

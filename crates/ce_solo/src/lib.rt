@@ -5,6 +5,7 @@
 mod laws;
 
 pub use laws::{
-    fresh_is_sound_law, goes_on_law, lawful_is_legal_law, one_owner_law, prefix_law,
-    projection_law, renaming_law, same_trace_law, stays_sound_law, still_fits_law, waiting_law,
+    blocks_have_one_owner_law, fresh_is_sound_law, goes_on_law, lawful_is_legal_law,
+    messages_are_in_order_law, queues_are_bounded_law, renamed_nodes_agree_law, same_trace_law,
+    stays_sound_law, still_fits_law, views_are_alone_law,
 };

@@ -27,7 +27,7 @@ pub struct Addition {
 #[derive(Drop)]
 pub struct Tally {
     sum: u64,
-    added: Vec<Addition>,
+    additions: Vec<Addition>,
 }
 
 impl Model for Tally {
@@ -37,9 +37,9 @@ impl Model for Tally {
 
     ghost Value = { List Addition };
 
-    ghost view = { λ t. t.added.items };
+    ghost view = { λ t. t.additions.items };
 
-    ghost invariant = { λ t. t.sum ≡ sum_from 0 t.added.items };
+    ghost invariant = { λ t. t.sum ≡ sum_from 0 t.additions.items };
 }
 
 impl Tally {
@@ -49,7 +49,7 @@ impl Tally {
     {
         Tally {
             sum: 0,
-            added: Vec::new(alloc),
+            additions: Vec::new(alloc),
         }
     }
 
@@ -61,10 +61,10 @@ impl Tally {
     }
 
     /// What was added, the oldest first.
-    pub fn added(&self) -> &[Addition]
+    pub fn additions(&self) -> &[Addition]
         ensures { result.now ≡ self.now }
     {
-        self.added.as_slice()
+        self.additions.as_slice()
     }
 }
 
@@ -101,7 +101,7 @@ impl Kept for Tally {
             number,
             before,
         };
-        let Ok(()) = self.added.push(entry) else {
+        let Ok(()) = self.additions.push(entry) else {
             return Err((call, NoMemory));
         };
         self.sum = before.wrapping_add(number);

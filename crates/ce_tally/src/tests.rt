@@ -21,21 +21,25 @@ fn book(rt: HostRuntime) -> Result<(), Fail> {
     assert_eq!(rt; replies, [0, 5, 12]);
     let tally = close_both(rt.alloc(), met).ok_or("no memory")?;
     assert_eq!(rt; tally.sum(), 13);
-    let added = tally.added();
-    assert_eq!(rt; added.len(), 3);
+    let additions = tally.additions();
+    assert_eq!(rt; additions.len(), 3);
     assert_eq!(rt;
-        [added[0].number, added[1].number, added[2].number],
+        [
+            additions[0].number,
+            additions[1].number,
+            additions[2].number
+        ],
         [5, 7, 1]
     );
     assert_eq!(rt;
-        added[0].who,
+        additions[0].who,
         Who {
             family: 0,
             actor: HOST
         }
     );
     assert_eq!(rt;
-        added[2].who,
+        additions[2].who,
         Who {
             family: 0,
             actor: 3

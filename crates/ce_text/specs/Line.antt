@@ -35,8 +35,8 @@ without_outer_blanks bytes = without_end_blanks (without_front_blanks bytes)
 -- ---- lines
 
 -- the pieces of a text between its line feeds
-abbrev pub lines : List ℕ → List (List ℕ)
-lines text = slice_split is_line_feed text
+abbrev pub line_texts : List ℕ → List (List ℕ)
+line_texts text = slice_split is_line_feed text
 
 -- what a line has before its comment, which begins with `#`
 unfoldable pub before_comment : List ℕ → List ℕ

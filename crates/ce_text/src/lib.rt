@@ -11,10 +11,10 @@ mod table;
 mod words;
 
 pub use bytes::{are_plain, has_byte, is_blank, is_digit, is_letter, is_plain};
-pub use line::{before_comment, cut_at, cut_at_blank, trimmed};
+pub use line::{before_comment, cut_at, cut_at_blank, next_line, without_outer_blanks};
 pub use name::is_name;
 pub use names::NameTable;
-pub use number::number_of_digits;
+pub use number::{are_hex_digits, hex_digit, number_of_digits};
 pub use table::look_up;
 pub use words::next_word;
 

@@ -2,7 +2,7 @@
 
 ghost use Rattle.std.specs.Prelude.{◌≡◌, ◌==◌, ◌<◌, ◌≤◌, length, position, IfSome};
 ghost use Rattle.std.specs.Option.{option_map};
-ghost use Rattle.ce_text.specs.Bytes.{is_blank};
+ghost use Rattle.ce_text.specs.Bytes.{is_blank, is_line_feed};
 ghost use Rattle.ce_text.specs.Line.{cut, without_front_blanks, without_end_blanks, without_outer_blanks, before_comment};
 
 use crate::bytes::is_blank;
@@ -43,6 +43,15 @@ pub fn cut_at_blank(bytes: &[u8]) -> (&[u8], Option<&[u8]>)
     }
 }
 
+/// The first line of a text, and what stands behind its line feed, where there is one.
+pub fn next_line(text: &[u8]) -> (&[u8], Option<&[u8]>)
+    ensures parts { (result.0.now, option_map (λ rest. rest.now) result.1)
+        ≡ cut is_line_feed text.now }
+    ensures shorter { IfSome result.1 (λ rest. length rest.now < length text.now) }
+{
+    cut_at(text, b'\n')
+}
+
 pub(crate) fn without_front_blanks(bytes: &[u8]) -> &[u8]
     ensures value { result.now ≡ without_front_blanks bytes.now }
     ensures shorter { length result.now ≤ length bytes.now }
@@ -72,7 +81,7 @@ fn without_end_blanks(bytes: &[u8]) -> &[u8]
 
 /// The bytes without the blanks at their ends.
 #[tactic(auto, unfolding(crate::specs::Line::without_outer_blanks))]
-pub fn trimmed(bytes: &[u8]) -> &[u8]
+pub fn without_outer_blanks(bytes: &[u8]) -> &[u8]
     ensures { result.now ≡ without_outer_blanks bytes.now }
 {
     without_end_blanks(without_front_blanks(bytes))

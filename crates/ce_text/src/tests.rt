@@ -1,12 +1,13 @@
 use crate::{
-    NameTable, before_comment, cut_at, is_name, look_up, next_word, number_of_digits, trimmed,
+    NameTable, are_hex_digits, before_comment, cut_at, hex_digit, is_name, look_up, next_word,
+    number_of_digits, without_outer_blanks,
 };
 use std::test::Fail;
 
 #[test]
 fn parts_of_a_line(rt: HostRuntime) {
     assert_eq!(rt; before_comment(b"nop # a # b"), b"nop ".as_slice());
-    assert_eq!(rt; trimmed(b" \t a b\r "), b"a b".as_slice());
+    assert_eq!(rt; without_outer_blanks(b" \t a b\r "), b"a b".as_slice());
     assert_eq!(rt;
         cut_at(b"a,b,c", b','),
         (b"a".as_slice(), Some(b"b,c".as_slice()))
@@ -49,6 +50,20 @@ fn numbers(rt: HostRuntime) -> Result<(), Fail> {
         );
     }
     Ok(())
+}
+
+#[test]
+fn hexadecimal_digits(rt: HostRuntime) {
+    for (text, want) in [
+        (b"09aF".as_slice(), true),
+        (b"".as_slice(), false),
+        (b"0g".as_slice(), false),
+    ] {
+        assert_eq!(rt; are_hex_digits(text), want, "{text:?}");
+    }
+    assert_eq!(rt; hex_digit(b'9'), 9);
+    assert_eq!(rt; hex_digit(b'a'), 10);
+    assert_eq!(rt; hex_digit(b'F'), 15);
 }
 
 #[test]

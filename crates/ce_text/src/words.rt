@@ -1,14 +1,14 @@
 //! Words between blanks.
 
 ghost use Rattle.std.specs.Prelude.{◌≡◌, ◌∷◌, [], ◌<◌, length, MatchOption, IfSome};
-ghost use Rattle.ce_text.specs.Words.{words};
+ghost use Rattle.ce_text.specs.Words.{words_between};
 
 use crate::line::{cut_at_blank, without_front_blanks};
 
 /// The first word of a line, and what follows it; none where the line has no word.
 pub fn next_word(line: &[u8]) -> Option<(&[u8], &[u8])>
-    ensures words { MatchOption result (words line.now ≡ [])
-        (λ found. words line.now ≡ found.0.now ∷ words found.1.now) }
+    ensures words { MatchOption result (words_between line.now ≡ [])
+        (λ found. words_between line.now ≡ found.0.now ∷ words_between found.1.now) }
     ensures shorter { IfSome result (λ found. length found.1.now < length line.now) }
 {
     let rest = without_front_blanks(line);

@@ -5,7 +5,7 @@ use Rattle.std.proofs.lemmas.List.{at_drop_more}
 use Rattle.ce_daemon.specs.declared.grant.Grant.{Grant}
 use Rattle.ce_model.specs.declared.entry.Entry.{Entry}
 use Rattle.ce_model.specs.Renaming.{CubeGrant}
-use Rattle.ce_model.specs.Views.{grant_by, trace_behind}
+use Rattle.ce_model.specs.Views.{entry_grant, trace_behind}
 use Rattle.ce_script.specs.declared.record.Record.{Record}
 use Rattle.ce_script.specs.declared.script.Script.{Script}
 use Rattle.ce_script.specs.EntryText.{entry_line}
@@ -33,15 +33,15 @@ ahead script kept number history at entry below is =
 
 -- an entry that grants no cube
 pub ahead-none : (script : Script) (kept : Record) (number : ℕ) (history : List Entry) (at : ℕ) (entry : Entry) → at < length history → entry ≡ get_or history at entry
-    → None ≡ option_map (numbered_grant number) (grant_by entry)
+    → None ≡ option_map (numbered_grant number) (entry_grant entry)
     → sections_text script kept number (drop at history) ≡ sections_text script kept number (drop (at + 1) history)
 ahead-none script kept number history at entry below is none =
     ahead script kept number history at entry below is
-    ∙ then_none script kept number (grant_by entry) (drop (at + 1) history) (λ next. sections_text script kept next (drop (at + 1) history)) none
+    ∙ then_none script kept number (entry_grant entry) (drop (at + 1) history) (λ next. sections_text script kept next (drop (at + 1) history)) none
 
 -- an entry that grants one, whose user's next entry is so many from the end
 pub ahead-some : (script : Script) (kept : Record) (number : ℕ) (history : List Entry) (at : ℕ) (entry : Entry) (grant : Grant) (next : ℕ) (old head new whole : List ℕ)
-    → at < length history → entry ≡ get_or history at entry → Some grant ≡ option_map (numbered_grant number) (grant_by entry)
+    → at < length history → entry ≡ get_or history at entry → Some grant ≡ option_map (numbered_grant number) (entry_grant entry)
     → IsNext (cube_of grant) history (length history - at - 1) next → old ++ sections_text script kept number (drop at history) ≡ whole
     → head ≡ old ++ cube_line kept grant.number (cube_of grant) → new ≡ head ++ flat_map (entry_line script) (trace_behind (cube_of grant) (last_of next history))
     → new ++ sections_text script kept (number + 1) (drop (at + 1) history) ≡ whole
@@ -56,5 +56,5 @@ ahead-some script kept number history at entry grant next old head new whole bel
     ∙ append_assoc old (cube_line kept grant.number (cube_of grant)) (flat_map (entry_line script) (trace_behind (cube_of grant) (last_of next history))) in
     ap (λ text. text ++ later) more ∙ append_assoc old (section_text script kept grant (last_of next history)) later
     ∙ ap (λ section. old ++ (section ++ later)) (sym same)
-    ∙ ap (λ text. old ++ text) (sym (ahead script kept number history at entry below is ∙ then_some script kept number (grant_by entry) (drop (at + 1) history) (λ n. sections_text script kept n (drop (at + 1) history)) grant some))
+    ∙ ap (λ text. old ++ text) (sym (ahead script kept number history at entry below is ∙ then_some script kept number (entry_grant entry) (drop (at + 1) history) (λ n. sections_text script kept n (drop (at + 1) history)) grant some))
     ∙ so_far

@@ -5,7 +5,7 @@ use Rattle.std.proofs.lemmas.List.{append-nil, at_drop_more, at_drop_all, take_a
 use Rattle.hex.specs.Hex.{encode_lower, encode_with}
 use Rattle.ce_model.specs.declared.topology.Place.{Place}
 use Rattle.ce_model.specs.declared.topology.BlockId.{BlockId}
-use Rattle.ce_model.specs.Renaming.{targets_renamed}
+use Rattle.ce_model.specs.Renaming.{renamed_targets}
 use Rattle.ce_script.specs.EntryText.{target_text, targets_text}
 use Rattle.ce_script.specs.TextParts.{words}
 use Rattle.ce_trace.specs.Spaced.{spaced_words}
@@ -34,7 +34,7 @@ hex_all text bytes i all = ap (λ digits. text ++ digits) (at_drop_all encode_lo
 
 -- targets joined are the first one, and a comma before each further one
 pub targets-cons : (place : Place → Place) (block : BlockId → BlockId) (first : Place × BlockId) (further : List (Place × BlockId))
-    → targets_text (targets_renamed place block (first ∷ further)) ≡ target_text (place first.0, block first.1) ++ flat_map (λ target. 44 ∷ target_text (place target.0, block target.1)) further
+    → targets_text (renamed_targets place block (first ∷ further)) ≡ target_text (place first.0, block first.1) ++ flat_map (λ target. 44 ∷ target_text (place target.0, block target.1)) further
 targets-cons place block first [] = sym (append-nil (target_text (place first.0, block first.1)))
 targets-cons place block first (second ∷ further) =
     ap (λ more. target_text (place first.0, block first.1) ++ (44 ∷ more)) (targets-cons place block second further)
@@ -43,7 +43,7 @@ targets-cons place block first (second ∷ further) =
 pub targets_written : (place : Place → Place) (block : BlockId → BlockId) (text spaced_text begun whole : List ℕ) (to : List (Place × BlockId)) (first : Place × BlockId) (further : List (Place × BlockId)) (n : ℕ)
     → to ≡ first ∷ further → spaced_text ≡ text ++ 32 ∷ [] → begun ≡ spaced_text ++ target_text (place first.0, block first.1)
     → whole ≡ begun ++ flat_map (λ target. 44 ∷ target_text (place target.0, block target.1)) (take n further) → length further ≤ n
-    → whole ≡ text ++ 32 ∷ targets_text (targets_renamed place block to)
+    → whole ≡ text ++ 32 ∷ targets_text (renamed_targets place block to)
 targets_written place block text spaced_text begun whole to first further n is one two three all =
     let pieces = λ (xs : List (Place × BlockId)). flat_map (λ (target : Place × BlockId). 44 ∷ target_text (place target.0, block target.1)) xs in
     let head = target_text (place first.0, block first.1) in

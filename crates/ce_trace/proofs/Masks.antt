@@ -5,7 +5,7 @@ use Rattle.std.proofs.lemmas.Bool.{ne_eqb}
 use Rattle.std.proofs.lemmas.Nat.{field_of, mod-pow-add}
 use Rattle.ce_model.specs.declared.topology.TheConstants.{HOST}
 use Rattle.ce_model.specs.declared.topology.Subcube.{Subcube}
-use Rattle.ce_model.specs.Subcubes.{extract, extracted_bits, relative}
+use Rattle.ce_model.specs.Subcubes.{extract, extracted_bits, relative_number}
 
 -- a mask says nothing beyond the bits that are looked at
 extracted-low : (bits n mask : ℕ) → extracted_bits bits n (mask % 2 ^ bits) ≡ extracted_bits bits n mask
@@ -22,10 +22,10 @@ unfolding extract greatest_dim
 extract-low n mask = extracted-low 6 n mask
 
 -- the number by which a cube knows the host, and a node
-pub relative-host : (sub : Subcube) (node : ℕ) → node ≡ HOST → HOST ≡ relative sub node
-unfolding relative
+pub relative-host : (sub : Subcube) (node : ℕ) → node ≡ HOST → HOST ≡ relative_number sub node
+unfolding relative_number
 relative-host sub node e = rw e refl
 
-pub relative-node : (sub : Subcube) (node : ℕ) → (node ≡ HOST → ⊥) → extract node (sub.mask % 64) ≡ relative sub node
-unfolding relative
+pub relative-node : (sub : Subcube) (node : ℕ) → (node ≡ HOST → ⊥) → extract node (sub.mask % 64) ≡ relative_number sub node
+unfolding relative_number
 relative-node sub node other = rw (ne_eqb node HOST other) (extract-low node sub.mask)

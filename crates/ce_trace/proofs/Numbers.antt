@@ -5,7 +5,7 @@ use Rattle.std.specs.Option.{option_map_or}
 use Rattle.std.proofs.lemmas.Bool.{ne_eqb}
 use Rattle.ce_model.specs.declared.entry.Entry.{Entry}
 use Rattle.ce_model.specs.Renaming.{CubeGrant}
-use Rattle.ce_model.specs.Views.{from_grant, grant_by, grant_or_later, grants_of, trace_behind, view}
+use Rattle.ce_model.specs.Views.{history_behind_grant, entry_grant, grant_or_later, grants_of, trace_behind, view}
 use Rattle.ce_script.specs.declared.record.Record.{Record}
 use Rattle.ce_script.specs.declared.script.Script.{Script}
 use Rattle.ce_script.specs.EntryText.{entry_line}
@@ -34,28 +34,28 @@ grant-later grant behind later cube k e =
 
 -- the sections behind a place of the history, where the traces by number are those that stand there
 record AreTraces (trace : ℕ → List Entry) (number : ℕ) (history : List Entry) : Type 0 where
-  pub at : (k : ℕ) → trace (number + k) ≡ found_trace (from_grant history k)
+  pub at : (k : ℕ) → trace (number + k) ≡ found_trace (history_behind_grant history k)
 
-traces-pass : (trace : ℕ → List Entry) (number : ℕ) (entry : Entry) (behind : List Entry) → grant_by entry ≡ None
+traces-pass : (trace : ℕ → List Entry) (number : ℕ) (entry : Entry) (behind : List Entry) → entry_grant entry ≡ None
     → AreTraces trace number (entry ∷ behind) → AreTraces trace number behind
 traces-pass trace number entry behind e h = record { at = λ k. h.at k ∙ rw e refl }
 
-traces-later : (trace : ℕ → List Entry) (number : ℕ) (entry : Entry) (behind : List Entry) (cube : CubeGrant) → grant_by entry ≡ Some cube
+traces-later : (trace : ℕ → List Entry) (number : ℕ) (entry : Entry) (behind : List Entry) (cube : CubeGrant) → entry_grant entry ≡ Some cube
     → AreTraces trace number (entry ∷ behind) → AreTraces trace (number + 1) behind
 traces-later trace number entry behind cube e h = record {
   at = λ k. let same : number + 1 + k ≡ number + (k + 1) = omega arith in
-      ap trace same ∙ h.at (k + 1) ∙ ap found_trace (grant-later (grant_by entry) behind (from_grant behind) cube k e);
+      ap trace same ∙ h.at (k + 1) ∙ ap found_trace (grant-later (entry_grant entry) behind (history_behind_grant behind) cube k e);
 }
 
-traces-here : (trace : ℕ → List Entry) (number : ℕ) (entry : Entry) (behind : List Entry) (cube : CubeGrant) → grant_by entry ≡ Some cube
+traces-here : (trace : ℕ → List Entry) (number : ℕ) (entry : Entry) (behind : List Entry) (cube : CubeGrant) → entry_grant entry ≡ Some cube
     → AreTraces trace number (entry ∷ behind) → trace number ≡ trace_behind cube behind
 traces-here trace number entry behind cube e h =
     let same : number ≡ number + 0 = omega arith in
-    ap trace same ∙ h.at 0 ∙ ap found_trace (grant-here (grant_by entry) behind (from_grant behind) cube e)
+    ap trace same ∙ h.at 0 ∙ ap found_trace (grant-here (entry_grant entry) behind (history_behind_grant behind) cube e)
 
 -- one entry more in front
 by_grant : (script : Script) (kept : Record) (trace : ℕ → List Entry) (entry : Entry) (behind : List Entry) (number : ℕ) (grant : Option CubeGrant)
-    → grant_by entry ≡ grant
+    → entry_grant entry ≡ grant
     → ((next : ℕ) → AreTraces trace next behind → flat_map (text_by script kept trace) (enumerate_from next (grants_of behind)) ≡ sections_text script kept next behind)
     → AreTraces trace number (entry ∷ behind)
     → flat_map (text_by script kept trace) (enumerate_from number (grants_of (entry ∷ behind))) ≡ sections_text script kept number (entry ∷ behind)
@@ -70,7 +70,7 @@ by_number : (script : Script) (kept : Record) (trace : ℕ → List Entry) (hist
     → flat_map (text_by script kept trace) (enumerate_from number (grants_of history)) ≡ sections_text script kept number history
 by_number script kept trace [] number h = refl
 by_number script kept trace (entry ∷ behind) number h =
-    by_grant script kept trace entry behind number (grant_by entry) refl (by_number script kept trace behind) h
+    by_grant script kept trace entry behind number (entry_grant entry) refl (by_number script kept trace behind) h
 
 -- the sections of a report are those that follow from the history behind each grant
 pub report_sections : (script : Script) (kept : Record)

@@ -7,7 +7,7 @@ use Rattle.std.proofs.lemmas.List.Sums.{take_while-cons}
 use Rattle.ce_model.specs.declared.entry.Entry.{Entry}
 use Rattle.ce_model.specs.declared.entry.What.{What}
 use Rattle.ce_model.specs.declared.entry.What.TheVariants.{Drain}
-use Rattle.ce_model.specs.Answers.{call_of}
+use Rattle.ce_model.specs.Answers.{recorded_call}
 use Rattle.ce_model.specs.Renaming.{CubeGrant, entry_inward}
 use Rattle.ce_model.specs.Views.{is_drain, trace_behind}
 
@@ -17,9 +17,9 @@ is_before cube entry = not (entry.user == cube.user && is_drain entry.what)
 
 -- of the entries before the drain the calls, renamed
 abbrev calls_in : CubeGrant → List Entry → List Entry
-calls_in cube entries = map (entry_inward cube.sub) (filter (λ entry. entry.user == cube.user && is_some (call_of entry.what)) entries)
+calls_in cube entries = map (entry_inward cube.sub) (filter (λ entry. entry.user == cube.user && is_some (recorded_call entry.what)) entries)
 
-no_drain : (what : What) → is_some (call_of what) ≡ true → is_drain what ≡ false
+no_drain : (what : What) → is_some (recorded_call what) ≡ true → is_drain what ≡ false
 no_drain Drain called = cc
 no_drain other called = refl
 
@@ -32,7 +32,7 @@ trace-drain cube entry behind own drained =
     ap (calls_in cube) kept
 
 -- a call of the cube's user stands in the trace
-pub trace-call : (cube : CubeGrant) (entry : Entry) (behind : List Entry) → entry.user ≡ cube.user → is_some (call_of entry.what) ≡ true
+pub trace-call : (cube : CubeGrant) (entry : Entry) (behind : List Entry) → entry.user ≡ cube.user → is_some (recorded_call entry.what) ≡ true
     → trace_behind cube (entry ∷ behind) ≡ entry_inward cube.sub entry ∷ trace_behind cube behind
 trace-call cube entry behind own called =
     let kept : take_while (is_before cube) (entry ∷ behind) ≡ entry ∷ take_while (is_before cube) behind =
@@ -41,7 +41,7 @@ trace-call cube entry behind own called =
 
 -- what else the user did does not
 pub trace-pass : (cube : CubeGrant) (entry : Entry) (behind : List Entry) → entry.user ≡ cube.user → is_drain entry.what ≡ false
-    → is_some (call_of entry.what) ≡ false → trace_behind cube (entry ∷ behind) ≡ trace_behind cube behind
+    → is_some (recorded_call entry.what) ≡ false → trace_behind cube (entry ∷ behind) ≡ trace_behind cube behind
 trace-pass cube entry behind own drained called =
     let kept : take_while (is_before cube) (entry ∷ behind) ≡ entry ∷ take_while (is_before cube) behind =
     take_while-cons (is_before cube) entry behind ∙ rw (eq-eqb entry.user cube.user own, drained) refl in
@@ -68,13 +68,13 @@ at_drain cube behind i entry below is own drained =
     at_place cube behind i entry below is ∙ trace-drain cube entry (drop (i + 1) behind) own drained
 
 pub at_call : (cube : CubeGrant) (behind : List Entry) (i : ℕ) (entry : Entry) → i < length behind → entry ≡ get_or behind i entry
-    → entry.user ≡ cube.user → is_some (call_of entry.what) ≡ true
+    → entry.user ≡ cube.user → is_some (recorded_call entry.what) ≡ true
     → trace_behind cube (drop i behind) ≡ entry_inward cube.sub entry ∷ trace_behind cube (drop (i + 1) behind)
 at_call cube behind i entry below is own called =
     at_place cube behind i entry below is ∙ trace-call cube entry (drop (i + 1) behind) own called
 
 pub at_pass : (cube : CubeGrant) (behind : List Entry) (i : ℕ) (entry : Entry) → i < length behind → entry ≡ get_or behind i entry
-    → entry.user ≡ cube.user → is_drain entry.what ≡ false → is_some (call_of entry.what) ≡ false
+    → entry.user ≡ cube.user → is_drain entry.what ≡ false → is_some (recorded_call entry.what) ≡ false
     → trace_behind cube (drop i behind) ≡ trace_behind cube (drop (i + 1) behind)
 at_pass cube behind i entry below is own drained called =
     at_place cube behind i entry below is ∙ trace-pass cube entry (drop (i + 1) behind) own drained called

@@ -3,7 +3,7 @@ use Rattle.std.specs.Prelude.{ℕ, ◌+◌, List, [], ◌∷◌, ◌++◌, flat_
 use Rattle.ce_daemon.specs.declared.grant.Grant.{Grant}
 use Rattle.ce_model.specs.declared.entry.Entry.{Entry}
 use Rattle.ce_model.specs.Renaming.{CubeGrant}
-use Rattle.ce_model.specs.Views.{grant_by, trace_behind}
+use Rattle.ce_model.specs.Views.{entry_grant, trace_behind}
 use Rattle.ce_script.specs.declared.record.Record.{Record}
 use Rattle.ce_script.specs.declared.script.Script.{Script}
 use Rattle.ce_script.specs.EntryText.{entry_line}
@@ -32,4 +32,4 @@ section_then script kept number (Some cube) behind later =
 abbrev pub sections_text : Script → Record → ℕ → List Entry → List ℕ
 sections_text script kept number [] = []
 sections_text script kept number (entry ∷ behind) =
-    section_then script kept number (grant_by entry) behind (λ next. sections_text script kept next behind)
+    section_then script kept number (entry_grant entry) behind (λ next. sections_text script kept next behind)

@@ -4,7 +4,7 @@ ghost use Rattle.ce_script.specs.TextParts.{words};
 ghost use Rattle.ce_script.specs.CommandText.{command_words, place_words};
 ghost use Rattle.ce_trace.specs.Spaced.{spaced_words};
 
-use crate::digits::{push_data, push_number};
+use crate::digits::{push_data, push_with_number};
 use crate::names::image_name;
 use crate::places::push_place_words;
 use crate::words::{push, push_word};
@@ -23,7 +23,7 @@ pub(crate) fn push_command(
         ≡ text.old.items ++ words (command_words script.now command.now)) }
 {
     match command {
-        Command::Getcube(dim) => push_counted(text, b"getcube", *dim),
+        Command::Getcube(dim) => push_with_number(text, b"getcube", *dim),
         Command::Peek => push(text, b"peek"),
         Command::Freecube => push(text, b"freecube"),
         Command::Spawn(image, to) => {
@@ -36,20 +36,11 @@ pub(crate) fn push_command(
             push_placed(text, b"send", *to)?;
             push_data(text, bytes.as_slice())
         }
-        Command::Run(count) => push_counted(text, b"run", *count),
-        Command::Recv(count) => push_counted(text, b"recv", *count),
+        Command::Run(count) => push_with_number(text, b"run", *count),
+        Command::Recv(count) => push_with_number(text, b"recv", *count),
         Command::Dump(at) => push_placed(text, b"dump", *at),
         Command::Trace => push(text, b"trace"),
     }
-}
-
-/// A command with a number.
-fn push_counted(text: &mut Vec<u8>, verb: &[u8], count: u32) -> Result<(), AllocError>
-    ensures { OnOk result
-        (text.new.items ≡ text.old.items ++ (verb.now ++ (32 ∷ decimal count))) }
-{
-    push(text, verb)?;
-    push_number(text, u64::from(count))
 }
 
 /// A command with a place.

@@ -26,6 +26,19 @@ pub(crate) fn push_number(text: &mut Vec<u8>, n: u64) -> Result<(), AllocError>
     push_decimal(text, n)
 }
 
+/// Words, and a number as a word behind them.
+pub(crate) fn push_with_number(
+    text: &mut Vec<u8>,
+    words: &[u8],
+    number: u32,
+) -> Result<(), AllocError>
+    ensures { OnOk result
+        (text.new.items ≡ text.old.items ++ (words.now ++ (32 ∷ decimal number))) }
+{
+    push(text, words)?;
+    push_number(text, u64::from(number))
+}
+
 /// A number as a word, or `-` for none, with a space before it.
 pub(crate) fn push_some_number(text: &mut Vec<u8>, n: Option<u64>) -> Result<(), AllocError>
     ensures { OnOk result (text.new.items ≡ text.old.items ++ (32 ∷ number_text n)) }

@@ -1,12 +1,12 @@
 //! The lines of a cube's trace.
 ghost use Rattle.std.specs.Prelude.{◌≡◌, [], ◌∷◌, ◌++◌, OnOk, None, codes, decimal, map, ◌==◌, if◌then◌else◌};
-ghost use Rattle.ce_model.specs.Renaming.{block_inward, entry_inward, place_inward, targets_renamed, what_renamed};
+ghost use Rattle.ce_model.specs.Renaming.{block_inward, entry_inward, place_inward, renamed_targets, renamed_what};
 ghost use Rattle.ce_script.specs.TextParts.{bytes_text, image_name, place_text, words};
 ghost use Rattle.ce_script.specs.EntryText.{actor_words, entry_line, found_text, given_words, kill_found_text, number_text, target_text, targets_text, what_words};
 ghost use Rattle.ce_trace.specs.Spaced.{spaced_words};
 
-use crate::digits::{push_data, push_number, push_some_number};
-use crate::inward::{block_inward, place_inward, relative};
+use crate::digits::{push_data, push_number, push_some_number, push_with_number};
+use crate::inward::{block_inward, place_inward, relative_number};
 use crate::names::image_name;
 use crate::places::{push_block, push_place};
 use crate::words::{push, push_line_feed, push_word};
@@ -26,7 +26,7 @@ pub(crate) fn push_entry(
     ensures { OnOk result (text.new.items
         ≡ text.old.items ++ entry_line script.now (entry_inward sub entry.now)) }
 {
-    push_actor(text, relative(sub, entry.actor))?;
+    push_actor(text, relative_number(sub, entry.actor))?;
     push_what(text, script, sub, &entry.what)?;
     push_line_feed(text)
 }
@@ -50,11 +50,11 @@ fn push_what(
     what: &What,
 ) -> Result<(), AllocError>
     ensures { OnOk result (text.new.items ≡ text.old.items ++ spaced_words (what_words script.now
-        (what_renamed (place_inward sub) (block_inward sub) what.now))) }
+        (renamed_what (place_inward sub) (block_inward sub) what.now))) }
 {
     match what {
         What::Getcube { .. } | What::Peek | What::Drain | What::Freecube => Ok(()),
-        What::Arm { count } => push_by(text, b" arm", *count),
+        What::Arm { count } => push_with_number(text, b" arm", *count),
         What::Look { found } => push_look(text, *found),
         What::HostTake { number } => push_get(text, *number),
         What::Send {
@@ -78,15 +78,6 @@ fn push_what(
             given,
         } => push_take(text, script, *asking, *dead, *poller, *given),
     }
-}
-
-/// A word and a number behind it.
-fn push_by(text: &mut Vec<u8>, word: &[u8], number: u32) -> Result<(), AllocError>
-    ensures { OnOk result
-        (text.new.items ≡ text.old.items ++ (word.now ++ (32 ∷ decimal number))) }
-{
-    push(text, word)?;
-    push_number(text, u64::from(number))
 }
 
 /// A place as a word, with a space before it.
@@ -129,10 +120,10 @@ fn push_send(
 ) -> Result<(), AllocError>
     ensures { OnOk result (text.new.items
         ≡ text.old.items ++ spaced_words (codes "send" ∷ decimal pid ∷ decimal first
-        ∷ targets_text (targets_renamed (place_inward sub) (block_inward sub) to.now)
+        ∷ targets_text (renamed_targets (place_inward sub) (block_inward sub) to.now)
         ∷ bytes_text bytes.now ∷ [])) }
 {
-    push_by(text, b" send", pid)?;
+    push_with_number(text, b" send", pid)?;
     push_number(text, first)?;
     push_targets(text, sub, to)?;
     push_data(text, bytes)
@@ -151,7 +142,7 @@ fn push_spawn(
         ≡ text.old.items ++ spaced_words (codes "spawn" ∷ decimal pid ∷ image_name script.now image
         ∷ place_text to ∷ (if fresh then codes "ok" else codes "used") ∷ [])) }
 {
-    push_by(text, b" spawn", pid)?;
+    push_with_number(text, b" spawn", pid)?;
     push_word(text, image_name(script, image))?;
     push_place_word(text, to)?;
     push_fresh(text, fresh)
@@ -163,7 +154,7 @@ fn push_kill(text: &mut Vec<u8>, pid: u32, to: Place, found: KillFound) -> Resul
         ≡ text.old.items ++ spaced_words (codes "kill" ∷ decimal pid ∷ place_text to
         ∷ kill_found_text found ∷ [])) }
 {
-    push_by(text, b" kill", pid)?;
+    push_with_number(text, b" kill", pid)?;
     push_place_word(text, to)?;
     push_kill_found(text, found)
 }
@@ -173,7 +164,7 @@ fn push_note(text: &mut Vec<u8>, pid: u32, word: u32) -> Result<(), AllocError>
     ensures { OnOk result (text.new.items
         ≡ text.old.items ++ spaced_words (codes "note" ∷ decimal pid ∷ decimal word ∷ [])) }
 {
-    push_by(text, b" note", pid)?;
+    push_with_number(text, b" note", pid)?;
     push_number(text, u64::from(word))
 }
 
@@ -190,7 +181,7 @@ fn push_take(
         ≡ text.old.items ++ spaced_words (codes "take" ∷ decimal asking ∷ decimal dead
         ∷ number_text poller ∷ given_words script.now given)) }
 {
-    push_by(text, b" take", asking)?;
+    push_with_number(text, b" take", asking)?;
     push_number(text, u64::from(dead))?;
     push_some_number(text, poller.map(u64::from))?;
     push_given(text, script, given)
@@ -221,7 +212,7 @@ fn push_kill_found(text: &mut Vec<u8>, found: KillFound) -> Result<(), AllocErro
 /// The places that a message goes to, each with the block that carries it there; with a space before them.
 fn push_targets(text: &mut Vec<u8>, sub: Subcube, to: &[(Place, BlockId)]) -> Result<(), AllocError>
     ensures { OnOk result (text.new.items ≡ text.old.items ++ (32
-        ∷ targets_text (targets_renamed (place_inward sub) (block_inward sub) to.now))) }
+        ∷ targets_text (renamed_targets (place_inward sub) (block_inward sub) to.now))) }
 {
     push(text, b" ")?;
     let Some((first, further)) = to.split_first() else {
@@ -256,15 +247,15 @@ fn push_given(text: &mut Vec<u8>, script: &Script, given: TakeResult) -> Result<
 {
     match given {
         TakeResult::Start { pid, image } => {
-            push_by(text, b" start", pid)?;
+            push_with_number(text, b" start", pid)?;
             push_word(text, image_name(script, image))
         }
         TakeResult::Mail { pid, number } => {
-            push_by(text, b" mail", pid)?;
+            push_with_number(text, b" mail", pid)?;
             push_number(text, number)
         }
-        TakeResult::Kill { pid } => push_by(text, b" kill", pid),
-        TakeResult::Poll { pid } => push_by(text, b" poll", pid),
+        TakeResult::Kill { pid } => push_with_number(text, b" kill", pid),
+        TakeResult::Poll { pid } => push_with_number(text, b" poll", pid),
         TakeResult::Idle => push(text, b" idle"),
         TakeResult::Spent => push(text, b" spent"),
     }

@@ -1,7 +1,7 @@
 //! What an entry is for a cube: its grant, its drain, or a call of it.
 ghost use Rattle.std.specs.Prelude.{◌≡◌, IfSome, is_some, option_map};
-ghost use Rattle.ce_model.specs.Answers.{call_of};
-ghost use Rattle.ce_model.specs.Views.{grant_by, is_drain};
+ghost use Rattle.ce_model.specs.Answers.{recorded_call};
+ghost use Rattle.ce_model.specs.Views.{entry_grant, is_drain};
 ghost use Rattle.ce_trace.specs.Sections.{numbered_grant};
 
 use ce_daemon::Grant;
@@ -9,7 +9,7 @@ use ce_model::{Entry, What};
 
 /// The cube that an entry grants, under this number.
 pub(crate) fn grant_by(entry: &Entry, number: u64) -> Option<Grant>
-    ensures cube { result ≡ option_map (numbered_grant number) (grant_by entry.now) }
+    ensures cube { result ≡ option_map (numbered_grant number) (entry_grant entry.now) }
     ensures user { IfSome result (λ grant. grant.user ≡ entry.now.user) }
 {
     match entry.what {
@@ -35,7 +35,7 @@ pub(crate) fn is_drain(what: &What) -> bool
 
 /// This is a call of a cube, and stands in its trace.
 pub(crate) fn is_call(what: &What) -> bool
-    ensures { result ≡ is_some (call_of what.now) }
+    ensures { result ≡ is_some (recorded_call what.now) }
 {
     match what {
         What::Getcube { .. } | What::Peek | What::Drain | What::Freecube => false,

@@ -1,7 +1,7 @@
 //! The numbers of the machine as a cube knows them.
 ghost use Rattle.std.specs.Prelude.{◌≡◌, IfOk};
-ghost use Rattle.ce_model.specs.Subcubes.{relative};
-ghost use Rattle.ce_model.specs.Renaming.{block_inward, entry_inward, place_inward, targets_renamed, what_renamed};
+ghost use Rattle.ce_model.specs.Subcubes.{relative_number};
+ghost use Rattle.ce_model.specs.Renaming.{block_inward, entry_inward, place_inward, renamed_targets, renamed_what};
 
 use ce_model::{
     BlockId, Bytes, Entry, GREATEST_DIMENSION, HOST, HOST_HOME, NoMemory, Place, Subcube, Targets,
@@ -14,8 +14,8 @@ use std::alloc::Global;
 const GREATEST_NODES: u32 = 1 << GREATEST_DIMENSION;
 
 /// The number by which the cube knows a node; the host keeps its number.
-pub(crate) fn relative(sub: Subcube, node: u32) -> u32
-    ensures { result ≡ relative sub node }
+pub(crate) fn relative_number(sub: Subcube, node: u32) -> u32
+    ensures { result ≡ relative_number sub node }
 {
     if node == HOST {
         HOST
@@ -30,7 +30,7 @@ pub(crate) fn place_inward(sub: Subcube, place: Place) -> Place
     ensures { result ≡ place_inward sub place }
 {
     Place {
-        node: relative(sub, place.node),
+        node: relative_number(sub, place.node),
         pid: place.pid,
     }
 }
@@ -41,7 +41,7 @@ pub(crate) fn block_inward(sub: Subcube, id: BlockId) -> BlockId
     ensures { result ≡ block_inward sub id }
 {
     let home = if id.home < HOST_HOME {
-        relative(sub, id.home)
+        relative_number(sub, id.home)
     } else {
         HOST_HOME
     };
@@ -54,7 +54,7 @@ pub(crate) fn block_inward(sub: Subcube, id: BlockId) -> BlockId
 /// The targets of a message, as the cube knows them.
 fn targets_inward(alloc: Global, sub: Subcube, to: &[(Place, BlockId)]) -> Result<Targets, NoMemory>
     ensures { IfOk result (λ targets. targets
-        ≡ targets_renamed (place_inward sub) (block_inward sub) to.now) }
+        ≡ renamed_targets (place_inward sub) (block_inward sub) to.now) }
 {
     let mut targets = Vec::new(alloc);
     for target in to {
@@ -73,7 +73,7 @@ fn send_inward(
     bytes: &Bytes,
 ) -> Result<What, NoMemory>
     ensures { IfOk result (λ what. what ≡ What.Send pid first
-        (targets_renamed (place_inward sub) (block_inward sub) to.now) bytes.now) }
+        (renamed_targets (place_inward sub) (block_inward sub) to.now) bytes.now) }
 {
     let to = targets_inward(alloc, sub, to.as_slice())?;
     let bytes = Bytes::from_vec(Vec::from_slice(alloc, bytes.as_slice())?);
@@ -88,7 +88,7 @@ fn send_inward(
 /// A call and its answer, as the cube knows them.
 fn what_inward(alloc: Global, sub: Subcube, what: &What) -> Result<What, NoMemory>
     ensures { IfOk result (λ renamed. renamed
-        ≡ what_renamed (place_inward sub) (block_inward sub) what.now) }
+        ≡ renamed_what (place_inward sub) (block_inward sub) what.now) }
 {
     match what {
         What::Getcube { dim, sub } => Ok(What::Getcube {
@@ -147,7 +147,7 @@ pub(crate) fn entry_inward(alloc: Global, sub: Subcube, entry: &Entry) -> Result
 {
     Ok(Entry {
         user: entry.user,
-        actor: relative(sub, entry.actor),
+        actor: relative_number(sub, entry.actor),
         what: what_inward(alloc, sub, &entry.what)?,
     })
 }

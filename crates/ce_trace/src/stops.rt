@@ -4,7 +4,7 @@ ghost use Rattle.ce_script.specs.TextParts.{word_text, words};
 ghost use Rattle.ce_script.specs.CommandText.{status_words, stop_words};
 ghost use Rattle.ce_trace.specs.Spaced.{spaced_words};
 
-use crate::digits::{push_address, push_number};
+use crate::digits::{push_address, push_with_number};
 use crate::words::push;
 use ce_model::{Status, Stop};
 use std::alloc::AllocError;
@@ -14,7 +14,7 @@ fn push_stop(text: &mut Vec<u8>, cause: Stop) -> Result<(), AllocError>
     ensures { OnOk result (text.new.items ≡ text.old.items ++ spaced_words (stop_words cause)) }
 {
     match cause {
-        Stop::Exited(code) => push_numbered(text, b" exited", code),
+        Stop::Exited(code) => push_with_number(text, b" exited", code),
         Stop::Killed => push(text, b" killed"),
         Stop::Illegal(pc, word) => push_illegal(text, pc, word),
         Stop::Fetch(pc) => push_at(text, b" fetch", pc),
@@ -25,19 +25,10 @@ fn push_stop(text: &mut Vec<u8>, cause: Stop) -> Result<(), AllocError>
         Stop::PastEnd(address) => push_at(text, b" past end", address),
         Stop::NotABlock(address) => push_at(text, b" not a block", address),
         Stop::Break(pc) => push_at(text, b" break", pc),
-        Stop::NoCall(number) => push_numbered(text, b" no call", number),
+        Stop::NoCall(number) => push_with_number(text, b" no call", number),
         Stop::TurnSpent => push(text, b" turn spent"),
         Stop::WindowsSpent => push(text, b" windows spent"),
     }
-}
-
-/// A cause that comes with a number.
-fn push_numbered(text: &mut Vec<u8>, cause: &[u8], number: u32) -> Result<(), AllocError>
-    ensures { OnOk result
-        (text.new.items ≡ text.old.items ++ (cause.now ++ (32 ∷ decimal number))) }
-{
-    push(text, cause)?;
-    push_number(text, u64::from(number))
 }
 
 /// A cause that comes with an address.

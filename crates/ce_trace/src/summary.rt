@@ -44,14 +44,14 @@ fn push_answer(text: &mut Vec<u8>, kept: &Record, user: &UserRecord) -> Result<(
     ensures { OnOk result (text.new.items
         ≡ text.old.items ++ received_text kept.now user.now) }
 {
-    match received(user.done.as_slice()) {
+    match first_recv(user.done.as_slice()) {
         Some(done) => push_reply(text, kept, &done.1),
         None => Ok(()),
     }
 }
 
 /// The first `recv`, with its answer.
-fn received(done: &[(Command, Answer)]) -> Option<&(Command, Answer)>
+fn first_recv(done: &[(Command, Answer)]) -> Option<&(Command, Answer)>
     ensures { option_copied result ≡ find (λ each. is_recv each.0) done.now }
 {
     done.iter().find(|each| is_recv(&each.0))

@@ -13,7 +13,7 @@ use ce_model::{
     BlockId, Bytes, Entry, HOST, HOST_HOME, KillFound, LookResult, NoMemory, Place, Status, Stop,
     Subcube, TakeResult, Targets, What,
 };
-use ce_script::{Name, Named, Record, Script, UserRecord};
+use ce_script::{Name, NamedImage, Record, Script, UserRecord};
 use rv_image::Image;
 use sqlite_items::Items;
 use std::alloc::{AllocError, Global};
@@ -38,11 +38,11 @@ fn name(alloc: Global, text: &str) -> Result<Name, NoMemory>
     Ok(Name::from_text(String::from_str(alloc, text)?))
 }
 
-#[tactic(auto, unfolding(ce_script::specs::Names::is_name, ce_script::specs::Names::name_room))]
-fn hello(alloc: Global) -> Result<Named, Fail> {
+#[tactic(auto, unfolding(ce_script::specs::Names::is_name, ce_script::specs::Names::name_room, ce_text::specs::Name::is_name))]
+fn hello(alloc: Global) -> Result<NamedImage, Fail> {
     let image = Image::of_parts(0x1_0000, Vec::from_slice(alloc, &[0x73, 0, 0, 0])?, 0)?;
     let name = name(alloc, "hello")?;
-    Ok(Named { name, image })
+    Ok(NamedImage { name, image })
 }
 
 /// A script with one image, `hello`.
@@ -57,7 +57,7 @@ fn script(alloc: Global, dim: Option<u32>) -> Result<Script, Fail> {
     })
 }
 
-#[tactic(auto, unfolding(ce_script::specs::Names::is_name, ce_script::specs::Names::name_room))]
+#[tactic(auto, unfolding(ce_script::specs::Names::is_name, ce_script::specs::Names::name_room, ce_text::specs::Name::is_name))]
 fn alice(alloc: Global, done: Vec<(Command, Answer)>) -> Result<UserRecord, NoMemory> {
     let name = name(alloc, "alice")?;
     let done = Items::from_vec(done);

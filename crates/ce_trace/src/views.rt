@@ -1,6 +1,6 @@
 //! What the machine's history is for one cube.
 ghost use Rattle.std.specs.Prelude.{◌≡◌, IfOk, option_map};
-ghost use Rattle.ce_model.specs.Views.{from_grant, trace_behind, view};
+ghost use Rattle.ce_model.specs.Views.{history_behind_grant, trace_behind, view};
 ghost use Rattle.ce_trace.specs.Sections.{cube_of};
 
 use crate::grants::{grant_by, is_call, is_drain};
@@ -25,7 +25,7 @@ pub fn view(alloc: Global, history: &[Entry], grant: u64) -> Result<Vec<Entry>, 
 /// The grant of this number, and the history behind it.
 fn grant_at(history: &[Entry], number: u64) -> Option<(Grant, &[Entry])>
     ensures { option_map (λ found. (cube_of found.0, found.1.now)) result
-        ≡ from_grant history.now number }
+        ≡ history_behind_grant history.now number }
 {
     let mut earlier = 0;
     for (place, entry) in history.iter().enumerate() {

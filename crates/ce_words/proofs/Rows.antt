@@ -3,11 +3,11 @@ use Rattle.std.specs.Prelude.{◌≡◌, ℕ, true, false, List, [], ◌∷◌, 
 use Rattle.clap.specs.Words.{fault_of}
 use Rattle.clap.proofs.OnLiterals.{clap_on_literals}
 use Rattle.clap.specs.declared.error.kind.ErrorKind.TheVariants.{UnknownArgument, ValueValidation}
-use Rattle.ce_words.specs.Line.{program, line_of}
+use Rattle.ce_words.specs.Line.{program, asked_line}
 
 -- ---- accepted
 
-pub no_words : line_of [] ≡ record { serial = false; load = None }
+pub no_words : asked_line [] ≡ record { is_serial = false; load = None }
 unfolding clap_on_literals
 no_words = refl
 
@@ -15,7 +15,7 @@ pub no_fault : fault_of program [] ≡ []
 unfolding clap_on_literals
 no_fault = refl
 
-pub serial : line_of (codes "--serial" ∷ []) ≡ record { serial = true; load = None }
+pub serial : asked_line (codes "--serial" ∷ []) ≡ record { is_serial = true; load = None }
 unfolding clap_on_literals
 serial = refl
 
@@ -23,7 +23,7 @@ pub serial_no_fault : fault_of program (codes "--serial" ∷ []) ≡ []
 unfolding clap_on_literals
 serial_no_fault = refl
 
-pub load : line_of (codes "--load" ∷ codes "0" ∷ []) ≡ record { serial = false; load = Some 0 }
+pub load : asked_line (codes "--load" ∷ codes "0" ∷ []) ≡ record { is_serial = false; load = Some 0 }
 unfolding clap_on_literals
 load = refl
 
@@ -31,11 +31,11 @@ pub load_no_fault : fault_of program (codes "--load" ∷ codes "0" ∷ []) ≡ [
 unfolding clap_on_literals
 load_no_fault = refl
 
-pub both : line_of (codes "--load" ∷ codes "17" ∷ codes "--serial" ∷ []) ≡ record { serial = true; load = Some 17 }
+pub both : asked_line (codes "--load" ∷ codes "17" ∷ codes "--serial" ∷ []) ≡ record { is_serial = true; load = Some 17 }
 unfolding clap_on_literals
 both = refl
 
-pub both_turned : line_of (codes "--serial" ∷ codes "--load" ∷ codes "17" ∷ []) ≡ record { serial = true; load = Some 17 }
+pub both_turned : asked_line (codes "--serial" ∷ codes "--load" ∷ codes "17" ∷ []) ≡ record { is_serial = true; load = Some 17 }
 unfolding clap_on_literals
 both_turned = refl
 

@@ -7,7 +7,7 @@ use Rattle.clap.specs.Words.{App, Rule, Row, new_app, new_rule, with_rule, match
 use Rattle.clap.specs.Simple.{on_top}
 use Rattle.clap.specs.declared.builder.action.ArgAction.TheVariants.{SetTrue}
 use Rattle.clap.specs.declared.builder.value_parser.ValueParser.TheVariants.{Signed}
-use Rattle.ce_words.specs.declared.line.Line.{Line}
+use Rattle.ce_words.specs.declared.line.CommandLine.{CommandLine}
 
 -- ---- the command
 
@@ -55,8 +55,8 @@ pub record IsAccepted (words : List (List ℕ)) : Type 0 where
   pub numbered : IfSome (load_text (rows words)) IsNumber
 
 -- what the line asks for
-abbrev pub line_in : List Row → Line
-line_in found = record { serial = asks_serial found; load = option_map number_of (load_text found) }
+abbrev pub line_in : List Row → CommandLine
+line_in found = record { is_serial = asks_serial found; load = option_map number_of (load_text found) }
 
-abbrev pub line_of : List (List ℕ) → Line
-line_of words = line_in (rows words)
+abbrev pub asked_line : List (List ℕ) → CommandLine
+asked_line words = line_in (rows words)

@@ -5,4 +5,4 @@ mod line;
 #[cfg(test)]
 mod tests;
 
-pub use line::{Line, LineError, read_line};
+pub use line::{CommandLine, CommandLineError, read_line};

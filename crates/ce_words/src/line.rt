@@ -3,8 +3,8 @@ ghost use Rattle.std.specs.Prelude.{◌≡◌, ◌≢◌, [], false, IfOk, IfErr
 ghost use Rattle.std.specs.String.{string_bytes};
 ghost use Rattle.clap.specs.Words.{app_of, fault_of, found_of, kind_of, rows_of, rule_of};
 ghost use Rattle.clap.specs.declared.error.kind.ErrorKind.TheVariants.{OutOfMemory};
-ghost use Rattle.ce_words.specs.Line.{IsAccepted, IsNumber, asks_serial, line_of, load_rule, load_text, number_of, program, rows, serial_rule};
-ghost use Rattle.ce_words.specs.declared.line.LineError.TheVariants.{Refused};
+ghost use Rattle.ce_words.specs.Line.{IsAccepted, IsNumber, asks_serial, asked_line, load_rule, load_text, number_of, program, rows, serial_rule};
+ghost use Rattle.ce_words.specs.declared.line.CommandLineError.TheVariants.{Refused};
 
 use ce_model::NoMemory;
 use clap::error::ErrorKind;
@@ -14,41 +14,41 @@ use thiserror::Error as DeriveError;
 
 /// What a command line asks for.
 #[derive(Clone, Copy, Debug, PartialEq, Eq)]
-pub struct Line {
+pub struct CommandLine {
     /// Users and nodes take their turns on one thread.
-    pub serial: bool,
+    pub is_serial: bool,
     /// The load that is made from this number is run, in place of a script.
     pub load: Option<u32>,
 }
 
 /// Why a command line says nothing.
 #[derive(Clone, Copy, Debug, PartialEq, Eq, DeriveError)]
-pub enum LineError {
+pub enum CommandLineError {
     /// It has a word that the program doesn't know, a word too many, or a number that is none.
     #[error("usage")]
     Refused,
     /// There is no memory to read it.
-    #[error("no memory")]
+    #[error("{0}")]
     Memory(NoMemory),
 }
 
 /// Reads the words behind the program's name: the flag `--serial`, and the option `--load N` with N from 0 to
 /// 4,294,967,295, each once at most. What a line means, and whether it is refused, is what `clap` says of this
 /// command.
-pub fn read_line(alloc: Global, words: &[String]) -> Result<Line, LineError>
+pub fn read_line(alloc: Global, words: &[String]) -> Result<CommandLine, CommandLineError>
     ensures accepted { IfOk result (λ _. IsAccepted (map string_bytes words.now)) }
-    ensures line { IfOk result (λ line. line ≡ line_of (map string_bytes words.now)) }
+    ensures line { IfOk result (λ line. line ≡ asked_line (map string_bytes words.now)) }
     ensures refused { IsErrOf result Refused → ¬ IsAccepted (map string_bytes words.now) }
 {
     let matches = read_matches(alloc, words)?;
-    Ok(Line {
-        serial: asks_serial(&matches),
+    Ok(CommandLine {
+        is_serial: asks_serial(&matches),
         load: load_number(&matches)?,
     })
 }
 
 /// What the command finds in the words.
-fn read_matches<'a>(alloc: Global, words: &'a [String]) -> Result<ArgMatches<'a>, LineError>
+fn read_matches<'a>(alloc: Global, words: &'a [String]) -> Result<ArgMatches<'a>, CommandLineError>
     ensures faultless { IfOk result
         (λ _. fault_of program (map string_bytes words.entry.now) ≡ []) }
     ensures rows { IfOk result (λ matches. rows_of (found_of matches)
@@ -57,7 +57,7 @@ fn read_matches<'a>(alloc: Global, words: &'a [String]) -> Result<ArgMatches<'a>
         → fault_of program (map string_bytes words.entry.now) ≢ [] }
 {
     let Ok(command) = program(alloc) else {
-        return Err(LineError::Memory(NoMemory));
+        return Err(CommandLineError::Memory(NoMemory));
     };
     match command.try_get_matches_from(words) {
         Ok(matches) => Ok(matches),
@@ -104,7 +104,7 @@ fn asks_serial(matches: &ArgMatches<'_>) -> bool
 
 /// The number of the load, where the option is there; refused where what stands there is none.
 #[tactic(auto, using(crate::proofs::Found::one_by_rows))]
-fn load_number(matches: &ArgMatches<'_>) -> Result<Option<u32>, LineError>
+fn load_number(matches: &ArgMatches<'_>) -> Result<Option<u32>, CommandLineError>
     ensures number { IfOk result (λ number. number
         ≡ option_map number_of (load_text (rows_of (found_of matches.now)))) }
     ensures is { IfOk result (λ _. IfSome (load_text (rows_of (found_of matches.now))) IsNumber) }
@@ -113,17 +113,17 @@ fn load_number(matches: &ArgMatches<'_>) -> Result<Option<u32>, LineError>
 {
     match matches.try_get_one::<u32>("load") {
         Ok(number) => Ok(number),
-        Err(_) => Err(LineError::Refused),
+        Err(_) => Err(CommandLineError::Refused),
     }
 }
 
 /// Why the line says nothing, by the error of its matches.
-fn line_error(error: &Error) -> LineError
+fn line_error(error: &Error) -> CommandLineError
     ensures { result ≡ Refused → kind_of error.now ≢ OutOfMemory }
 {
     if error.kind() == ErrorKind::OutOfMemory {
-        LineError::Memory(NoMemory)
+        CommandLineError::Memory(NoMemory)
     } else {
-        LineError::Refused
+        CommandLineError::Refused
     }
 }

@@ -2,7 +2,7 @@ use super::*;
 use std::alloc::Global;
 use std::test::Fail;
 
-fn read(alloc: Global, words: &[&str]) -> Result<Result<Line, LineError>, Fail> {
+fn read(alloc: Global, words: &[&str]) -> Result<Result<CommandLine, CommandLineError>, Fail> {
     let mut line = Vec::new(alloc);
     for word in words {
         line.push(String::from_str(alloc, word)?)?;
@@ -13,27 +13,27 @@ fn read(alloc: Global, words: &[&str]) -> Result<Result<Line, LineError>, Fail> 
 #[test]
 fn the_flag_and_the_option_come_in_either_order(rt: HostRuntime) -> Result<(), Fail> {
     let alloc = rt.alloc();
-    let neither = Line {
-        serial: false,
+    let neither = CommandLine {
+        is_serial: false,
         load: None,
     };
     assert_eq!(rt; read(alloc, &[])?, Ok(neither));
     assert_eq!(rt;
         read(alloc, &["--serial"])?,
-        Ok(Line {
-            serial: true,
+        Ok(CommandLine {
+            is_serial: true,
             load: None
         })
     );
     assert_eq!(rt;
         read(alloc, &["--load", "0"])?,
-        Ok(Line {
-            serial: false,
+        Ok(CommandLine {
+            is_serial: false,
             load: Some(0)
         })
     );
-    let both = Line {
-        serial: true,
+    let both = CommandLine {
+        is_serial: true,
         load: Some(4_294_967_295),
     };
     assert_eq!(rt;
@@ -50,19 +50,28 @@ fn the_flag_and_the_option_come_in_either_order(rt: HostRuntime) -> Result<(), F
 #[test]
 fn usage(rt: HostRuntime) -> Result<(), Fail> {
     let alloc = rt.alloc();
-    assert_eq!(rt; read(alloc, &["--fast"])?, Err(LineError::Refused));
+    assert_eq!(rt; read(alloc, &["--fast"])?, Err(CommandLineError::Refused));
     assert_eq!(rt;
         read(alloc, &["--load", "4294967296"])?,
-        Err(LineError::Refused)
+        Err(CommandLineError::Refused)
     );
-    assert_eq!(rt; read(alloc, &["--load"])?, Err(LineError::Refused));
-    assert_eq!(rt; read(alloc, &["--load", "ten"])?, Err(LineError::Refused));
+    assert_eq!(rt; read(alloc, &["--load"])?, Err(CommandLineError::Refused));
+    assert_eq!(rt;
+        read(alloc, &["--load", "ten"])?,
+        Err(CommandLineError::Refused)
+    );
     assert_eq!(rt;
         read(alloc, &["--serial", "--serial"])?,
-        Err(LineError::Refused)
+        Err(CommandLineError::Refused)
     );
-    assert_eq!(rt; read(alloc, &["script.ce"])?, Err(LineError::Refused));
-    assert_eq!(rt; read(alloc, &["--help"])?, Err(LineError::Refused));
-    assert_eq!(rt; read(alloc, &["--version"])?, Err(LineError::Refused));
+    assert_eq!(rt;
+        read(alloc, &["script.ce"])?,
+        Err(CommandLineError::Refused)
+    );
+    assert_eq!(rt; read(alloc, &["--help"])?, Err(CommandLineError::Refused));
+    assert_eq!(rt;
+        read(alloc, &["--version"])?,
+        Err(CommandLineError::Refused)
+    );
     Ok(())
 }

@@ -9,33 +9,33 @@ use Rattle.ce_model.specs.declared.entry.What.{What}
 use Rattle.ce_model.specs.declared.entry.What.TheVariants.{Getcube, Drain, Freecube, Arm, Send, Spawn, Take}
 use Rattle.ce_model.specs.declared.entry.TakeResult.TheVariants.{Start, Mail, Idle}
 use Rattle.ce_model.specs.Lists.{EachAfter}
-use Rattle.ce_model.specs.Literals.{machine, of_actor, of_host, sub_at, place, block, aa}
+use Rattle.ce_model.specs.Literals.{machine, entry_of, of_host, subcube, place, block, first_bytes}
 use Rattle.ce_model.specs.Node.{Call}
 use Rattle.ce_model.specs.Trace.{blank_record}
-use Rattle.ce_model.specs.Answers.{answer, call_of}
+use Rattle.ce_model.specs.Answers.{answer, recorded_call}
 use Rattle.ce_model.specs.Cube.{IsAlone}
-use Rattle.ce_model.specs.Renaming.{call_renamed}
-use Rattle.ce_model.specs.Views.{from_grant, view}
-use Rattle.ce_model.specs.Machine.{MachineParts, MachineState, machine_opening, held_by, is_held_by, nodes_of, standing_of, with_cube, changed_by, changed_by_call, changed_by_host, Request, in_cube, what_of_request, cube_of}
+use Rattle.ce_model.specs.Renaming.{renamed_call}
+use Rattle.ce_model.specs.Views.{history_behind_grant, view}
+use Rattle.ce_model.specs.Machine.{MachineParts, MachineState, machine_opening, cube_held_by, is_held_by, nodes_of, cube_standing, with_cube, state_after_entry, state_after_call, state_after_host, Request, in_cube, what_of_request, cube_of}
 
 -- ---- what a machine does, and how it is refuted
 
 -- the rules of a machine, right or wrong: what its state becomes by an entry, and what it answers a request of a user's actor
 pub record Rules : Type 0 where
-  pub changed : MachineState → Entry → MachineState
+  pub next_state : MachineState → Entry → MachineState
   pub answers : MachineParts → MachineState → ℕ → ℕ → Request → Option What
 
 -- a machine of these rules makes the entry after the history, by some request
 pub record IsAnswered (rules : Rules) (parts : MachineParts) (history : List Entry) (entry : Entry) : Type 0 where
   pub request : Request
-  pub answer : rules.answers parts (fold rules.changed machine_opening history) entry.user entry.actor request ≡ Some entry.what
+  pub answer : rules.answers parts (fold rules.next_state machine_opening history) entry.user entry.actor request ≡ Some entry.what
 
 -- a machine of these rules makes the history and one entry more, and with that entry the view of the grant of this number, which was a
 -- trace that its cube gives alone, is none any longer
 abbrev pub IsRefutedBy : Rules → MachineParts → List Entry → Entry → ℕ → Type 0
 IsRefutedBy rules parts history entry number =
     EachAfter (IsAnswered rules parts) [] (history ++ entry ∷ [])
-    × IsSomeAnd (from_grant history number) (λ found. IsAlone (cube_of parts.images found.0) (view history number)
+    × IsSomeAnd (history_behind_grant history number) (λ found. IsAlone (cube_of parts.images found.0) (view history number)
     × (IsAlone (cube_of parts.images found.0) (view (history ++ entry ∷ []) number) → ⊥))
 
 -- ---- a drain that leaves the messages
@@ -43,18 +43,18 @@ IsRefutedBy rules parts history entry number =
 -- a drain and the giving back of a cube leave what waits at its nodes, for the next owner of the nodes
 abbrev pub mail_left_by_host : ℕ → What → MachineState → MachineState
 mail_left_by_host user Drain state =
-    with_cube user (λ cube. record cube { drained = true; mail = [] }) (λ cube node kept. kept) state
+    with_cube user (λ cube. record cube { is_drained = true; mail = [] }) (λ cube node kept. kept) state
 mail_left_by_host user Freecube state =
-    record (with_cube user (λ cube. cube) (λ cube node kept. record blank_record { waiting = kept.waiting }) state) { held = filter (λ cube. not (is_held_by user cube)) state.held }
-mail_left_by_host user other state = changed_by_host user other state
+    record (with_cube user (λ cube. cube) (λ cube node kept. record blank_record { waiting_items = kept.waiting_items }) state) { cubes = filter (λ cube. not (is_held_by user cube)) state.cubes }
+mail_left_by_host user other state = state_after_host user other state
 
 abbrev pub mail_left_by_call : Option Call → Entry → MachineState → MachineState
-mail_left_by_call (Some call) entry state = changed_by_call (Some call) entry state
+mail_left_by_call (Some call) entry state = state_after_call (Some call) entry state
 mail_left_by_call None entry state = mail_left_by_host entry.user entry.what state
 
 abbrev pub mail_left : Rules
 mail_left = record {
-  changed = λ state entry. mail_left_by_call (call_of entry.what) entry state;
+  next_state = λ state entry. mail_left_by_call (recorded_call entry.what) entry state;
   answers = what_of_request;
 }
 
@@ -62,19 +62,19 @@ mail_left = record {
 -- there
 abbrev pub started_where_mail_was : List Entry
 started_where_mail_was =
-    of_host 0 (Getcube 0 (Some (sub_at 0 0)))
-    ∷ of_host 0 (Send 0 0 ((place 0 0, block 256 0) ∷ []) aa)
+    of_host 0 (Getcube 0 (Some (subcube 0 0)))
+    ∷ of_host 0 (Send 0 0 ((place 0 0, block 256 0) ∷ []) first_bytes)
     ∷ of_host 0 Drain
     ∷ of_host 0 Freecube
-    ∷ of_host 1 (Getcube 0 (Some (sub_at 0 0)))
+    ∷ of_host 1 (Getcube 0 (Some (subcube 0 0)))
     ∷ of_host 1 (Spawn 0 0 (place 0 0) true)
     ∷ of_host 1 (Arm 10)
-    ∷ of_actor 1 0 (Take 0 0 None (Start 0 0))
+    ∷ entry_of 1 0 (Take 0 0 None (Start 0 0))
     ∷ []
 
 -- the second user's process is given aa
 abbrev pub mail_of_before : Entry
-mail_of_before = of_actor 1 0 (Take 1 0 None (Mail 0 0))
+mail_of_before = entry_of 1 0 (Take 1 0 None (Mail 0 0))
 
 -- a drain that leaves the messages is refuted by the view of the second grant
 abbrev pub DrainLeavesMail : Type 0
@@ -92,30 +92,30 @@ place_added sub to = record { node = added_to_base sub to.node; pid = to.pid }
 -- the call of a cube is made with these wrong numbers for places
 abbrev pub added_answers : MachineParts → MachineState → ℕ → ℕ → Request → Option What
 added_answers parts state user actor (in_cube call) =
-    option_map (λ cube. answer (nodes_of cube.grant) (standing_of state cube) actor (call_renamed (place_added cube.grant.sub) (λ id. id) call)) (held_by state user)
+    option_map (λ cube. answer (nodes_of cube.grant) (cube_standing state cube) actor (renamed_call (place_added cube.grant.sub) (λ id. id) call)) (cube_held_by state user)
 added_answers parts state user actor other = what_of_request parts state user actor other
 
 abbrev pub rank_added : Rules
-rank_added = record { changed = changed_by; answers = added_answers }
+rank_added = record { next_state = state_after_entry; answers = added_answers }
 
 -- three users have nodes 0, 1 and 2 of a machine of four. The second one gives node 1 back, and is granted a cube of the nodes 1
 -- and 3. It has an image started at its node 1, which is node 3: the start is sent to node 2
 abbrev pub start_astray : List Entry
 start_astray =
-    of_host 0 (Getcube 0 (Some (sub_at 0 0)))
-    ∷ of_host 1 (Getcube 0 (Some (sub_at 0 1)))
-    ∷ of_host 2 (Getcube 0 (Some (sub_at 0 2)))
+    of_host 0 (Getcube 0 (Some (subcube 0 0)))
+    ∷ of_host 1 (Getcube 0 (Some (subcube 0 1)))
+    ∷ of_host 2 (Getcube 0 (Some (subcube 0 2)))
     ∷ of_host 1 Drain
     ∷ of_host 1 Freecube
-    ∷ of_host 1 (Getcube 1 (Some (sub_at 2 1)))
+    ∷ of_host 1 (Getcube 1 (Some (subcube 2 1)))
     ∷ of_host 1 (Spawn 0 0 (place 2 0) true)
     ∷ of_host 1 (Arm 10)
     ∷ []
 
 -- node 3 finds nothing
 abbrev pub nothing_found : Entry
-nothing_found = of_actor 1 3 (Take 0 0 None Idle)
+nothing_found = entry_of 1 3 (Take 0 0 None Idle)
 
 -- a node's number that is added to the base is refuted by the view of the fourth grant
-abbrev pub RankAddedToBase : Type 0
-RankAddedToBase = (image : ImageParts) → IsRefutedBy rank_added (machine 2 3 image) start_astray nothing_found 3
+abbrev pub RankIsAddedToBase : Type 0
+RankIsAddedToBase = (image : ImageParts) → IsRefutedBy rank_added (machine 2 3 image) start_astray nothing_found 3

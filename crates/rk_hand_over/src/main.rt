@@ -2,7 +2,7 @@
 #![tactic(auto)]
 
 use ce_model::PROCESS_COUNT;
-use rk_rows::{Fault, LoneNode};
+use rk_rows::{LoneNode, RowFault};
 use rv_asm::assemble;
 use rv_image::Image;
 use std::alloc::Global;
@@ -49,7 +49,7 @@ fn count_of<R: Env + AllocGlobal>(rt: &R) -> io::Result<u64> {
 }
 
 /// Makes so many hand-overs: how many there were.
-fn hand_overs(alloc: Global, count: u64) -> Result<u64, Fault> {
+fn hand_overs(alloc: Global, count: u64) -> Result<u64, RowFault> {
     let mut done: u64 = 0;
     for _ in 0..count {
         if done >= count {
@@ -61,7 +61,7 @@ fn hand_overs(alloc: Global, count: u64) -> Result<u64, Fault> {
 }
 
 /// Makes so many hand-overs at most, in one node, whose processes hand blocks over one after the other.
-fn node_hand_overs(alloc: Global, most: u64) -> Result<u64, Fault> {
+fn node_hand_overs(alloc: Global, most: u64) -> Result<u64, RowFault> {
     let mut images = Vec::new(alloc);
     images.push(image(alloc)?)?;
     let mut node = LoneNode::new(alloc, images, false)?;
@@ -78,7 +78,7 @@ fn node_hand_overs(alloc: Global, most: u64) -> Result<u64, Fault> {
 }
 
 /// Has a process start, send its block, and be handed it so often; a process that has no window left is told so then.
-fn process_hand_overs(node: &mut LoneNode, pid: u32, count: u64) -> Result<(), Fault> {
+fn process_hand_overs(node: &mut LoneNode, pid: u32, count: u64) -> Result<(), RowFault> {
     node.spawn(0, pid)?;
     node.exchange()?;
     node.exchange()?;
@@ -90,9 +90,9 @@ fn process_hand_overs(node: &mut LoneNode, pid: u32, count: u64) -> Result<(), F
     Ok(())
 }
 
-fn image(alloc: Global) -> Result<Image, Fault> {
+fn image(alloc: Global) -> Result<Image, RowFault> {
     if IMAGE.len() >= 1 << 31 {
-        return Err(Fault::Images);
+        return Err(RowFault::Images);
     }
-    assemble(alloc, IMAGE.as_bytes()).map_err(|_| Fault::Images)
+    assemble(alloc, IMAGE.as_bytes()).map_err(|_| RowFault::Images)
 }

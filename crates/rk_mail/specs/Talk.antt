@@ -1,13 +1,13 @@
 -- What nodes say and hear in the program, as the model has it.
 use Rattle.std.specs.Prelude.{◌≡◌, ◌⊎◌, ℕ, Bool, true, false, IsTrue, if◌then◌else◌, List, [], Some}
 use Rattle.ce_model.specs.declared.entry.What.{What}
-use Rattle.ce_model.specs.declared.entry.What.TheVariants as entry
+use Rattle.ce_model.specs.declared.entry.What.TheVariants as whats
 use Rattle.ce_model.specs.declared.entry.KillFound.{KillFound}
-use Rattle.ce_model.specs.declared.entry.KillFound.TheVariants as found
+use Rattle.ce_model.specs.declared.entry.KillFound.TheVariants as kill_found
 use Rattle.ce_model.specs.declared.entry.TakeResult.{TakeResult}
-use Rattle.ce_model.specs.declared.entry.TakeResult.TheVariants as given
+use Rattle.ce_model.specs.declared.entry.TakeResult.TheVariants as take_result
 use Rattle.ce_model.specs.Parcels.{Item}
-use Rattle.ce_model.specs.Node.{Call, takes, sends, spawns, kills, notes}
+use Rattle.ce_model.specs.Node.{Call, take_call, send_call, spawn_call, kill_call, note_call}
 use Rattle.ce_model.specs.Hearing as model
 use Rattle.ce_model.specs.Cube.{parcel_numbered}
 use Rattle.rk_mail.specs.declared.parcel.Parcel.{Parcel}
@@ -20,11 +20,11 @@ use Rattle.rk_mail.specs.Targets.{bytes_of, targets_of}
 
 -- the call that a node makes by what it says
 abbrev pub call_said : Say → Call
-call_said (say.Take asking dead poller) = takes asking dead poller
-call_said (say.Send pid batch) = sends pid (targets_of batch) (bytes_of batch)
-call_said (say.Spawn pid image to) = spawns pid image to
-call_said (say.Kill pid to) = kills pid to
-call_said (say.Note pid word) = notes pid word
+call_said (say.Take asking dead poller) = take_call asking dead poller
+call_said (say.Send pid batch) = send_call pid (targets_of batch) (bytes_of batch)
+call_said (say.Spawn pid image to) = spawn_call pid image to
+call_said (say.Kill pid to) = kill_call pid to
+call_said (say.Note pid word) = note_call pid word
 
 -- what a node hears
 abbrev pub heard_as : Hearing → model.Hearing
@@ -34,12 +34,12 @@ heard_as (Kill pid) = model.kill_of pid
 heard_as (Poll pid) = model.poll_of pid
 heard_as Idle = model.nothing
 heard_as Spent = model.nothing
-heard_as (Posted batch) = model.told 0
-heard_as Spawned = model.told 0
-heard_as Used = model.told 2
-heard_as Killed = model.told 0
-heard_as Unused = model.told 2
-heard_as Already = model.told 3
+heard_as (Posted batch) = model.answer_of 0
+heard_as Spawned = model.answer_of 0
+heard_as Used = model.answer_of 2
+heard_as Killed = model.answer_of 0
+heard_as Unused = model.answer_of 2
+heard_as Already = model.answer_of 3
 heard_as Noted = model.nothing
 
 -- ---- which answers a call can have
@@ -56,34 +56,39 @@ is_of_take other = false
 
 -- the answer is of the kind of the call; a message's batch comes back empty
 abbrev pub IsAnswerTo : Call → Hearing → Type 0
-IsAnswerTo (takes asking dead poller) heard = IsTrue (is_of_take heard)
-IsAnswerTo (sends pid to bytes) heard = heard ≡ Posted []
-IsAnswerTo (spawns pid image to) heard = (heard ≡ Spawned) ⊎ (heard ≡ Used)
-IsAnswerTo (kills pid to) heard = (heard ≡ Killed) ⊎ ((heard ≡ Unused) ⊎ (heard ≡ Already))
-IsAnswerTo (notes pid word) heard = heard ≡ Noted
+IsAnswerTo (take_call asking dead poller) heard = IsTrue (is_of_take heard)
+IsAnswerTo (send_call pid to bytes) heard = heard ≡ Posted []
+IsAnswerTo (spawn_call pid image to) heard = (heard ≡ Spawned) ⊎ (heard ≡ Used)
+IsAnswerTo (kill_call pid to) heard = (heard ≡ Killed) ⊎ ((heard ≡ Unused) ⊎ (heard ≡ Already))
+IsAnswerTo (note_call pid word) heard = heard ≡ Noted
 IsAnswerTo other heard = ⊥
 
 -- ---- the answer that an entry has
 
 -- a node that is given this hears so; a parcel is the one of its number among the items that waited
 abbrev pub IsGiven : List Item → TakeResult → Hearing → Type 0
-IsGiven items (given.Start pid image) heard = heard ≡ Start pid image
-IsGiven items (given.Mail pid number) heard = (parcel : Parcel) × (heard ≡ Mail parcel) × (parcel_numbered number items ≡ Some (parcel_of parcel))
-IsGiven items (given.Kill pid) heard = heard ≡ Kill pid
-IsGiven items (given.Poll pid) heard = heard ≡ Poll pid
-IsGiven items given.Idle heard = heard ≡ Idle
-IsGiven items given.Spent heard = heard ≡ Spent
+IsGiven items (take_result.Start pid image) heard = heard ≡ Start pid image
+IsGiven items (take_result.Mail pid number) heard = (parcel : Parcel) × (heard ≡ Mail parcel) × (parcel_numbered number items ≡ Some (parcel_of parcel))
+IsGiven items (take_result.Kill pid) heard = heard ≡ Kill pid
+IsGiven items (take_result.Poll pid) heard = heard ≡ Poll pid
+IsGiven items take_result.Idle heard = heard ≡ Idle
+IsGiven items take_result.Spent heard = heard ≡ Spent
 
+-- what a process hears of its spawn: whether the id was never used before
+abbrev pub heard_of_spawn : Bool → Hearing
+heard_of_spawn fresh = if fresh then Spawned else Used
+
+-- what a process hears of its kill
 abbrev pub heard_of_kill : KillFound → Hearing
-heard_of_kill found.Killed = Killed
-heard_of_kill found.Unused = Unused
-heard_of_kill found.Already = Already
+heard_of_kill kill_found.Killed = Killed
+heard_of_kill kill_found.Unused = Unused
+heard_of_kill kill_found.Already = Already
 
 -- who made this entry, with these items waiting for it, hears so
 abbrev pub IsHeardIn : List Item → What → Hearing → Type 0
-IsHeardIn items (entry.Take asking dead poller given) heard = IsGiven items given heard
-IsHeardIn items (entry.Send pid first to bytes) heard = heard ≡ Posted []
-IsHeardIn items (entry.Spawn pid image to fresh) heard = heard ≡ (if fresh then Spawned else Used)
-IsHeardIn items (entry.Kill pid to found) heard = heard ≡ heard_of_kill found
-IsHeardIn items (entry.Note pid word) heard = heard ≡ Noted
+IsHeardIn items (whats.Take asking dead poller given) heard = IsGiven items given heard
+IsHeardIn items (whats.Send pid first to bytes) heard = heard ≡ Posted []
+IsHeardIn items (whats.Spawn pid image to fresh) heard = heard ≡ heard_of_spawn fresh
+IsHeardIn items (whats.Kill pid to found) heard = heard ≡ heard_of_kill found
+IsHeardIn items (whats.Note pid word) heard = heard ≡ Noted
 IsHeardIn items other heard = ⊥

@@ -1,5 +1,8 @@
+ghost use Rattle.std.specs.Prelude.{◌≡◌};
+ghost use Rattle.rk_mail.specs.Talk.{heard_of_spawn, heard_of_kill};
+
 use crate::{Batch, Parcel};
-use ce_model::Place;
+use ce_model::{KillFound, Place};
 
 /// What a node asks the machine for.
 #[derive(Drop)]
@@ -85,4 +88,26 @@ pub enum Hearing {
     Already,
     /// To a Note: the word is in the trace.
     Noted,
+}
+
+/// What a process hears of its spawn, by whether the process id was never used before.
+pub fn heard_of_spawn(fresh: bool) -> Hearing
+    ensures { result ≡ heard_of_spawn fresh }
+{
+    if fresh {
+        Hearing::Spawned
+    } else {
+        Hearing::Used
+    }
+}
+
+/// What a process hears of its kill, by what the machine found.
+pub fn heard_of_kill(found: KillFound) -> Hearing
+    ensures { result ≡ heard_of_kill found }
+{
+    match found {
+        KillFound::Killed => Hearing::Killed,
+        KillFound::Unused => Hearing::Unused,
+        KillFound::Already => Hearing::Already,
+    }
 }

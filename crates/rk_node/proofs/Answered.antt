@@ -1,4 +1,4 @@
--- What the answer to a box's call leaves of its node: it is well, and so is its turn.
+-- What the answer to a box's call leaves of its node: it is well.
 use Rattle.std.proofs.Common.{◌≡◌, ℕ, suc, ◌+◌, ◌<◌, ◌≤◌, Bool, true, false, ◌||◌, if◌then◌else◌, List, [], ◌∷◌, length, slice_get, Option, Some, None, IfSome, refl, ap, sym, ◌∙◌, subst, arith, inl, inr}
 use Rattle.std.specs.List.{Contains}
 use Rattle.std.proofs.lemmas.Bool.{cases_Bool, cases_lt, both_ways, or_cases}
@@ -12,13 +12,13 @@ use Rattle.ce_model.specs.Limits.{process_count}
 use Rattle.ce_model.specs.Blocks.{Block, put}
 use Rattle.ce_model.specs.Parcels.{is_member}
 use Rattle.ce_model.specs.Process.{Process, unborn_process, is_receiving, is_stopped}
-use Rattle.ce_model.specs.Node.{Turn, Node, Call, takes, sends, spawns, kills, notes, arms, looks, takes_mail, process_at, blocks_of, ids_of}
+use Rattle.ce_model.specs.Node.{Turn, Node, Call, take_call, send_call, spawn_call, kill_call, note_call, arm_call, look_call, mail_call, process_at, blocks_of, ids_of}
 use Rattle.ce_model.specs.Kernel.{with_store}
 use Rattle.ce_model.specs.Hearing as model
 use Rattle.ce_model.specs.Sound.{is_unborn, is_polling, IsSoundTurn}
 use Rattle.ce_solo.proofs.Counting.{hit, hit-le, same_from_hit, count, count-nil, count-one, count-cons, rising-put}
 use Rattle.ce_solo.proofs.Nodes.{polls, IsWell}
-use Rattle.ce_solo.proofs.Hears.{HasHeardAnswer, mail-hears, nothing-hears, kill-hears, poll-hears, told-hears, receiving_is, start-begins}
+use Rattle.ce_solo.proofs.Hears.{mail-hears, nothing-hears, kill-hears, poll-hears, told-hears, receiving_is, start-begins}
 use Rattle.ce_solo.proofs.HandedOver.{member-of}
 use Rattle.rk_mail.specs.declared.talk.Hearing.{Hearing}
 use Rattle.rk_mail.specs.declared.talk.Hearing.TheVariants.{Start, Mail, Kill, Poll, Idle, Spent, Posted, Spawned, Used, Killed, Unused, Already, Noted}
@@ -28,9 +28,8 @@ use Rattle.rk_node.specs.declared.node.Node as code
 use Rattle.rk_node.specs.Boxes.{Box}
 use Rattle.rk_node.specs.Standing.{node_of}
 use Rattle.rk_node.specs.Wording.{HasBatch}
-use Rattle.rk_node.specs.Stocked.{IsStocked}
 use Rattle.rk_node.specs.Answering.{HasSaid, IsWork, IsAbleToHear}
-use Rattle.rk_node.specs.Hearings.{IsWorkOf, HasRoomFor, batch_after}
+use Rattle.rk_node.specs.Hearings.{IsWorkOf, HasRoomToHear, batch_after}
 use Rattle.rk_node.proofs.Counted.{count-blocks}
 use Rattle.rk_node.proofs.Heard.{apart-stored, once-stored}
 use Rattle.rk_node.proofs.Polling.{polls-head}
@@ -63,7 +62,7 @@ pub put-well : (turn : Option Turn) (node : Node) (id : BlockId) → IsWell turn
 put-well turn node id well none = record {
   process_ids = well.process_ids;
   processes = well.processes;
-  polling = well.polling;
+  polling_ids = well.polling_ids;
   store = rising-put id node.store well.store (apart-stored node id none);
   once = (once-stored node id (record { once = well.once }) none).once;
 }
@@ -93,11 +92,11 @@ first-polls pid [] e = absurd (cc)
 first-polls pid (x ∷ xs) e = let same : x ≡ pid = cc in subst (λ q. 1 ≤ polls q (x ∷ xs)) same (polls-head x xs)
 
 -- the one that polls longest polls
-poller-polls : (turn : Option Turn) (node : Node) (pid : ℕ) → IsWell turn node → slice_get node.polling 0 ≡ Some pid → is_polling (process_at node pid).status ≡ true
+poller-polls : (turn : Option Turn) (node : Node) (pid : ℕ) → IsWell turn node → slice_get node.polling_ids 0 ≡ Some pid → is_polling (process_at node pid).status ≡ true
 poller-polls turn node pid well e =
     elim (cases_Bool (is_polling (process_at node pid).status)) [
       | inl t ↦ t
-      | inr f ↦ absurd (omega (arith, first-polls pid node.polling e, well.polling pid, ap {B = ℕ} (λ b. if b then 1 else 0) f))
+      | inr f ↦ absurd (omega (arith, first-polls pid node.polling_ids e, well.polling_ids pid, ap {B = ℕ} (λ b. if b then 1 else 0) f))
     ]
 
 pub polling-receives : (s : Status) → is_polling s ≡ true → is_receiving s ≡ true
@@ -118,19 +117,19 @@ born_status (Stopped cause) h = refl
 
 -- only a Take is answered by something to do, and it is said without a turn
 pub take-idle : (box : Box) (call : Call) (heard : Hearing) → HasSaid box call → IsAnswerTo call heard → is_of_take heard ≡ true → box.node.turn ≡ None
-take-idle box (takes asking dead poller) heard said answer h = said.1
-take-idle box (sends pid to bytes) heard said answer h = absurd (both_ways _ (ap is_of_take answer) h)
-take-idle box (spawns pid image to) heard said answer h =
+take-idle box (take_call asking dead poller) heard said answer h = said.1
+take-idle box (send_call pid to bytes) heard said answer h = absurd (both_ways _ (ap is_of_take answer) h)
+take-idle box (spawn_call pid image to) heard said answer h =
     elim answer [ inl e ↦ absurd (both_ways _ (ap is_of_take e) h) | inr e ↦ absurd (both_ways _ (ap is_of_take e) h) ]
-take-idle box (kills pid to) heard said answer h =
+take-idle box (kill_call pid to) heard said answer h =
     elim answer [
       | inl e ↦ absurd (both_ways _ (ap is_of_take e) h)
       | inr others ↦ elim others [ inl e ↦ absurd (both_ways _ (ap is_of_take e) h) | inr e ↦ absurd (both_ways _ (ap is_of_take e) h) ]
     ]
-take-idle box (notes pid word) heard said answer h = absurd (both_ways _ (ap is_of_take answer) h)
-take-idle box (arms n) heard said answer h = absurd answer
-take-idle box looks heard said answer h = absurd answer
-take-idle box takes_mail heard said answer h = absurd answer
+take-idle box (note_call pid word) heard said answer h = absurd (both_ways _ (ap is_of_take answer) h)
+take-idle box (arm_call n) heard said answer h = absurd answer
+take-idle box look_call heard said answer h = absurd answer
+take-idle box mail_call heard said answer h = absurd answer
 
 take-keeps : (heard : Hearing) (batch : Option (List (Place × Block))) → is_of_take heard ≡ true → batch_after heard batch ≡ batch
 take-keeps (Start pid image) batch h = refl
@@ -150,33 +149,29 @@ take-keeps Noted batch h = refl
 -- the spare batch is here and empty once the answer was heard
 pub heard-batch : (box : Box) (call : Call) (heard : Hearing) (batch : Option (List (Place × Block))) → HasSaid box call → IsAnswerTo call heard → HasBatch box.out batch
     → batch_after heard batch ≡ Some []
-heard-batch box (takes asking dead poller) heard batch said answer has =
+heard-batch box (take_call asking dead poller) heard batch said answer has =
     let here : batch ≡ Some [] = subst (λ o. HasBatch o batch) said.0 has in take-keeps heard batch answer ∙ here
-heard-batch box (sends pid to bytes) heard batch said answer has = ap (λ h. batch_after h batch) answer
-heard-batch box (spawns pid image to) heard batch said answer has =
+heard-batch box (send_call pid to bytes) heard batch said answer has = ap (λ h. batch_after h batch) answer
+heard-batch box (spawn_call pid image to) heard batch said answer has =
     let here : batch ≡ Some [] = subst (λ o. HasBatch o batch) (sym said) has in
     elim answer [ inl e ↦ ap (λ h. batch_after h batch) e ∙ here | inr e ↦ ap (λ h. batch_after h batch) e ∙ here ]
-heard-batch box (kills pid to) heard batch said answer has =
+heard-batch box (kill_call pid to) heard batch said answer has =
     let here : batch ≡ Some [] = subst (λ o. HasBatch o batch) (sym said) has in
     elim answer [
       | inl e ↦ ap (λ h. batch_after h batch) e ∙ here
       | inr others ↦ elim others [ inl e ↦ ap (λ h. batch_after h batch) e ∙ here | inr e ↦ ap (λ h. batch_after h batch) e ∙ here ]
     ]
-heard-batch box (notes pid word) heard batch said answer has =
+heard-batch box (note_call pid word) heard batch said answer has =
     let here : batch ≡ Some [] = subst (λ o. HasBatch o batch) (sym said) has in ap (λ h. batch_after h batch) answer ∙ here
-heard-batch box (arms n) heard batch said answer has = absurd answer
-heard-batch box looks heard batch said answer has = absurd answer
-heard-batch box takes_mail heard batch said answer has = absurd answer
+heard-batch box (arm_call n) heard batch said answer has = absurd answer
+heard-batch box look_call heard batch said answer has = absurd answer
+heard-batch box mail_call heard batch said answer has = absurd answer
 
 -- ---- the node once it has heard
 
--- the node is well, and its turn within its limits
-pub record IsSoundly (node : Node) : Type 0 where
-  pub well : IsWell node.turn node
-  pub sound : IfSome node.turn IsSoundTurn
-
-soundly : (node node' : Node) (come : List BlockId) → HasHeardAnswer node node' come → IsSoundly node'
-soundly node node' come hears = record { well = hears.became.well; sound = hears.turn }
+-- the node is well in the turn that it keeps
+abbrev pub IsWellNow : Node → Type 0
+IsWellNow node = IsWell node.turn node
 
 module _ (images : List ImageParts) (box : Box) (well : IsWell box.node.turn box.node) (sound : IfSome box.node.turn IsSoundTurn) where
   -- the node has no turn
@@ -202,45 +197,45 @@ module _ (images : List ImageParts) (box : Box) (well : IsWell box.node.turn box
   work-of Already can = tt
   work-of Noted can = tt
 
-  pub hears-soundly : (heard : Hearing) → IsAbleToHear images box heard → IsSoundly (model.hears images box.node (heard_as heard))
-  hears-soundly (Start pid image) can =
+  pub hears-well : (heard : Hearing) → IsAbleToHear images box heard → IsWellNow (model.node_after_hearing images box.node (heard_as heard))
+  hears-well (Start pid image) can =
       let none = take-idle box can.call (Start pid image) can.said can.answer refl in
       let begins = start-begins images box.node pid image (well-idle none) can.work.0 (ap is_unborn can.work.1) in
-      record { well = begins.well; sound = begins.turn }
-  hears-soundly (Mail parcel) can =
+      begins.well
+  hears-well (Mail parcel) can =
       let work = work-of (Mail parcel) can in
-      soundly box.node _ _ (mail-hears images box.node (parcel_of parcel) (well-idle work.0) work.0 work.1 (λ id. once-come box.node parcel.block.id id well.once work.2))
-  hears-soundly (Kill pid) can =
+      (mail-hears images box.node (parcel_of parcel) (well-idle work.0) work.0 work.1 (λ id. once-come box.node parcel.block.id id well.once work.2)).became.well
+  hears-well (Kill pid) can =
       let none = take-idle box can.call (Kill pid) can.said can.answer refl in
-      soundly box.node _ _ (kill-hears images box.node pid (well-idle none) none can.work.0 (born_status (process_at box.node pid).status can.work.1))
-  hears-soundly (Poll pid) can =
+      (kill-hears images box.node pid (well-idle none) none can.work.0 (born_status (process_at box.node pid).status can.work.1)).became.well
+  hears-well (Poll pid) can =
       let none = take-idle box can.call (Poll pid) can.said can.answer refl in
       let is = receiving_is (process_at box.node pid).status (polling-receives (process_at box.node pid).status (poller-polls box.node.turn box.node pid well can.work)) in
-      soundly box.node _ _ (poll-hears images box.node pid (well-idle none) (work-of (Poll pid) can) is.0 is.1)
-  hears-soundly Idle can = soundly box.node _ _ (nothing-hears images box.node well sound)
-  hears-soundly Spent can = soundly box.node _ _ (nothing-hears images box.node well sound)
-  hears-soundly (Posted batch) can = soundly box.node _ _ (told-hears images box.node 0 well sound)
-  hears-soundly Spawned can = soundly box.node _ _ (told-hears images box.node 0 well sound)
-  hears-soundly Used can = soundly box.node _ _ (told-hears images box.node 2 well sound)
-  hears-soundly Killed can = soundly box.node _ _ (told-hears images box.node 0 well sound)
-  hears-soundly Unused can = soundly box.node _ _ (told-hears images box.node 2 well sound)
-  hears-soundly Already can = soundly box.node _ _ (told-hears images box.node 3 well sound)
-  hears-soundly Noted can = soundly box.node _ _ (nothing-hears images box.node well sound)
+      (poll-hears images box.node pid (well-idle none) (work-of (Poll pid) can) is.0 is.1).became.well
+  hears-well Idle can = (nothing-hears images box.node well sound).became.well
+  hears-well Spent can = (nothing-hears images box.node well sound).became.well
+  hears-well (Posted batch) can = (told-hears images box.node 0 well sound).became.well
+  hears-well Spawned can = (told-hears images box.node 0 well sound).became.well
+  hears-well Used can = (told-hears images box.node 2 well sound).became.well
+  hears-well Killed can = (told-hears images box.node 0 well sound).became.well
+  hears-well Unused can = (told-hears images box.node 2 well sound).became.well
+  hears-well Already can = (told-hears images box.node 3 well sound).became.well
+  hears-well Noted can = (nothing-hears images box.node well sound).became.well
 
 -- there is room for what the node is given
-pub room-for : (images : List ImageParts) (box : Box) (node : code.Node) (heard : Hearing) → box.node ≡ node_of node → box.room ≡ node.room → IsStocked node
-    → IsWork images box heard → HasRoomFor heard node
-room-for images box node (Mail parcel) same room s work =
-    omega (arith, work.room, room, ap (λ (n : Node). length (blocks_of n)) same, count-blocks node s)
-room-for images box node (Start pid image) same room s work = tt
-room-for images box node (Kill pid) same room s work = tt
-room-for images box node (Poll pid) same room s work = tt
-room-for images box node Idle same room s work = tt
-room-for images box node Spent same room s work = tt
-room-for images box node (Posted batch) same room s work = tt
-room-for images box node Spawned same room s work = tt
-room-for images box node Used same room s work = tt
-room-for images box node Killed same room s work = tt
-room-for images box node Unused same room s work = tt
-room-for images box node Already same room s work = tt
-room-for images box node Noted same room s work = tt
+pub room-for : (images : List ImageParts) (box : Box) (node : code.Node) (heard : Hearing) → box.node ≡ node_of node → box.room ≡ node.room
+    → IsWork images box heard → HasRoomToHear heard node
+room-for images box node (Mail parcel) same room work =
+    omega (arith, work.room, room, ap (λ (n : Node). length (blocks_of n)) same, count-blocks node)
+room-for images box node (Start pid image) same room work = tt
+room-for images box node (Kill pid) same room work = tt
+room-for images box node (Poll pid) same room work = tt
+room-for images box node Idle same room work = tt
+room-for images box node Spent same room work = tt
+room-for images box node (Posted batch) same room work = tt
+room-for images box node Spawned same room work = tt
+room-for images box node Used same room work = tt
+room-for images box node Killed same room work = tt
+room-for images box node Unused same room work = tt
+room-for images box node Already same room work = tt
+room-for images box node Noted same room work = tt

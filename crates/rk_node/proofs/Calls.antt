@@ -6,22 +6,20 @@ use Rattle.rv_model.specs.declared.stop.Stop.TheVariants.{TurnSpent, NoCall}
 use Rattle.ce_model.specs.Limits.{turn_calls}
 use Rattle.ce_model.specs.Process.{Process, argument}
 use Rattle.ce_model.specs.Node as model
-use Rattle.ce_model.specs.Kernel.{CallOutcome, stops, kernel_calls, kernel_call, kernel_does, kernel}
+use Rattle.ce_model.specs.Kernel.{CallOutcome, stop_outcome, kernel_calls, kernel_call, call_outcome, kernel}
 use Rattle.ce_solo.proofs.Nodes.{well-turn}
 use Rattle.ce_solo.proofs.Calls.{one_call_more}
 use Rattle.rk_node.specs.declared.node.Node.{Node}
 use Rattle.rk_node.specs.declared.turn.CallEnd as code
 use Rattle.rk_node.specs.Moves.{is_counted_at}
 use Rattle.rk_node.specs.Standing.{node_of}
-use Rattle.rk_node.specs.Stocked.{IsInTurn}
+use Rattle.rk_node.specs.Ready.{IsInTurn}
 use Rattle.rk_node.specs.Wording.{HasMade}
 use Rattle.rk_node.proofs.Made.{made-as}
 
-pub in_turn-more : {node : Node} {turn : model.Turn} → IsInTurn node turn → turn.calls < turn_calls → IsInTurn node (one_call_more turn)
-in_turn-more {node} {turn} ready less = record {
-  stocked = ready.stocked;
-  well = well-turn (node_of node) turn turn.left (turn.calls + 1) ready.well;
-  sound = record { pid = ready.sound.pid; left = ready.sound.left; calls = omega (arith, less) };
+pub in_turn-more : {node : Node} {turn : model.Turn} → IsInTurn node turn → IsInTurn node (one_call_more turn)
+in_turn-more {node} {turn} ready = record {
+  well = well-turn (node_of node) turn turn.instructions_left (turn.calls + 1) ready.well;
   batch = ready.batch;
 }
 
@@ -30,7 +28,7 @@ in_turn-more {node} {turn} ready less = record {
 -- past the limit of the turn none of them is made
 abbrev IsSpent : ℕ → Type 0
 IsSpent number = (node : model.Node) (turn : model.Turn) (p : Process) → nat_lt turn.calls turn_calls ≡ false
-    → kernel_does (kernel_call number) node turn p ≡ stops node turn p TurnSpent
+    → call_outcome (kernel_call number) node turn p ≡ stop_outcome node turn p TurnSpent
 
 at_number : (P : ℕ → Type 0) (number k : ℕ) → number ≡ k → P k → P number
 at_number P number k e p = subst P (sym e) p
@@ -58,32 +56,32 @@ is_note number h a b d e =
 -- the call of this number does what a word of the kernel does with one call more
 pub made-counted : {word : model.Node → model.Turn → Process → CallOutcome} {number k : ℕ} {before after : Node} {turn : model.Turn} {outcome : code.CallEnd}
     → HasMade word before after (one_call_more turn) (one_call_more turn) outcome → number ≡ k → turn.calls < turn_calls
-    → ((node : model.Node) (p : Process) → nat_lt turn.calls turn_calls ≡ true → kernel_does (kernel_call k) node turn p ≡ word node (one_call_more turn) p)
-    → HasMade (kernel_does (kernel_call number)) before after turn (one_call_more turn) outcome
+    → ((node : model.Node) (p : Process) → nat_lt turn.calls turn_calls ≡ true → call_outcome (kernel_call k) node turn p ≡ word node (one_call_more turn) p)
+    → HasMade (call_outcome (kernel_call number)) before after turn (one_call_more turn) outcome
 made-counted {before = before} {turn = turn} made same less counts =
     let n = node_of before in
     let p = model.process_at n turn.pid in
-    made-as made (ap (λ k. kernel_does (kernel_call k) n turn p) same ∙ counts n p (lt-ltb turn.calls turn_calls less))
+    made-as made (ap (λ k. call_outcome (kernel_call k) n turn p) same ∙ counts n p (lt-ltb turn.calls turn_calls less))
 
 -- ---- all calls
 
 pub made-number : {number : ℕ} {before after : Node} {turn turn' : model.Turn} {outcome : code.CallEnd}
-    → HasMade (kernel_does (kernel_call number)) before after turn turn' outcome → number ≡ argument (model.process_at (node_of before) turn.pid) 7
+    → HasMade (call_outcome (kernel_call number)) before after turn turn' outcome → number ≡ argument (model.process_at (node_of before) turn.pid) 7
     → HasMade kernel before after turn turn' outcome
 unfolding kernel
 made-number {before = before} {turn = turn} made read =
     let n = node_of before in
     let p = model.process_at n turn.pid in
-    made-as made (ap (λ k. kernel_does (kernel_call k) n turn p) (sym read))
+    made-as made (ap (λ k. call_outcome (kernel_call k) n turn p) (sym read))
 
 -- the call of this number does what a word of the kernel does
 pub made-call : {word : model.Node → model.Turn → Process → CallOutcome} {number k : ℕ} {before after : Node} {turn turn' : model.Turn} {outcome : code.CallEnd}
     → HasMade word before after turn turn' outcome → number ≡ argument (model.process_at (node_of before) turn.pid) 7 → number ≡ k
-    → ((node : model.Node) (p : Process) → kernel_does (kernel_call k) node turn p ≡ word node turn p) → HasMade kernel before after turn turn' outcome
+    → ((node : model.Node) (p : Process) → call_outcome (kernel_call k) node turn p ≡ word node turn p) → HasMade kernel before after turn turn' outcome
 made-call {before = before} {turn = turn} made read same does =
     let n = node_of before in
     let p = model.process_at n turn.pid in
-    made-number (made-as made (ap (λ k. kernel_does (kernel_call k) n turn p) same ∙ does n p)) read
+    made-number (made-as made (ap (λ k. call_outcome (kernel_call k) n turn p) same ∙ does n p)) read
 
 past_calls : (number : ℕ) → 15 ≤ number → slice_get kernel_calls (number - 1) ≡ None
 unfolding kernel_calls
@@ -100,9 +98,9 @@ call_none number a b c d e f g h i j k l m n = elim (cases_lt number 15) [
 ]
 
 pub made-none : {number : ℕ} {before after : Node} {turn turn' : model.Turn} {outcome : code.CallEnd}
-    → HasMade (λ node turn p. stops node turn p (NoCall number)) before after turn turn' outcome → number ≡ argument (model.process_at (node_of before) turn.pid) 7
+    → HasMade (λ node turn p. stop_outcome node turn p (NoCall number)) before after turn turn' outcome → number ≡ argument (model.process_at (node_of before) turn.pid) 7
     → kernel_call number ≡ None → HasMade kernel before after turn turn' outcome
 made-none {before = before} {turn = turn} made read none =
     let n = node_of before in
     let p = model.process_at n turn.pid in
-    made-number (made-as made (ap (λ found. kernel_does found n turn p) none ∙ ap (λ number. stops n turn p (NoCall number)) (sym read))) read
+    made-number (made-as made (ap (λ found. call_outcome found n turn p) none ∙ ap (λ number. stop_outcome n turn p (NoCall number)) (sym read))) read

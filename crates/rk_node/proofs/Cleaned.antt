@@ -3,7 +3,7 @@ use Rattle.std.proofs.Common.{◌≡◌, ℕ, ◌<◌, ◌≤◌, true, List, []
 use Rattle.std.proofs.lemmas.Bool.{cases_lt}
 use Rattle.ce_model.specs.declared.topology.BlockId.{BlockId}
 use Rattle.ce_model.specs.Limits.{greatest_blocks}
-use Rattle.ce_model.specs.Blocks.{precedes, put, put_all, blocks_of_home}
+use Rattle.ce_model.specs.Blocks.{is_lower, put, put_all, blocks_of_home}
 use Rattle.ce_model.specs.Kernel.{with_store}
 use Rattle.ce_model.specs.Sound.{IsRising}
 use Rattle.ce_solo.proofs.Counting.{hit, hit-self, same_from_hit, count, count-nil, count-cons, count-put_all, all-at_name, precedes-trans, rising-put_all}
@@ -22,9 +22,9 @@ hit-other a b none =
     ]
 
 -- a name in a rising list that isn't its first comes behind the first
-behind-first : (id x : BlockId) (xs : List BlockId) → IsRising (x ∷ xs) → 1 ≤ count id (x ∷ xs) → hit id x < 1 → precedes x id ≡ true
+behind-first : (id x : BlockId) (xs : List BlockId) → IsRising (x ∷ xs) → 1 ≤ count id (x ∷ xs) → hit id x < 1 → is_lower x id ≡ true
 behind-first id x xs rising there other =
-    all-at_name (λ name. precedes x name ≡ true) xs id rising.0 (omega (arith, there, other, count-cons id x xs))
+    all-at_name (λ name. is_lower x name ≡ true) xs id rising.0 (omega (arith, there, other, count-cons id x xs))
 
 first-counts : (x : BlockId) (xs : List BlockId) → 1 ≤ count x (x ∷ xs)
 first-counts x xs = omega (arith, count-cons x x xs, hit-self x)

@@ -8,10 +8,10 @@ use Rattle.ce_model.specs.declared.topology.Place.{Place}
 use Rattle.ce_model.specs.declared.topology.BlockId.{BlockId}
 use Rattle.ce_model.specs.Limits.{greatest_targets}
 use Rattle.ce_model.specs.Blocks.{Block}
-use Rattle.ce_model.specs.Space.{Space, result_map, and_then, place_at, places_at}
+use Rattle.ce_model.specs.Space.{Space, result_map, and_then, memory_place, places_at}
 use Rattle.ce_model.specs.Process.{Process, argument}
 use Rattle.ce_model.specs.Node as model
-use Rattle.ce_model.specs.Kernel.{returns, read_or_stop, sends_copies, xmsend_block}
+use Rattle.ce_model.specs.Kernel.{return_outcome, read_outcome, copies_outcome, xmsend_block}
 use Rattle.rk_mail.specs.Targets.{bytes_of, targets_of, with_bytes}
 
 -- ---- places that are read
@@ -31,7 +31,7 @@ take-set (x ∷ xs) (suc i) place rest h = ap (λ ys. x ∷ ys) (take-set xs i p
 abbrev pub read_on : Space → ℕ → ℕ → ℕ → List Place → Result (List Place) Stop
 read_on space at i count places = result_map (λ rest. take i places ++ rest) (places_at space at count)
 
-pub read-place : (space : Space) (at i n : ℕ) (places : List Place) (place : Place) → i < n → length places ≡ n → place_at space at ≡ Ok place
+pub read-place : (space : Space) (at i n : ℕ) (places : List Place) (place : Place) → i < n → length places ≡ n → memory_place space at ≡ Ok place
     → read_on space (wrapping_sum at 8) (i + 1) (n - (i + 1)) (slice_set places i place) ≡ read_on space at i (n - i) places
 read-place space at i n places place h long read =
     let m = n - (i + 1) in
@@ -43,7 +43,7 @@ read-place space at i n places place h long read =
     (λ rest. sym (ap (λ k. take k (slice_set places i place) ++ rest) (add-one i) ∙ take-set places i place rest (omega arith)))
     )
 
-pub read-fault : (space : Space) (at i n : ℕ) (places : List Place) (cause : Stop) → i < n → place_at space at ≡ Err cause
+pub read-fault : (space : Space) (at i n : ℕ) (places : List Place) (cause : Stop) → i < n → memory_place space at ≡ Err cause
     → read_on space at i (n - i) places ≡ Err cause
 read-fault space at i n places cause h read =
     let m = n - (i + 1) in
@@ -113,15 +113,15 @@ for_each None P each = tt
 for_each (Some x) P each = each x
 
 pub too_many : (node : model.Node) (turn : model.Turn) (p : Process) (found : ℕ × Block) → greatest_targets < argument p 1
-    → xmsend_block node turn p found ≡ returns node turn p 3
+    → xmsend_block node turn p found ≡ return_outcome node turn p 3
 too_many node turn p found h = rw (lt-ltb greatest_targets (argument p 1) h) refl
 
 pub places-read : (node : model.Node) (turn : model.Turn) (p : Process) (found : ℕ × Block) (r : Result (List Place) Stop) (count at : ℕ)
     → count ≡ argument p 1 → at ≡ argument p 2 → count ≤ greatest_targets → places_at p.space at count ≡ r
-    → xmsend_block node turn p found ≡ read_or_stop node turn p r (sends_copies node turn p found)
+    → xmsend_block node turn p found ≡ read_outcome node turn p r (copies_outcome node turn p found)
 places-read node turn p found r count at same same' few read =
     rw (le-ltb greatest_targets (argument p 1) (omega arith)) (
-    ap (λ r. read_or_stop node turn p r (sends_copies node turn p found))
+    ap (λ r. read_outcome node turn p r (copies_outcome node turn p found))
     (ap (λ k. places_at p.space k (argument p 1)) (sym same') ∙ ap (places_at p.space at) (sym same) ∙ read)
     )
 

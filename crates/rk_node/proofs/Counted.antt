@@ -11,8 +11,8 @@ use Rattle.xm_owner.specs.Holdings as holdings
 use Rattle.xm_owner.specs.Holdings.{Mapping}
 use Rattle.rk_process.specs.Seen.{Own, place_of, unborn_own}
 use Rattle.rk_node.specs.declared.node.Node.{Node}
-use Rattle.rk_node.specs.Standing.{node_of, process_in, processes_from}
-use Rattle.rk_node.specs.Stocked.{used_by, AreRising, AreWithin, IsStocked}
+use Rattle.rk_node.specs.Standing.{node_of, process_in, later_processes}
+use Rattle.rk_node.specs.Stocked.{used_by, AreRising, AreWithin}
 use Rattle.rk_node.proofs.Names.{length-ids_of}
 use Rattle.rk_node.proofs.Windows.{ids-held}
 
@@ -54,7 +54,7 @@ unfolding from
 none-from owns [] within = refl
 none-from owns (x ∷ xs) within = elim (cases_lt x.pid (length owns)) [
   | inl there ↦ (let f : nat_le (length owns) x.pid ≡ false = grind (arith, nat_tests) in rw f (none-from owns xs within.1))
-  | inr past ↦ (let none : used_by owns x.pid ≡ 0 = ap (λ (o : Own). o.used) (get_or_past owns x.pid unborn_own past) in absurd (omega (arith, none, within.0)))
+  | inr past ↦ (let none : used_by owns x.pid ≡ 0 = ap (λ (o : Own). o.used_count) (get_or_past owns x.pid unborn_own past) in absurd (omega (arith, none, within.0)))
 ]
 
 -- each process of a run has the names that the map has for it
@@ -62,7 +62,7 @@ abbrev AreHeld : List Mapping → ℕ → List Own → Type 0
 AreHeld m pid owns = (k : ℕ) → k < length owns → mapped_ids (process_in m (pid + k) (slice_index_or owns k unborn_own)).space ≡ ids_of (holdings.blocks_of (pid + k) m)
 
 count-from : (m : List Mapping) (pid : ℕ) (owns : List Own) → AreHeld m pid owns → length (from (pid + length owns) m) ≡ 0
-    → length (flat_map (λ (p : Process). mapped_ids p.space) (processes_from m pid owns)) ≡ length (from pid m)
+    → length (flat_map (λ (p : Process). mapped_ids p.space) (later_processes m pid owns)) ≡ length (from pid m)
 count-from m pid [] held none = sym none ∙ ap (λ k. length (from k m)) (add-zero pid)
 count-from m pid (own ∷ owns) held none =
     let zeroth : pid + 0 ≡ pid = add-zero pid in
@@ -78,11 +78,11 @@ count-from m pid (own ∷ owns) held none =
       from-next pid m,
       ap {B = ℕ} length here,
       length-ids_of (holdings.blocks_of pid m),
-      length-append (mapped_ids (process_in m pid own).space) (flat_map (λ (p : Process). mapped_ids p.space) (processes_from m (pid + 1) owns)),
+      length-append (mapped_ids (process_in m pid own).space) (flat_map (λ (p : Process). mapped_ids p.space) (later_processes m (pid + 1) owns)),
     )
 
 pub count-held : (m : List Mapping) (owns : List Own) → AreRising (map place_of m) → AreWithin owns (map place_of m)
-    → length (flat_map (λ (p : Process). mapped_ids p.space) (processes_from m 0 owns)) ≡ length m
+    → length (flat_map (λ (p : Process). mapped_ids p.space) (later_processes m 0 owns)) ≡ length m
 count-held m owns rising within =
     let zero_more : 0 + length owns ≡ length owns = omega arith in
     count-from m 0 owns
@@ -92,11 +92,11 @@ count-held m owns rising within =
     ∙ all-from m
 
 -- a node has as many blocks as its tables
-pub count-blocks : (node : Node) → IsStocked node → length (blocks_of (node_of node)) ≡ length node.store.blocks + length node.held.mappings
-count-blocks node s =
+pub count-blocks : (node : Node) → length (blocks_of (node_of node)) ≡ length node.store.blocks + length node.held.mappings
+count-blocks node =
     omega (
       arith,
       length-append (ids_of node.store.blocks) (flat_map (λ (p : Process). mapped_ids p.space) (node_of node).processes),
       length-ids_of node.store.blocks,
-      count-held node.held.mappings node.processes.items s.rising s.windows,
+      count-held node.held.mappings node.processes.items node.stocked.rising node.stocked.windows,
     )

@@ -10,39 +10,39 @@ use Rattle.ce_model.specs.Space.{window_start, has_unused_window, mapped_ids}
 use Rattle.ce_model.specs.Process.{Process, with_answer, is_receiving, is_stopped}
 use Rattle.ce_model.specs.Node.{Node, process_at, with_process, with_stopped, blocks_of}
 use Rattle.ce_model.specs.Kernel.{with_store}
-use Rattle.ce_model.specs.Hearing.{mail_of, kill_of, begins, with_stored, gets, hears}
+use Rattle.ce_model.specs.Hearing.{mail_of, kill_of, with_turn, with_stored, with_received, node_after_hearing}
 use Rattle.ce_solo.proofs.Counting.{hit, hit-le, same_from_hit, count, count-append, count-put}
 use Rattle.rk_node.specs.Moves.{with_status, with_mapped}
-use Rattle.rk_node.specs.Stocked.{IsOnce}
+use Rattle.rk_node.specs.Ready.{IsOnce}
 use Rattle.rk_node.proofs.Stops.{changed-twice}
 
 -- a turn begins of a process that was changed before
 pub begins-after : (node a : Node) (pid : ℕ) (q : Process) (change : Process → Process) → pid < length node.processes → a ≡ with_process node pid q
-    → begins a pid (change (process_at a pid)) ≡ begins node pid (change q)
+    → with_turn a pid (change (process_at a pid)) ≡ with_turn node pid (change q)
 begins-after node a pid q change h same =
-    ap (λ (n : Node). begins n pid (change (process_at n pid))) same
-    ∙ ap (λ ps. record (begins node pid (change q)) { processes = ps }) (changed-twice node.processes pid q (λ p. with_status Running (change p)) h)
+    ap (λ (n : Node). with_turn n pid (change (process_at n pid))) same
+    ∙ ap (λ ps. record (with_turn node pid (change q)) { processes = ps }) (changed-twice node.processes pid q (λ p. with_status Running (change p)) h)
 
 pub gets-begins : (node : Node) (parcel : Parcel) (p : Process) → has_unused_window p.space ≡ true
-    → gets node parcel p ≡ begins node parcel.to.pid (with_answer (window_start (length p.space.windows)) (with_mapped parcel.block p))
+    → with_received node parcel p ≡ with_turn node parcel.to.pid (with_answer (window_start (length p.space.windows)) (with_mapped parcel.block p))
 gets-begins node parcel p t = rw t refl
 
 pub mail-gets : (node : Node) (parcel : Parcel) → is_receiving (process_at node parcel.to.pid).status ≡ true
-    → hears [] node (mail_of parcel) ≡ gets node parcel (process_at node parcel.to.pid)
-unfolding hears
+    → node_after_hearing [] node (mail_of parcel) ≡ with_received node parcel (process_at node parcel.to.pid)
+unfolding node_after_hearing
 mail-gets node parcel t = rw t refl
 
 pub mail-stored : (node : Node) (parcel : Parcel) → is_receiving (process_at node parcel.to.pid).status ≡ false
-    → hears [] node (mail_of parcel) ≡ with_stored node parcel
-unfolding hears
+    → node_after_hearing [] node (mail_of parcel) ≡ with_stored node parcel
+unfolding node_after_hearing
 mail-stored node parcel f = rw f refl
 
-pub kill-stops : (node : Node) (pid : ℕ) → is_stopped (process_at node pid).status ≡ false → hears [] node (kill_of pid) ≡ with_stopped node pid (process_at node pid) Killed
-unfolding hears
+pub kill-stops : (node : Node) (pid : ℕ) → is_stopped (process_at node pid).status ≡ false → node_after_hearing [] node (kill_of pid) ≡ with_stopped node pid (process_at node pid) Killed
+unfolding node_after_hearing
 kill-stops node pid f = rw f refl
 
-pub kill-stays : (node : Node) (pid : ℕ) → is_stopped (process_at node pid).status ≡ true → hears [] node (kill_of pid) ≡ node
-unfolding hears
+pub kill-stays : (node : Node) (pid : ℕ) → is_stopped (process_at node pid).status ≡ true → node_after_hearing [] node (kill_of pid) ≡ node
+unfolding node_after_hearing
 kill-stays node pid t = rw t refl
 
 pub apart-stored : (node : Node) (id : BlockId) → count id (blocks_of node) ≡ 0 → count id node.store ≡ 0

@@ -6,14 +6,14 @@ use Rattle.ce_model.specs.declared.process.Status.{Status}
 use Rattle.ce_model.specs.Node.{ids_of}
 use Rattle.xm_owner.specs.Holdings.{Mapping}
 use Rattle.rk_process.specs.Seen.{Own}
-use Rattle.rk_node.specs.Standing.{processes_from}
+use Rattle.rk_node.specs.Standing.{later_processes}
 
 -- the ids from a place of a list on, by the processes' own parts
 abbrev pub ids_in : (Status → Bool) → List Own → ℕ
 ids_in test [] = 0
 ids_in test (own ∷ owns) = (if test own.status then 1 else 0) + 2 * ids_in test owns
 
-ids_of-own : (test : Status → Bool) (owns : List Own) (mappings : List Mapping) (pid : ℕ) → ids_in test owns ≡ ids_of test (processes_from mappings pid owns)
+ids_of-own : (test : Status → Bool) (owns : List Own) (mappings : List Mapping) (pid : ℕ) → ids_in test owns ≡ ids_of test (later_processes mappings pid owns)
 ids_of-own test [] mappings pid = refl
 ids_of-own test (own ∷ owns) mappings pid = ap (λ n. (if test own.status then 1 else 0) + 2 * n) (ids_of-own test owns mappings (pid + 1))
 
@@ -40,7 +40,7 @@ ids-through : (test : Status → Bool) (owns : List Own) (i ids : ℕ) → i ≡
 ids-through test owns i ids none e = e ∙ ap (λ k. ids_in test (drop k owns)) none
 
 pub ids-all : (test : Status → Bool) (owns : List Own) (i ids : ℕ) → i ≡ 0 → ids ≡ ids_in test (drop i owns)
-    → (mappings : List Mapping) (pid : ℕ) → ids ≡ ids_of test (processes_from mappings pid owns)
+    → (mappings : List Mapping) (pid : ℕ) → ids ≡ ids_of test (later_processes mappings pid owns)
 ids-all test owns i ids none e mappings pid = ids-through test owns i ids none e ∙ ids_of-own test owns mappings pid
 
 pub ids-less : (test : Status → Bool) (owns : List Own) (i ids : ℕ) → i ≡ 0 → ids ≡ ids_in test (drop i owns) → ids < 2 ^ length owns

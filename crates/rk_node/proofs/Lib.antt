@@ -7,6 +7,7 @@ pub mod Counted
 pub mod Fresh
 pub mod Heard
 pub mod Idle
+pub mod Limits
 pub mod Made
 pub mod Maps
 pub mod Moved

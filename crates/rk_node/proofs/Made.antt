@@ -9,7 +9,7 @@ use Rattle.ce_model.specs.Blocks.{Block}
 use Rattle.ce_model.specs.Space.{Space, mapped_ids, window_of, is_window_start, named_in, block_named}
 use Rattle.ce_model.specs.Process.{Process, unborn_process, argument, with_answer}
 use Rattle.ce_model.specs.Node as model
-use Rattle.ce_model.specs.Kernel.{CallOutcome, goes_on, returns, stops, read_or_stop, with_store}
+use Rattle.ce_model.specs.Kernel.{CallOutcome, continuation, return_outcome, stop_outcome, read_outcome, with_store}
 use Rattle.xm_owner.specs.Holdings.{Mapping, held_at}
 use Rattle.ce_solo.proofs.Counting.{hit-self, count, count-append}
 use Rattle.ce_solo.proofs.Windows.{count-unmapped}
@@ -19,7 +19,8 @@ use Rattle.rk_process.proofs.Found.{slice_get-windows_of}
 use Rattle.rk_node.specs.declared.node.Node.{Node}
 use Rattle.rk_node.specs.declared.turn.CallEnd as code
 use Rattle.rk_node.specs.Standing.{node_of, processes_of}
-use Rattle.rk_node.specs.Stocked.{IsOnce, AreWithin}
+use Rattle.rk_node.specs.Stocked.{AreWithin}
+use Rattle.rk_node.specs.Ready.{IsOnce}
 use Rattle.rk_node.specs.Moves.{IsNamed}
 use Rattle.rk_node.specs.Wording.{HasMade}
 use Rattle.rk_node.proofs.Windows.{used-held}
@@ -32,15 +33,15 @@ pub made-as : {word word' : model.Node → model.Turn → Process → CallOutcom
     → HasMade word before after turn turn' outcome
     → word' (node_of before) now (model.process_at (node_of before) now.pid) ≡ word (node_of before) turn (model.process_at (node_of before) turn.pid)
     → HasMade word' before after now turn' outcome
-made-as made same = record { did = made.did ∙ sym same; stocked = made.stocked; batch = made.batch; room = made.room }
+made-as made same = record { did = made.did ∙ sym same; batch = made.batch; room = made.room }
 
 -- an answer to a process that was changed
 pub returns-after : (node b : model.Node) (turn : model.Turn) (q : Process) (store : List BlockId) (value : ℕ) → turn.pid < length node.processes
     → b ≡ with_store store (model.with_process node turn.pid q)
-    → returns b turn (model.process_at b turn.pid) value ≡ returns (with_store store node) turn q value
+    → return_outcome b turn (model.process_at b turn.pid) value ≡ return_outcome (with_store store node) turn q value
 returns-after node b turn q store value h same =
-    ap (λ b. returns b turn (model.process_at b turn.pid) value) same
-    ∙ ap (λ ps. goes_on (record node { processes = ps; store = store }) turn) (changed-twice node.processes turn.pid q (with_answer value) h)
+    ap (λ b. return_outcome b turn (model.process_at b turn.pid) value) same
+    ∙ ap (λ ps. continuation (record node { processes = ps; store = store }) turn) (changed-twice node.processes turn.pid q (with_answer value) h)
 
 -- ---- a block that a call names
 
@@ -66,16 +67,16 @@ not_start p e = elim (cases_Bool (is_window_start p)) [
 ]
 
 pub named-reading : (node : model.Node) (turn : model.Turn) (p : Process) (a : ℕ) (r : Result (ℕ × Block) Stop) (onward : ℕ × Block → CallOutcome)
-    → a ≡ argument p 0 → block_named p.space a ≡ r → read_or_stop node turn p (block_named p.space (argument p 0)) onward ≡ read_or_stop node turn p r onward
+    → a ≡ argument p 0 → block_named p.space a ≡ r → read_outcome node turn p (block_named p.space (argument p 0)) onward ≡ read_outcome node turn p r onward
 named-reading node turn p a r onward same named =
-    ap (λ a. read_or_stop node turn p (block_named p.space a) onward) (sym same) ∙ ap (λ r. read_or_stop node turn p r onward) named
+    ap (λ a. read_outcome node turn p (block_named p.space a) onward) (sym same) ∙ ap (λ r. read_outcome node turn p r onward) named
 
 -- a block that is held is at its window
 pub window-held : (m : List Mapping) (owns : List Own) (pid k : ℕ) (block : Block) → pid < length owns → AreWithin owns (map place_of m)
     → held_at m pid k ≡ Some block → slice_get (slice_index_or (processes_of m owns) pid unborn_process).space.windows k ≡ Some (Some block)
 window-held m owns pid k block h within held =
     ap (λ (p : Process). slice_get p.space.windows k) (process_of-at m owns pid h)
-    ∙ slice_get-windows_of m pid (slice_index_or owns pid unborn_own).used k (used-held owns m pid k block within held) ∙ ap Some held
+    ∙ slice_get-windows_of m pid (slice_index_or owns pid unborn_own).used_count k (used-held owns m pid k block within held) ∙ ap Some held
 
 -- so its name isn't in the store
 pub store-apart : (node : model.Node) (pid k : ℕ) (block : Block) → IsOnce node → pid < length node.processes
@@ -95,7 +96,11 @@ well-once turn node well = record { once = well.once }
 pub is_held : {X : Type 0} {o : Option X} {x : X} → o ≡ Some x → IsSome o
 is_held e = ap is_some e
 
-at-some : {X : Type 0} (o : Option X) (x : X) (P : X → Type 0) → o ≡ Some x → IfSome o P → P x
+pub some_held : {X : Type 0} {o : Option X} → IsSome o → (x : X) × (o ≡ Some x)
+some_held {o = None} held = absurd (cc)
+some_held {o = Some x} held = (x, refl)
+
+pub at-some : {X : Type 0} (o : Option X) (x : X) (P : X → Type 0) → o ≡ Some x → IfSome o P → P x
 at-some None x P e p = absurd (cc)
 at-some (Some y) x P e p = let same : y ≡ x = cc in subst P same p
 
@@ -103,7 +108,7 @@ at-some (Some y) x P e p = let same : y ≡ x = cc in subst P same p
 pub made-named : (inner : model.Node → model.Turn → Process → ℕ × Block → CallOutcome) {before after : Node} {turn : model.Turn} {outcome : code.CallEnd} {a window : ℕ} {block : Block} {held : Option Block}
     → a ≡ argument (model.process_at (node_of before) turn.pid) 0 → held ≡ Some block → block_named (model.process_at (node_of before) turn.pid).space a ≡ Ok (window, block)
     → IfSome held (λ block. HasMade (λ node turn p. inner node turn p (window, block)) before after turn turn outcome)
-    → HasMade (λ node turn p. read_or_stop node turn p (block_named p.space (argument p 0)) (inner node turn p)) before after turn turn outcome
+    → HasMade (λ node turn p. read_outcome node turn p (block_named p.space (argument p 0)) (inner node turn p)) before after turn turn outcome
 made-named inner {before = before} {after = after} {turn = turn} {outcome = outcome} {window = window} {block = block} {held = held} same there named made =
     let n = node_of before in
     let p = model.process_at n turn.pid in
@@ -113,8 +118,8 @@ made-named inner {before = before} {after = after} {turn = turn} {outcome = outc
 -- a call that names none
 pub made-refused : (inner : model.Node → model.Turn → Process → ℕ × Block → CallOutcome) {before after : Node} {turn : model.Turn} {outcome : code.CallEnd} {a : ℕ} {cause : Stop}
     → a ≡ argument (model.process_at (node_of before) turn.pid) 0 → block_named (model.process_at (node_of before) turn.pid).space a ≡ Err cause
-    → HasMade (λ node turn p. stops node turn p cause) before after turn turn outcome
-    → HasMade (λ node turn p. read_or_stop node turn p (block_named p.space (argument p 0)) (inner node turn p)) before after turn turn outcome
+    → HasMade (λ node turn p. stop_outcome node turn p cause) before after turn turn outcome
+    → HasMade (λ node turn p. read_outcome node turn p (block_named p.space (argument p 0)) (inner node turn p)) before after turn turn outcome
 made-refused inner {before = before} {turn = turn} same named made =
     let n = node_of before in
     let p = model.process_at n turn.pid in
@@ -130,12 +135,12 @@ pub gone_here : (held : ℕ → Option Block) (at : Option (Option Block)) (wind
 gone_here held at window a h there = ap (λ o. named_in o a) (there ∙ ap Some h)
 
 -- what the list of a process's windows has for one
-pub at-window : (m : List Mapping) (owns : List Own) (pid : ℕ) (own : Own) (k : ℕ) → pid < length owns → own ≡ slice_index_or owns pid own → k < own.used
+pub at-window : (m : List Mapping) (owns : List Own) (pid : ℕ) (own : Own) (k : ℕ) → pid < length owns → own ≡ slice_index_or owns pid own → k < own.used_count
     → slice_get (slice_index_or (processes_of m owns) pid unborn_process).space.windows k ≡ Some (held_at m pid k)
 at-window m owns pid own k h read less =
-    ap (λ (p : Process). slice_get p.space.windows k) (process-read m owns pid own h read) ∙ slice_get-windows_of m pid own.used k less
+    ap (λ (p : Process). slice_get p.space.windows k) (process-read m owns pid own h read) ∙ slice_get-windows_of m pid own.used_count k less
 
-pub past-windows : (m : List Mapping) (owns : List Own) (pid : ℕ) (own : Own) (k : ℕ) → pid < length owns → own ≡ slice_index_or owns pid own → own.used ≤ k
+pub past-windows : (m : List Mapping) (owns : List Own) (pid : ℕ) (own : Own) (k : ℕ) → pid < length owns → own ≡ slice_index_or owns pid own → own.used_count ≤ k
     → slice_get (slice_index_or (processes_of m owns) pid unborn_process).space.windows k ≡ None
 past-windows m owns pid own k h read more =
     slice_get_past (slice_index_or (processes_of m owns) pid unborn_process).space.windows k (omega (arith, used-read m owns pid own h read))

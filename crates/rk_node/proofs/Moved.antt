@@ -98,7 +98,7 @@ within-reset owns pid own [] within = tt
 within-reset owns pid own (x ∷ xs) within = elim (cases_Bool (x.pid == pid)) [
   | inl t ↦ rw t (within-reset owns pid own xs within.1)
   | inr f ↦ (let same : used_by (slice_set owns pid own) x.pid ≡ used_by owns x.pid =
-      ap (λ (o : Own). o.used) (get_or-set_other owns pid x.pid own unborn_own (λ e. both_ways _ f (eq-eqb x.pid pid e))) in
+      ap (λ (o : Own). o.used_count) (get_or-set_other owns pid x.pid own unborn_own (λ e. both_ways _ f (eq-eqb x.pid pid e))) in
       rw f (omega (arith, within.0, same), within-reset owns pid own xs within.1))
 ]
 
@@ -126,7 +126,7 @@ node-next n now after k same changed h =
     ∙ ap (λ ps. record n { processes = ps; store = [] }) (reset-next k n.processes h ∙ ap (λ j. reset_first j n.processes) next)
 
 pub node-scrubbed : (n now : Node) (k : ℕ) → now ≡ record n { processes = reset_first k n.processes; store = [] } → k ≡ process_count → length n.processes ≡ process_count
-    → record now { polling = []; turn = None } ≡ scrubbed_node n
+    → record now { polling_ids = []; turn = None } ≡ scrubbed_node n
 node-scrubbed n now k same all long =
-    ap (λ (m : Node). record m { polling = []; turn = None }) same
+    ap (λ (m : Node). record m { polling_ids = []; turn = None }) same
     ∙ ap (λ ps. record (scrubbed_node n) { processes = ps }) (reset-all k n.processes (omega (arith, all, long)) ∙ ap (λ j. replicate j unborn_process) all)

@@ -83,12 +83,12 @@ few_polls (suc n) xs once below =
     omega (arith, fewer, length-without_poller n xs)
 
 -- the process of the turn doesn't poll, so a place is left for it
-pub room_to_poll : (node : Node) (turn : Turn) → IsWell (Some turn) node → turn.pid < process_count → polls turn.pid node.polling ≡ 0 → length node.polling < process_count
+pub room_to_poll : (node : Node) (turn : Turn) → IsWell (Some turn) node → turn.pid < process_count → polls turn.pid node.polling_ids ≡ 0 → length node.polling_ids < process_count
 room_to_poll node turn well within none =
-    let more : length (turn.pid ∷ node.polling) ≤ process_count = few_polls process_count (turn.pid ∷ node.polling)
-    (λ q. let cons = sum_by-cons (λ other. if other == q then 1 else 0) turn.pid node.polling in
+    let more : length (turn.pid ∷ node.polling_ids) ≤ process_count = few_polls process_count (turn.pid ∷ node.polling_ids)
+    (λ q. let cons = sum_by-cons (λ other. if other == q then 1 else 0) turn.pid node.polling_ids in
     elim (cases_eq q turn.pid) [
-      | inl same ↦ (let here : polls q node.polling ≡ 0 = ap (λ k. polls k node.polling) same ∙ none in
+      | inl same ↦ (let here : polls q node.polling_ids ≡ 0 = ap (λ k. polls k node.polling_ids) same ∙ none in
           elim (cases_Bool (turn.pid == q)) [
             | inl t ↦ omega (arith, cons, here, ap {B = ℕ} (λ b. if b then 1 else 0) t)
             | inr f ↦ omega (arith, cons, here, ap {B = ℕ} (λ b. if b then 1 else 0) f)
@@ -96,16 +96,16 @@ room_to_poll node turn well within none =
       | inr differ ↦ (let here : (turn.pid == q) ≡ false = ne_eqb turn.pid q (λ e. differ (sym e)) in
           omega (arith, cons, polls_once q, ap {B = ℕ} (λ b. if b then 1 else 0) here))
     ])
-    (λ q h. let cons = sum_by-cons (λ other. if other == q then 1 else 0) turn.pid node.polling in
+    (λ q h. let cons = sum_by-cons (λ other. if other == q then 1 else 0) turn.pid node.polling_ids in
     let here : (turn.pid == q) ≡ false = ne_eqb turn.pid q (λ e. omega (arith, e)) in
     omega (arith, cons, polls_past q h, ap {B = ℕ} (λ b. if b then 1 else 0) here)) in
     omega (arith, more)
   where
-    polls_once : (q : ℕ) → polls q node.polling ≤ 1
+    polls_once : (q : ℕ) → polls q node.polling_ids ≤ 1
     polls_once q = elim (cases_Bool (is_polling (process_at node q).status)) [
-      | inl t ↦ omega (arith, well.polling q, ap {B = ℕ} (λ b. if b then 1 else 0) t)
-      | inr f ↦ omega (arith, well.polling q, ap {B = ℕ} (λ b. if b then 1 else 0) f)
+      | inl t ↦ omega (arith, well.polling_ids q, ap {B = ℕ} (λ b. if b then 1 else 0) t)
+      | inr f ↦ omega (arith, well.polling_ids q, ap {B = ℕ} (λ b. if b then 1 else 0) f)
     ]
 
-    polls_past : (q : ℕ) → process_count ≤ q → polls q node.polling ≡ 0
-    polls_past q h = well.polling q ∙ ap {B = ℕ} (λ (p : Process). if is_polling p.status then 1 else 0) (get_or_past node.processes q unborn_process (omega (arith, well.process_ids)))
+    polls_past : (q : ℕ) → process_count ≤ q → polls q node.polling_ids ≡ 0
+    polls_past q h = well.polling_ids q ∙ ap {B = ℕ} (λ (p : Process). if is_polling p.status then 1 else 0) (get_or_past node.processes q unborn_process (omega (arith, well.process_ids)))

@@ -1,5 +1,6 @@
 -- The processes of a node, and what changes of one of them make of the node.
 use Rattle.std.proofs.Common.{◌≡◌, ℕ, zero, suc, ◌+◌, ◌<◌, ◌≤◌, List, [], ◌∷◌, length, map, slice_set, slice_index_or, Option, Some, true, IsTrue, length-set, refl, ap, sym, ◌∙◌, subst, arith, add-zero, inl, inr}
+use Rattle.std.specs.VecDeque.{deque_capacity}
 use Rattle.std.proofs.lemmas.Bool.{cases_eq, ltb-true, eq-eqb}
 use Rattle.std.proofs.lemmas.List.{get_or_read, get_or-set_same, get_or-set_other}
 use Rattle.ce_model.specs.Limits.{window_count, process_count}
@@ -17,19 +18,19 @@ use Rattle.rk_process.specs.Seen.{Own, place_of, unborn_own, windows_of}
 use Rattle.rk_process.proofs.Found.{length-windows_of}
 use Rattle.rk_node.proofs.Windows.{windows-same}
 use Rattle.rk_node.specs.declared.node.Node.{Node}
-use Rattle.rk_node.specs.Standing.{node_of, process_in, processes_from, processes_of}
+use Rattle.rk_node.specs.Standing.{node_of, process_in, later_processes, processes_of}
 use Rattle.rk_node.specs.Stocked.{used_by, AreWithin, IsStocked}
 
-length-processes_from : (mappings : List Mapping) (pid : ℕ) (owns : List Own) → length (processes_from mappings pid owns) ≡ length owns
+length-processes_from : (mappings : List Mapping) (pid : ℕ) (owns : List Own) → length (later_processes mappings pid owns) ≡ length owns
 length-processes_from mappings pid [] = refl
 length-processes_from mappings pid (own ∷ owns) = ap suc (length-processes_from mappings (pid + 1) owns)
 
-pub length-processes : (node : Node) → IsStocked node → length (node_of node).processes ≡ process_count
-length-processes node s = length-processes_from node.held.mappings 0 node.processes.items ∙ s.processes
+pub length-processes : (node : Node) → length (node_of node).processes ≡ process_count
+length-processes node = length-processes_from node.held.mappings 0 node.processes.items ∙ node.stocked.every_id
 
 -- the process of an id
 pub process_from : (mappings : List Mapping) (pid : ℕ) (owns : List Own) (k : ℕ) → k < length owns
-    → slice_index_or (processes_from mappings pid owns) k unborn_process ≡ process_in mappings (pid + k) (slice_index_or owns k unborn_own)
+    → slice_index_or (later_processes mappings pid owns) k unborn_process ≡ process_in mappings (pid + k) (slice_index_or owns k unborn_own)
 process_from mappings pid [] k h = absurd (omega arith)
 process_from mappings pid (own ∷ owns) zero h = ap (λ q. process_in mappings q own) (sym (add-zero pid))
 process_from mappings pid (own ∷ owns) (suc k) h =
@@ -48,31 +49,31 @@ IsSameBut pid before after owns =
 -- all processes of a list from an id on, none of which is the one that changes
 same_from : (before after : List Mapping) (at : ℕ) (owns : List Own)
     → ((k : ℕ) → k < length owns → windows_of after (at + k) (used_by owns k) ≡ windows_of before (at + k) (used_by owns k))
-    → processes_from after at owns ≡ processes_from before at owns
+    → later_processes after at owns ≡ later_processes before at owns
 same_from before after at [] same = refl
 same_from before after at (own ∷ owns) same =
-    let here : windows_of after at own.used ≡ windows_of before at own.used =
-    subst (λ q. windows_of after q own.used ≡ windows_of before q own.used) (add-zero at) (same 0 (omega arith)) in
+    let here : windows_of after at own.used_count ≡ windows_of before at own.used_count =
+    subst (λ q. windows_of after q own.used_count ≡ windows_of before q own.used_count) (add-zero at) (same 0 (omega arith)) in
     let rest = same_from before after (at + 1) owns (λ k h.
     subst (λ q. windows_of after q (used_by owns k) ≡ windows_of before q (used_by owns k)) (omega arith) (same (suc k) (omega arith))) in
-    ap (λ windows. record { status = own.status; regs = own.regs; pc = own.pc; space = record { private = own.private; windows = windows } } ∷ processes_from after (at + 1) owns) here
+    ap (λ windows. record { status = own.status; regs = own.regs; pc = own.pc; space = record { private = own.private; windows = windows } } ∷ later_processes after (at + 1) owns) here
     ∙ ap (λ ps. process_in before at own ∷ ps) rest
 
 set_from : (before after : List Mapping) (at : ℕ) (owns : List Own) (k : ℕ) (own : Own) → k < length owns
     → ((j : ℕ) → (j ≡ k → ⊥) → windows_of after (at + j) (used_by owns j) ≡ windows_of before (at + j) (used_by owns j))
-    → processes_from after at (slice_set owns k own) ≡ slice_set (processes_from before at owns) k (process_in after (at + k) own)
+    → later_processes after at (slice_set owns k own) ≡ slice_set (later_processes before at owns) k (process_in after (at + k) own)
 set_from before after at [] k own h same = absurd (omega arith)
 set_from before after at (first ∷ owns) zero own h same =
     let rest = same_from before after (at + 1) owns (λ k h.
     subst (λ q. windows_of after q (used_by owns k) ≡ windows_of before q (used_by owns k)) (omega arith) (same (suc k) (λ e. omega (arith, e)))) in
-    ap (λ ps. process_in after at own ∷ ps) rest ∙ ap (λ q. process_in after q own ∷ processes_from before (at + 1) owns) (sym (add-zero at))
+    ap (λ ps. process_in after at own ∷ ps) rest ∙ ap (λ q. process_in after q own ∷ later_processes before (at + 1) owns) (sym (add-zero at))
 set_from before after at (first ∷ owns) (suc k) own h same =
-    let here : windows_of after at first.used ≡ windows_of before at first.used =
-    subst (λ q. windows_of after q first.used ≡ windows_of before q first.used) (add-zero at) (same 0 (λ e. omega (arith, e))) in
+    let here : windows_of after at first.used_count ≡ windows_of before at first.used_count =
+    subst (λ q. windows_of after q first.used_count ≡ windows_of before q first.used_count) (add-zero at) (same 0 (λ e. omega (arith, e))) in
     let rest = set_from before after (at + 1) owns k own (omega arith) (λ j differ.
     subst (λ q. windows_of after q (used_by owns j) ≡ windows_of before q (used_by owns j)) (omega arith) (same (suc j) (λ e. differ (omega (arith, e))))) in
-    ap (λ windows. record { status = first.status; regs = first.regs; pc = first.pc; space = record { private = first.private; windows = windows } } ∷ processes_from after (at + 1) (slice_set owns k own)) here
-    ∙ ap (λ ps. process_in before at first ∷ ps) (rest ∙ ap (λ q. slice_set (processes_from before (at + 1) owns) k (process_in after q own)) (omega arith))
+    ap (λ windows. record { status = first.status; regs = first.regs; pc = first.pc; space = record { private = first.private; windows = windows } } ∷ later_processes after (at + 1) (slice_set owns k own)) here
+    ∙ ap (λ ps. process_in before at first ∷ ps) (rest ∙ ap (λ q. slice_set (later_processes before (at + 1) owns) k (process_in after q own)) (omega arith))
 
 -- one process changes, and with it no more of the map than its own windows
 pub processes-set : (before after : List Mapping) (owns : List Own) (pid : ℕ) (own : Own) → pid < length owns → IsSameBut pid before after owns
@@ -115,35 +116,34 @@ within-grown owns owns' [] grown within = tt
 within-grown owns owns' (place ∷ places) grown within =
     (let more = grown place.0 in omega (arith, within.0, more), within-grown owns owns' places grown within.1)
 
-pub used-set : (owns : List Own) (pid : ℕ) (own own' : Own) → pid < length owns → own ≡ slice_index_or owns pid own → own.used ≤ own'.used
+pub used-set : (owns : List Own) (pid : ℕ) (own own' : Own) → pid < length owns → own ≡ slice_index_or owns pid own → own.used_count ≤ own'.used_count
     → (q : ℕ) → used_by owns q ≤ used_by (slice_set owns pid own') q
 used-set owns pid own own' h read more q = elim (cases_eq q pid) [
-  | inl same ↦ (let was : used_by owns pid ≡ own.used = ap (λ (o : Own). o.used) (sym (get_or_read owns pid own h read unborn_own)) in
-      let is : used_by (slice_set owns pid own') pid ≡ own'.used = ap (λ (o : Own). o.used) (get_or-set_same owns pid own' unborn_own h) in
+  | inl same ↦ (let was : used_by owns pid ≡ own.used_count = ap (λ (o : Own). o.used_count) (sym (get_or_read owns pid own h read unborn_own)) in
+      let is : used_by (slice_set owns pid own') pid ≡ own'.used_count = ap (λ (o : Own). o.used_count) (get_or-set_same owns pid own' unborn_own h) in
       subst (λ k. used_by owns k ≤ used_by (slice_set owns pid own') k) (sym same) (omega arith))
-  | inr differ ↦ (let is : used_by (slice_set owns pid own') q ≡ used_by owns q = ap (λ (o : Own). o.used) (get_or-set_other owns pid q own' unborn_own differ) in omega arith)
+  | inr differ ↦ (let is : used_by (slice_set owns pid own') q ≡ used_by owns q = ap (λ (o : Own). o.used_count) (get_or-set_other owns pid q own' unborn_own differ) in omega arith)
 ]
 
-pub within-change : (owns : List Own) (pid : ℕ) (own own' : Own) (places : List (ℕ × ℕ)) → pid < length owns → own ≡ slice_index_or owns pid own → own'.used ≡ own.used
+pub within-change : (owns : List Own) (pid : ℕ) (own own' : Own) (places : List (ℕ × ℕ)) → pid < length owns → own ≡ slice_index_or owns pid own → own'.used_count ≡ own.used_count
     → AreWithin owns places → AreWithin (slice_set owns pid own') places
 within-change owns pid own own' places h read same within =
     within-grown owns (slice_set owns pid own') places (used-set owns pid own own' h read (omega (arith, same))) within
 
 -- where one process changes and has used no further window, its node is stocked as it was
-pub stocked-change : (node node' : Node) (pid : ℕ) (own own' : Own) → pid < length node.processes.items → own ≡ slice_index_or node.processes.items pid own
-    → own'.used ≡ own.used → node'.processes.items ≡ slice_set node.processes.items pid own' → node' ≡ record node { processes = node'.processes } → IsStocked node → IsStocked node'
-stocked-change node node' pid own own' h read same set_is rest s =
-    subst IsStocked (sym rest)
+pub stocked-change : (node : Node) (pid : ℕ) (own own' : Own) → pid < length node.processes.items → own ≡ slice_index_or node.processes.items pid own → own'.used_count ≡ own.used_count
+    → IsStocked node.room node.dim (deque_capacity node.polling_ids) (slice_set node.processes.items pid own') node.held node.store
+stocked-change node pid own own' h read same =
+    let s = node.stocked in
     record {
-      processes = ap {B = ℕ} length set_is ∙ length-set node.processes.items pid own' ∙ s.processes;
+      few_nodes = s.few_nodes;
+      every_id = length-set node.processes.items pid own' ∙ s.every_id;
+      windows = within-change node.processes.items pid own own' (map place_of node.held.mappings) h read same s.windows;
       rising = s.rising;
-      windows = subst (λ owns. AreWithin owns (map place_of node.held.mappings)) (sym set_is)
-          (within-change node.processes.items pid own own' (map place_of node.held.mappings) h read same s.windows);
-      store = s.store;
-      held = s.held;
+      held_room = s.held_room;
+      store_room = s.store_room;
       within = s.within;
-      polling = s.polling;
-      dim = s.dim;
+      poll_room = s.poll_room;
     }
 
 -- the model's node has the changed process
@@ -156,12 +156,12 @@ node-change node pid own own' change h read same =
 
 -- how many windows the process has used that was read
 pub used-read : (mappings : List Mapping) (owns : List Own) (pid : ℕ) (own : Own) → pid < length owns → own ≡ slice_index_or owns pid own
-    → length (slice_index_or (processes_of mappings owns) pid unborn_process).space.windows ≡ own.used
+    → length (slice_index_or (processes_of mappings owns) pid unborn_process).space.windows ≡ own.used_count
 used-read mappings owns pid own h read =
-    ap (λ (p : Process). length p.space.windows) (process-read mappings owns pid own h read) ∙ length-windows_of mappings pid own.used
+    ap (λ (p : Process). length p.space.windows) (process-read mappings owns pid own h read) ∙ length-windows_of mappings pid own.used_count
 
-pub used_by-read : (owns : List Own) (pid : ℕ) (own : Own) → pid < length owns → own ≡ slice_index_or owns pid own → used_by owns pid ≡ own.used
-used_by-read owns pid own h read = ap (λ (o : Own). o.used) (sym (get_or_read owns pid own h read unborn_own))
+pub used_by-read : (owns : List Own) (pid : ℕ) (own : Own) → pid < length owns → own ≡ slice_index_or owns pid own → used_by owns pid ≡ own.used_count
+used_by-read owns pid own h read = ap (λ (o : Own). o.used_count) (sym (get_or_read owns pid own h read unborn_own))
 
 -- the map holds the same for all processes but one
 pub same-but : (pid : ℕ) (before after : List Mapping) (owns : List Own) → ((q w : ℕ) → (q ≡ pid → ⊥) → held_at after q w ≡ held_at before q w) → IsSameBut pid before after owns
@@ -187,13 +187,13 @@ processes-held before after owns pid change h same e =
 
 -- a process with a further window
 pub unused-fewer : (mappings : List Mapping) (owns : List Own) (pid : ℕ) (own : Own) → pid < length owns → own ≡ slice_index_or owns pid own
-    → IsTrue (has_unused_window (slice_index_or (processes_of mappings owns) pid unborn_process).space) → own.used < window_count
+    → IsTrue (has_unused_window (slice_index_or (processes_of mappings owns) pid unborn_process).space) → own.used_count < window_count
 unused-fewer mappings owns pid own h read unused =
     let less = ltb-true (length (slice_index_or (processes_of mappings owns) pid unborn_process).space.windows) window_count unused in
     omega (arith, used-read mappings owns pid own h read, less)
 
-pub used_by-set : (owns : List Own) (pid : ℕ) (own : Own) → pid < length owns → used_by (slice_set owns pid own) pid ≡ own.used
-used_by-set owns pid own h = ap (λ (o : Own). o.used) (get_or-set_same owns pid own unborn_own h)
+pub used_by-set : (owns : List Own) (pid : ℕ) (own : Own) → pid < length owns → used_by (slice_set owns pid own) pid ≡ own.used_count
+used_by-set owns pid own h = ap (λ (o : Own). o.used_count) (get_or-set_same owns pid own unborn_own h)
 
 -- the process that was put into the list
 pub process-put : (m : List Mapping) (owns : List Own) (pid : ℕ) (own : Own) → pid < length owns

@@ -4,7 +4,7 @@ use Rattle.std.specs.List.{AllByRecursion, list_all}
 use Rattle.std.proofs.lemmas.List.{get_or-set_same}
 use Rattle.rv_model.specs.declared.stop.Stop.{Stop}
 use Rattle.rv_model.specs.declared.stop.Stop.TheVariants.{Exited, NoCall, TurnSpent}
-use Rattle.rv_model.specs.Exec.{Outcome, went, called, stopped, exec}
+use Rattle.rv_model.specs.Exec.{Outcome, next_state, call_state, stop_state, exec}
 use Rattle.ce_model.specs.declared.process.Status.{Status}
 use Rattle.ce_model.specs.declared.process.Status.TheVariants.{Asking, Polling}
 use Rattle.ce_model.specs.declared.topology.Place.{Place}
@@ -12,10 +12,10 @@ use Rattle.ce_model.specs.declared.topology.BlockId.{BlockId}
 use Rattle.ce_model.specs.Limits.{block_room, greatest_targets, turn_calls}
 use Rattle.ce_model.specs.Blocks.{Block, put}
 use Rattle.ce_model.specs.Space.{Space, process_access, window_start, has_unused_window, mapped_space, block_named, places_at}
-use Rattle.ce_model.specs.Process.{Process, argument, call_number, with_answer, moved_process, unborn_process, TurnEnd, at_call, at_stop, led_to, turn_end}
-use Rattle.ce_model.specs.Node.{Turn, Node, is_place, process_at, with_process, with_stopped, Call, sends, spawns, kills, notes}
-use Rattle.ce_model.specs.Kernel.{CallOutcome, goes_on, leaves, turn_ends, returns, stops, says_call, read_or_stop, waits, with_space, gives_up, with_store, maps_least, xmalloc, frees, xfree, xlength, is_target, place_named, sends_block, xsend, sends_copies, xmsend_block, xmsend, xrecv, xrecvb, spawn, ckill, KernelCall, kernel_calls, kernel_call, kernel_does, kernel}
-use Rattle.ce_model.specs.Saying.{Saying, asks, after_call, after_instruction, instruction, runs}
+use Rattle.ce_model.specs.Process.{Process, argument, call_number, with_answer, moved_process, unborn_process, TurnEnd, at_call, at_stop, end_after, turn_end}
+use Rattle.ce_model.specs.Node.{Turn, Node, is_place, process_at, with_process, with_stopped, Call, send_call, spawn_call, kill_call, note_call}
+use Rattle.ce_model.specs.Kernel.{CallOutcome, continuation, departure, turn_conclusion, return_outcome, stop_outcome, leave_outcome, read_outcome, wait_outcome, with_space, process_left_behind, with_store, map_outcome, xmalloc, free_outcome, xfree, xlength, is_target, place_named, send_outcome, xsend, copies_outcome, xmsend_block, xmsend, xrecv, xrecvb, spawn, ckill, KernelCall, kernel_calls, kernel_call, call_outcome, kernel}
+use Rattle.ce_model.specs.Saying.{Saying, idle_saying, after_call, after_instruction, instruction, turn_saying}
 use Rattle.ce_model.specs.Sound.{IsSoundTurn}
 use Rattle.ce_solo.proofs.Windows.{IsSameHeld, same_held}
 use Rattle.ce_solo.proofs.Instructions.{IsLed, exec-led}
@@ -34,23 +34,23 @@ module _ (q : Process) where
   with_process-apart : (node : Node) (pid : ℕ) (p : Process) → with_process (other node pid) pid p ≡ with_process node pid p
   with_process-apart node pid p = ap (λ ps. record node { processes = ps }) (set-twice node.processes pid q p)
 
-  returns-apart : (node : Node) (turn : Turn) (p : Process) (value : ℕ) → returns (other node turn.pid) turn p value ≡ returns node turn p value
-  returns-apart node turn p value = ap (λ n. goes_on n turn) (with_process-apart node turn.pid (with_answer value p))
+  returns-apart : (node : Node) (turn : Turn) (p : Process) (value : ℕ) → return_outcome (other node turn.pid) turn p value ≡ return_outcome node turn p value
+  returns-apart node turn p value = ap (λ n. continuation n turn) (with_process-apart node turn.pid (with_answer value p))
 
-  says_call-apart : (node : Node) (turn : Turn) (p : Process) (call : Call) → says_call (other node turn.pid) turn p call ≡ says_call node turn p call
-  says_call-apart node turn p call = ap (λ (n : Node). leaves (record n { turn = Some turn }) call) (with_process-apart node turn.pid p)
+  leave_outcome-apart : (node : Node) (turn : Turn) (p : Process) (call : Call) → leave_outcome (other node turn.pid) turn p call ≡ leave_outcome node turn p call
+  leave_outcome-apart node turn p call = ap (λ (n : Node). departure (record n { turn = Some turn }) call) (with_process-apart node turn.pid p)
 
   pub with_stopped-apart : (node : Node) (pid : ℕ) (p : Process) (cause : Stop) → with_stopped (other node pid) pid p cause ≡ with_stopped node pid p cause
   with_stopped-apart node pid p cause = ap (λ ps. record (with_stopped node pid p cause) { processes = ps }) (set-twice node.processes pid q _)
 
-  stops-apart : (node : Node) (turn : Turn) (p : Process) (cause : Stop) → stops (other node turn.pid) turn p cause ≡ stops node turn p cause
-  stops-apart node turn p cause = ap turn_ends (with_stopped-apart node turn.pid p cause)
+  stops-apart : (node : Node) (turn : Turn) (p : Process) (cause : Stop) → stop_outcome (other node turn.pid) turn p cause ≡ stop_outcome node turn p cause
+  stops-apart node turn p cause = ap turn_conclusion (with_stopped-apart node turn.pid p cause)
 
-  waits-apart : (node : Node) (turn : Turn) (p : Process) (status : Status) (polling : List ℕ) → waits (other node turn.pid) turn p status polling ≡ waits node turn p status polling
-  waits-apart node turn p status polling = ap (λ (n : Node). turn_ends (record n { polling = polling; turn = None })) (with_process-apart node turn.pid (record p { status = status }))
+  waits-apart : (node : Node) (turn : Turn) (p : Process) (status : Status) (polling : List ℕ) → wait_outcome (other node turn.pid) turn p status polling ≡ wait_outcome node turn p status polling
+  waits-apart node turn p status polling = ap (λ (n : Node). turn_conclusion (record n { polling_ids = polling; turn = None })) (with_process-apart node turn.pid (record p { status = status }))
 
   reading-apart : {X : Type 0} (node : Node) (turn : Turn) (p : Process) (r : Result X Stop) (f g : X → CallOutcome) → ((x : X) → f x ≡ g x)
-      → read_or_stop (other node turn.pid) turn p r f ≡ read_or_stop node turn p r g
+      → read_outcome (other node turn.pid) turn p r f ≡ read_outcome node turn p r g
   reading-apart node turn p (Ok x) f g same = same x
   reading-apart node turn p (Err cause) f g same = stops-apart node turn p cause
 
@@ -58,9 +58,9 @@ module _ (q : Process) where
   either true a a' c c' first next = first
   either false a a' c c' first next = next
 
-  maps_least-apart : (node : Node) (turn : Turn) (p : Process) (len : ℕ) (store : List BlockId) → maps_least (other node turn.pid) turn p len store ≡ maps_least node turn p len store
-  maps_least-apart node turn p len [] = returns-apart node turn p 0
-  maps_least-apart node turn p len (id ∷ store) =
+  map_outcome-apart : (node : Node) (turn : Turn) (p : Process) (len : ℕ) (store : List BlockId) → map_outcome (other node turn.pid) turn p len store ≡ map_outcome node turn p len store
+  map_outcome-apart node turn p len [] = returns-apart node turn p 0
+  map_outcome-apart node turn p len (id ∷ store) =
       returns-apart (with_store store node) turn (with_space p (mapped_space (record { id = id; bytes = replicate len 0 }) p.space)) (window_start (length p.space.windows))
 
   -- a call that doesn't look at that place
@@ -69,10 +69,10 @@ module _ (q : Process) where
 
   xmalloc-apart : IsApart xmalloc
   xmalloc-apart node turn p =
-      either (nat_lt block_room (argument p 0) || not (has_unused_window p.space)) _ _ _ _ (returns-apart node turn p 0) (maps_least-apart node turn p (argument p 0) node.store)
+      either (nat_lt block_room (argument p 0) || not (has_unused_window p.space)) _ _ _ _ (returns-apart node turn p 0) (map_outcome-apart node turn p (argument p 0) node.store)
 
-  frees-apart : (node : Node) (turn : Turn) (p : Process) (found : ℕ × Block) → frees (other node turn.pid) turn p found ≡ frees node turn p found
-  frees-apart node turn p found = returns-apart (with_store (put found.1.id node.store) node) turn (gives_up found.0 p) 0
+  frees-apart : (node : Node) (turn : Turn) (p : Process) (found : ℕ × Block) → free_outcome (other node turn.pid) turn p found ≡ free_outcome node turn p found
+  frees-apart node turn p found = returns-apart (with_store (put found.1.id node.store) node) turn (process_left_behind found.0 p) 0
 
   xfree-apart : IsApart xfree
   xfree-apart node turn p = reading-apart node turn p (block_named p.space (argument p 0)) _ _ (frees-apart node turn p)
@@ -80,47 +80,47 @@ module _ (q : Process) where
   xlength-apart : IsApart xlength
   xlength-apart node turn p = reading-apart node turn p (block_named p.space (argument p 0)) _ _ (λ found. returns-apart node turn p (length found.1.bytes))
 
-  sends_block-apart : (node : Node) (turn : Turn) (p : Process) (found : ℕ × Block) → sends_block (other node turn.pid) turn p found ≡ sends_block node turn p found
-  sends_block-apart node turn p found =
+  send_outcome-apart : (node : Node) (turn : Turn) (p : Process) (found : ℕ × Block) → send_outcome (other node turn.pid) turn p found ≡ send_outcome node turn p found
+  send_outcome-apart node turn p found =
       either (is_target node (place_named p 1)) _ _ _ _
-      (says_call-apart node turn (gives_up found.0 p) (sends turn.pid ((place_named p 1, found.1.id) ∷ []) found.1.bytes)) (returns-apart node turn p 1)
+      (leave_outcome-apart node turn (process_left_behind found.0 p) (send_call turn.pid ((place_named p 1, found.1.id) ∷ []) found.1.bytes)) (returns-apart node turn p 1)
 
   xsend-apart : IsApart xsend
-  xsend-apart node turn p = reading-apart node turn p (block_named p.space (argument p 0)) _ _ (sends_block-apart node turn p)
+  xsend-apart node turn p = reading-apart node turn p (block_named p.space (argument p 0)) _ _ (send_outcome-apart node turn p)
 
-  sends_copies-apart : (node : Node) (turn : Turn) (p : Process) (found : ℕ × Block) (places : List Place)
-      → sends_copies (other node turn.pid) turn p found places ≡ sends_copies node turn p found places
-  sends_copies-apart node turn p found [] = frees-apart node turn p found
-  sends_copies-apart node turn p found (to ∷ others) =
+  copies_outcome-apart : (node : Node) (turn : Turn) (p : Process) (found : ℕ × Block) (places : List Place)
+      → copies_outcome (other node turn.pid) turn p found places ≡ copies_outcome node turn p found places
+  copies_outcome-apart node turn p found [] = frees-apart node turn p found
+  copies_outcome-apart node turn p found (to ∷ others) =
       either (not (list_all (is_target node) (to ∷ others))) _ _ _ _ (returns-apart node turn p 1)
       (either (nat_lt (length node.store) (length others)) _ _ _ _ (returns-apart node turn p 2)
-      (says_call-apart (with_store (drop (length others) node.store) node) turn (gives_up found.0 p)
-      (sends turn.pid (zip (to ∷ others) (found.1.id ∷ take (length others) node.store)) found.1.bytes)))
+      (leave_outcome-apart (with_store (drop (length others) node.store) node) turn (process_left_behind found.0 p)
+      (send_call turn.pid (zip (to ∷ others) (found.1.id ∷ take (length others) node.store)) found.1.bytes)))
 
   xmsend_block-apart : (node : Node) (turn : Turn) (p : Process) (found : ℕ × Block) → xmsend_block (other node turn.pid) turn p found ≡ xmsend_block node turn p found
   xmsend_block-apart node turn p found =
       either (nat_lt greatest_targets (argument p 1)) _ _ _ _ (returns-apart node turn p 3)
-      (reading-apart node turn p (places_at p.space (argument p 2) (argument p 1)) _ _ (sends_copies-apart node turn p found))
+      (reading-apart node turn p (places_at p.space (argument p 2) (argument p 1)) _ _ (copies_outcome-apart node turn p found))
 
   xmsend-apart : IsApart xmsend
   xmsend-apart node turn p = reading-apart node turn p (block_named p.space (argument p 0)) _ _ (xmsend_block-apart node turn p)
 
   xrecv-apart : IsApart xrecv
-  xrecv-apart node turn p = waits-apart node turn p Polling (node.polling ++ turn.pid ∷ [])
+  xrecv-apart node turn p = waits-apart node turn p Polling (node.polling_ids ++ turn.pid ∷ [])
 
   xrecvb-apart : IsApart xrecvb
-  xrecvb-apart node turn p = waits-apart node turn p Asking node.polling
+  xrecvb-apart node turn p = waits-apart node turn p Asking node.polling_ids
 
   spawn-apart : IsApart spawn
   spawn-apart node turn p =
       either (not (is_place node.dim (place_named p 1))) _ _ _ _ (returns-apart node turn p 1)
-      (either (nat_lt (argument p 0) node.images) _ _ _ _ (says_call-apart node turn p (spawns turn.pid (argument p 0) (place_named p 1))) (returns-apart node turn p 3))
+      (either (nat_lt (argument p 0) node.images) _ _ _ _ (leave_outcome-apart node turn p (spawn_call turn.pid (argument p 0) (place_named p 1))) (returns-apart node turn p 3))
 
   ckill-apart : IsApart ckill
   ckill-apart node turn p =
-      either (is_place node.dim (place_named p 0)) _ _ _ _ (says_call-apart node turn p (kills turn.pid (place_named p 0))) (returns-apart node turn p 1)
+      either (is_place node.dim (place_named p 0)) _ _ _ _ (leave_outcome-apart node turn p (kill_call turn.pid (place_named p 0))) (returns-apart node turn p 1)
 
-  all_apart : AllByRecursion (λ (call : KernelCall). IsApart call.does) kernel_calls
+  all_apart : AllByRecursion (λ (call : KernelCall). IsApart call.outcome) kernel_calls
   unfolding kernel_calls
   all_apart = (
     xmalloc-apart,
@@ -146,7 +146,7 @@ module _ (q : Process) where
                         (λ node turn p. returns-apart node turn p turn.pid),
                         (
                           (λ node turn p. returns-apart node turn p (2 ^ node.dim)),
-                          ((λ node turn p. stops-apart node turn p (Exited (argument p 0))), ((λ node turn p. says_call-apart node turn p (notes turn.pid (argument p 0))), tt)),
+                          ((λ node turn p. stops-apart node turn p (Exited (argument p 0))), ((λ node turn p. leave_outcome-apart node turn p (note_call turn.pid (argument p 0))), tt)),
                         ),
                       ),
                     ),
@@ -160,8 +160,8 @@ module _ (q : Process) where
     ),
   )
 
-  does-apart : (node : Node) (turn : Turn) (p : Process) (found : Option KernelCall) → IfSome found (λ call. IsApart call.does)
-      → kernel_does found (other node turn.pid) turn p ≡ kernel_does found node turn p
+  does-apart : (node : Node) (turn : Turn) (p : Process) (found : Option KernelCall) → IfSome found (λ call. IsApart call.outcome)
+      → call_outcome found (other node turn.pid) turn p ≡ call_outcome found node turn p
   does-apart node turn p None each = stops-apart node turn p (NoCall (call_number p))
   does-apart node turn p (Some call) each =
       either call.is_counted _ _ _ _
@@ -170,34 +170,34 @@ module _ (q : Process) where
 
   pub kernel-apart : (node : Node) (turn : Turn) (p : Process) → kernel (with_process node turn.pid q) turn p ≡ kernel node turn p
   unfolding kernel
-  kernel-apart node turn p = does-apart node turn p (kernel_call (call_number p)) (call_numbered (λ call. IsApart call.does) (call_number p) all_apart)
+  kernel-apart node turn p = does-apart node turn p (kernel_call (call_number p)) (call_numbered (λ call. IsApart call.outcome) (call_number p) all_apart)
 
 -- ---- whole runs
 
 -- what the node says whose process came to this
 abbrev pub came_to : Node → Turn → TurnEnd → Saying
-came_to node turn (at_call left p) = after_call (runs left) (kernel node (record turn { left = left }) p)
-came_to node turn (at_stop left p cause) = asks (with_stopped node turn.pid p cause)
+came_to node turn (at_call left p) = after_call (turn_saying left) (kernel node (record turn { instructions_left = left }) p)
+came_to node turn (at_stop left p cause) = idle_saying (with_stopped node turn.pid p cause)
 
 came_to-apart : (q : Process) (node : Node) (turn : Turn) (r : TurnEnd) → came_to (with_process node turn.pid q) turn r ≡ came_to node turn r
-came_to-apart q node turn (at_call left p) = ap (after_call (runs left)) (kernel-apart q node (record turn { left = left }) p)
-came_to-apart q node turn (at_stop left p cause) = ap asks (with_stopped-apart q node turn.pid p cause)
+came_to-apart q node turn (at_call left p) = ap (after_call (turn_saying left)) (kernel-apart q node (record turn { instructions_left = left }) p)
+came_to-apart q node turn (at_stop left p cause) = ap idle_saying (with_stopped-apart q node turn.pid p cause)
 
 runs-led : (n : ℕ) (node : Node) (turn : Turn) (outcome : Outcome Space) → turn.pid < length node.processes
-    → ((node' : Node) → turn.pid < length node'.processes → runs n node' turn ≡ came_to node' turn (turn_end n (process_at node' turn.pid)))
-    → after_instruction (runs n) n node turn (process_at node turn.pid) outcome ≡ came_to node turn (led_to (turn_end n) n (process_at node turn.pid) outcome)
-runs-led n node turn (went regs pc space) h each =
+    → ((node' : Node) → turn.pid < length node'.processes → turn_saying n node' turn ≡ came_to node' turn (turn_end n (process_at node' turn.pid)))
+    → after_instruction (turn_saying n) n node turn (process_at node turn.pid) outcome ≡ came_to node turn (end_after (turn_end n) n (process_at node turn.pid) outcome)
+runs-led n node turn (next_state regs pc space) h each =
     let p = moved_process (process_at node turn.pid) regs pc space in
     let node' = with_process node turn.pid p in
     each node' (omega (arith, length-set node.processes turn.pid p))
     ∙ ap (λ q. came_to node' turn (turn_end n q)) (get_or-set_same node.processes turn.pid p unborn_process h)
     ∙ came_to-apart p node turn (turn_end n p)
-runs-led n node turn (called regs pc space) h each = refl
-runs-led n node turn (stopped cause) h each = refl
+runs-led n node turn (call_state regs pc space) h each = refl
+runs-led n node turn (stop_state cause) h each = refl
 
 -- a turn is a run to the next kernel call, and that call
-pub runs-reached : (n : ℕ) (node : Node) (turn : Turn) → turn.pid < length node.processes → runs n node turn ≡ came_to node turn (turn_end n (process_at node turn.pid))
-unfolding runs turn_end
+pub runs-reached : (n : ℕ) (node : Node) (turn : Turn) → turn.pid < length node.processes → turn_saying n node turn ≡ came_to node turn (turn_end n (process_at node turn.pid))
+unfolding turn_saying turn_end
 runs-reached zero node turn h = refl
 runs-reached (suc n) node turn h = runs-led n node turn (instruction (process_at node turn.pid)) h (λ node' h'. runs-reached n node' turn h')
 
@@ -228,11 +228,11 @@ kept_on n p q (at_call left p') first next = (kept_then p q p' first next.0, let
 kept_on n p q (at_stop left p' cause) first next = (kept_then p q p' first next.0, let less = next.1 in omega (arith, less))
 
 led-kept : (n : ℕ) (p : Process) (outcome : Outcome Space) → IsLed p.regs p.space outcome → ((q : Process) → IsKeptBy n q (turn_end n q))
-    → IsKeptBy (suc n) p (led_to (turn_end n) n p outcome)
-led-kept n p (went regs pc space) led each =
+    → IsKeptBy (suc n) p (end_after (turn_end n) n p outcome)
+led-kept n p (next_state regs pc space) led each =
     kept_on n p (moved_process p regs pc space) (turn_end n (moved_process p regs pc space)) (record { held = led.1; regs = led.0; status = refl }) (each (moved_process p regs pc space))
-led-kept n p (called regs pc space) led each = (record { held = led.1; regs = led.0; status = refl }, omega arith)
-led-kept n p (stopped cause) led each = (kept_same p, omega arith)
+led-kept n p (call_state regs pc space) led each = (record { held = led.1; regs = led.0; status = refl }, omega arith)
+led-kept n p (stop_state cause) led each = (kept_same p, omega arith)
 
 pub reached-kept : (n : ℕ) (p : Process) → IsKeptBy n p (turn_end n p)
 unfolding turn_end
@@ -240,13 +240,13 @@ reached-kept zero p = (kept_same p, omega arith)
 reached-kept (suc n) p = led-kept n p (exec process_access p.regs p.pc p.space) (exec-led p.regs p.pc p.space) (λ q. reached-kept n q)
 
 -- the node is in its turn still
-pub well-after : (node : Node) (turn : Turn) (left : ℕ) (p : Process) → IsWell (Some turn) node → IsSoundTurn turn → left ≤ turn.left → IsKept (process_at node turn.pid) p
-    → IsWell (Some (record turn { left = left })) (with_process node turn.pid p)
+pub well-after : (node : Node) (turn : Turn) (left : ℕ) (p : Process) → IsWell (Some turn) node → IsSoundTurn turn → left ≤ turn.instructions_left → IsKept (process_at node turn.pid) p
+    → IsWell (Some (record turn { instructions_left = left })) (with_process node turn.pid p)
 well-after node turn left p well sound less kept =
-    let turn' : Turn = record turn { left = left } in
+    let turn' : Turn = record turn { instructions_left = left } in
     let c : IsInItsTurn node turn' p = record {
       well = well-turn node turn left turn.calls well;
-      sound = record { pid = sound.pid; left = omega (arith, sound.left, less); calls = sound.calls };
+      sound = record { pid = sound.pid; instructions_left = omega (arith, sound.instructions_left, less); calls = sound.calls };
       registers = kept.regs ∙ (well.processes turn.pid sound.pid).registers;
       held = kept.held;
       status = kept.status;

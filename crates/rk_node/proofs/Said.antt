@@ -1,7 +1,7 @@
 -- What a box is once its node has said something.
 use Rattle.std.proofs.Common.{◌≡◌, [], Some, IfSome, ap, sym, subst, arith}
 use Rattle.ce_model.specs.Node as model
-use Rattle.ce_model.specs.Node.{Call, takes, blocks_of}
+use Rattle.ce_model.specs.Node.{Call, take_call, blocks_of}
 use Rattle.ce_model.specs.Saying.{says}
 use Rattle.ce_model.specs.Sound.{IsSoundTurn}
 use Rattle.ce_solo.proofs.Counting.{count, count-nil}
@@ -12,16 +12,16 @@ use Rattle.rk_node.specs.declared.node.Node.{Node}
 use Rattle.rk_node.specs.declared.out.Out.{Out}
 use Rattle.rk_node.specs.declared.out.Out.TheVariants.{Nothing}
 use Rattle.rk_node.specs.Standing.{node_of}
-use Rattle.rk_node.specs.Wording.{out_by, HasBatch}
+use Rattle.rk_node.specs.Wording.{call_out, HasBatch}
 use Rattle.rk_node.specs.Boxes.{Box}
 use Rattle.rk_node.specs.Answering.{HasSaid}
 use Rattle.rk_node.specs.Taken.{HasTakenOut}
 use Rattle.rk_node.specs.Whole.{IsWhole}
+use Rattle.rk_node.proofs.Limits.{sound_if}
 
 -- what a node is that was well and said this call
 pub record IsAfter (node after : model.Node) (call : Call) : Type 0 where
   pub well : IsWell after.turn after
-  pub sound : IfSome after.turn IsSoundTurn
   pub of_node : IsCallOf after call
   pub takes_out : HasTakenOut node after call
 
@@ -31,7 +31,6 @@ said-after node after call well sound same is =
     let said = (says-said node well sound).leaves in
     record {
       well = subst (λ (n : model.Node). IsWell n.turn n) (sym is) said.became.well;
-      sound = subst (λ (n : model.Node). IfSome n.turn IsSoundTurn) (sym is) said.turn;
       of_node = subst (λ (n : model.Node). IsCallOf n call) (sym is) (subst (IsCallOf (says node).node) (sym same) said.of_node);
       takes_out = λ id. omega (
         arith,
@@ -44,10 +43,10 @@ said-after node after call well sound same is =
 
 pub said-whole : (node : Node) (out : Out) (after : Node) (call : Call) → IsWhole node out → call ≡ (says (node_of node)).call
     → node_of after ≡ (says (node_of node)).node → IsAfter (node_of node) (node_of after) call
-said-whole node out after call whole same is = said-after (node_of node) (node_of after) call whole.well whole.sound same is
+said-whole node out after call whole same is = said-after (node_of node) (node_of after) call whole.well (sound_if node.turn) same is
 
-pub has_said : (box : Box) (call : Call) → box.out ≡ out_by call → IsCallOf box.node call → HasSaid box call
-has_said box (takes asking dead poller) is of = (is, of.1, of.0)
+pub has_said : (box : Box) (call : Call) → box.out ≡ call_out call → IsCallOf box.node call → HasSaid box call
+has_said box (take_call asking dead poller) is of = (is, of.1, of.0)
 has_said box call is of = sym is
 
 pub has_batch : (node : Node) (out : Out) → IsWhole node out → out ≡ Nothing → node.batch ≡ Some []

@@ -6,7 +6,7 @@ use Rattle.std.proofs.lemmas.Bool.Decides.{nat_tests}
 use Rattle.std.proofs.lemmas.List.{length-replicate, get_or-replicate, get_or_past}
 use Rattle.ce_model.specs.declared.topology.BlockId.{BlockId}
 use Rattle.ce_model.specs.Limits.{process_count, home_blocks}
-use Rattle.ce_model.specs.Blocks.{precedes, blocks_of_home}
+use Rattle.ce_model.specs.Blocks.{is_lower, blocks_of_home}
 use Rattle.ce_model.specs.Space.{mapped_ids}
 use Rattle.ce_model.specs.Process.{Process, unborn_process, register_count}
 use Rattle.ce_model.specs.Node.{Node, process_at, blocks_of}
@@ -19,15 +19,15 @@ use Rattle.rk_node.proofs.Moved.{ids-unborn}
 
 -- ---- names that rise
 
-pub not_self : (id : BlockId) → precedes id id ≡ true → ⊥
+pub not_self : (id : BlockId) → is_lower id id ≡ true → ⊥
 not_self id h = grind (arith, nat_tests)
 
-none_later : (x : BlockId) (xs : List BlockId) → AllByRecursion (λ other. precedes x other ≡ true) xs → count x xs ≡ 0
+none_later : (x : BlockId) (xs : List BlockId) → AllByRecursion (λ other. is_lower x other ≡ true) xs → count x xs ≡ 0
 none_later x [] all = count-nil x
 none_later x (y ∷ ys) all =
     elim (cases_lt (hit x y) 1) [
       | inl none ↦ omega (arith, count-cons x y ys, none_later x ys all.1)
-      | inr here ↦ absurd (not_self x (subst (λ other. precedes x other ≡ true) (sym (same_from_hit x y here)) all.0))
+      | inr here ↦ absurd (not_self x (subst (λ other. is_lower x other ≡ true) (sym (same_from_hit x y here)) all.0))
     ]
 
 pub once-rising : (id : BlockId) (xs : List BlockId) → IsRising xs → count id xs ≤ 1
@@ -41,10 +41,10 @@ once-rising id (x ∷ xs) rising =
 
 -- ---- the blocks of a home
 
-before-next : (home i j : ℕ) → i < j → precedes (name home i) (name home j) ≡ true
+before-next : (home i j : ℕ) → i < j → is_lower (name home i) (name home j) ≡ true
 before-next home i j h = or_right _ _ (and_from _ _ (eq-eqb home home refl) (lt-ltb i j h))
 
-all_later : (home i from n : ℕ) → i < from → AllByRecursion (λ other. precedes (name home i) other ≡ true) (map (name home) (range_with_len from n))
+all_later : (home i from n : ℕ) → i < from → AllByRecursion (λ other. is_lower (name home i) other ≡ true) (map (name home) (range_with_len from n))
 all_later home i from zero h = tt
 all_later home i from (suc n) h = (before-next home i from h, all_later home i (from + 1) n (omega arith))
 
@@ -60,7 +60,7 @@ rising-home home = rising-from home 0 home_blocks
 -- no process of the node was started, its blocks are in its store, whose names rise, and nothing is under way
 pub record IsIdle (node : Node) : Type 0 where
   pub processes : node.processes ≡ replicate process_count unborn_process
-  pub polling : node.polling ≡ []
+  pub polling_ids : node.polling_ids ≡ []
   pub store : IsRising node.store
 
 idle-process : (node : Node) (pid : ℕ) → IsIdle node → process_at node pid ≡ unborn_process
@@ -89,13 +89,13 @@ pub idle-well : (node : Node) → IsIdle node → IsWell None node
 idle-well node idle = record {
   process_ids = ap {B = ℕ} length idle.processes ∙ length-replicate process_count unborn_process;
   processes = λ pid within. subst (IsWellProcess None pid) (sym (idle-process node pid idle)) (well_unborn pid);
-  polling = λ pid. ap (polls pid) idle.polling ∙ sym (ap {B = ℕ} (λ (p : Process). if is_polling p.status then 1 else 0) (idle-process node pid idle));
+  polling_ids = λ pid. ap (polls pid) idle.polling_ids ∙ sym (ap {B = ℕ} (λ (p : Process). if is_polling p.status then 1 else 0) (idle-process node pid idle));
   store = idle.store;
   once = λ id. omega (arith, ap (count id) (idle-blocks node idle), once-rising id node.store idle.store);
 }
 
 pub idle-fresh : (home r dim images : ℕ) → IsIdle (fresh_at home r dim images)
-idle-fresh home r dim images = record { processes = refl; polling = refl; store = rising-home home }
+idle-fresh home r dim images = record { processes = refl; polling_ids = refl; store = rising-home home }
 
 pub idle-scrubbed : (node : Node) → IsIdle (scrubbed_node node)
-idle-scrubbed node = record { processes = refl; polling = refl; store = tt }
+idle-scrubbed node = record { processes = refl; polling_ids = refl; store = tt }

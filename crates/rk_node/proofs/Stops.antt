@@ -17,12 +17,12 @@ changed-twice ps pid p change h =
     set-twice ps pid p (change (slice_index_or (slice_set ps pid p) pid unborn_process)) ∙ ap (λ q. slice_set ps pid (change q)) (get_or-set_same ps pid p unborn_process h)
 
 pub stopped-steps : (node a b d : Node) (pid : ℕ) (cause : Stop) → pid < length node.processes → a ≡ released_node pid node
-    → b ≡ with_process a pid (with_status (Stopped cause) (process_at a pid)) → d ≡ record b { polling = without_poller pid b.polling }
+    → b ≡ with_process a pid (with_status (Stopped cause) (process_at a pid)) → d ≡ record b { polling_ids = without_poller pid b.polling_ids }
     → record d { turn = None } ≡ with_stopped node pid (process_at node pid) cause
 stopped-steps node a b d pid cause h first next last =
     let p = process_at node pid in
     ap (λ (n : Node). record n { turn = None }) last
-    ∙ ap (λ (n : Node). record n { polling = without_poller pid n.polling; turn = None }) next
-    ∙ ap (λ (n : Node). record (with_process n pid (with_status (Stopped cause) (process_at n pid))) { polling = without_poller pid n.polling; turn = None }) first
+    ∙ ap (λ (n : Node). record n { polling_ids = without_poller pid n.polling_ids; turn = None }) next
+    ∙ ap (λ (n : Node). record (with_process n pid (with_status (Stopped cause) (process_at n pid))) { polling_ids = without_poller pid n.polling_ids; turn = None }) first
     ∙ ap (λ ps. record (with_stopped node pid p cause) { processes = ps })
     (changed-twice node.processes pid (with_space p (emptied_space p.space)) (with_status (Stopped cause)) h)

@@ -64,14 +64,14 @@ unfolding windows_of
 windows-mapped before after pid used block changes =
     map-more (held_at after pid) 0 used
     ∙ ap (λ xs. xs ++ held_at after pid (0 + used) ∷ []) (map-same (held_at before pid) (held_at after pid) 0 used (λ w low high. changes.others pid w (λ p e. omega (arith, e))))
-    ∙ ap (λ x. map (held_at before pid) (range_with_len 0 used) ++ x ∷ []) (ap (held_at after pid) (omega arith) ∙ changes.changed)
+    ∙ ap (λ x. map (held_at before pid) (range_with_len 0 used) ++ x ∷ []) (ap (held_at after pid) (omega arith) ∙ changes.there_is)
 
 -- a block less
 pub windows-unmapped : (before after : List Mapping) (pid used k : ℕ) → k < used → HasChangedOnly before after pid k None
     → windows_of after pid used ≡ slice_set (windows_of before pid used) k None
 unfolding windows_of
 windows-unmapped before after pid used k h changes =
-    map-set (held_at before pid) (held_at after pid) None 0 used k h (ap (held_at after pid) (omega arith) ∙ changes.changed)
+    map-set (held_at before pid) (held_at after pid) None 0 used k h (ap (held_at after pid) (omega arith) ∙ changes.there_is)
     (λ w ne. changes.others pid w (λ p e. ne (omega (arith, e))))
 
 -- no block any longer

@@ -3,7 +3,7 @@ use Rattle.std.specs.Prelude.{◌≡◌, ℕ, ◌<◌, ◌≤◌, [], length, re
 use Rattle.ce_model.specs.Limits.{process_count, greatest_blocks}
 use Rattle.ce_model.specs.Blocks.{blocks_of_home}
 use Rattle.ce_model.specs.Process.{unborn_process}
-use Rattle.ce_model.specs.Node.{Node, fresh, blocks_of}
+use Rattle.ce_model.specs.Node.{Node, opening_node, blocks_of}
 use Rattle.rk_node.specs.declared.out.Out.{Out}
 use Rattle.rk_node.specs.declared.out.Out.TheVariants.{Nothing}
 
@@ -15,7 +15,7 @@ pub record Box : Type 0 where
 
 -- the fresh node of this number, whose blocks have another home than their number
 abbrev pub fresh_at : ℕ → ℕ → ℕ → ℕ → Node
-fresh_at home r dim images = record (fresh r dim images) { home = home; store = blocks_of_home home }
+fresh_at home r dim images = record (opening_node r dim images) { home = home; store = blocks_of_home home }
 
 -- no process of the box was started, its own blocks are in its store, nothing is under way, and it has room for all blocks of the greatest cube
 pub record IsClean (box : Box) : Type 0 where
@@ -25,8 +25,8 @@ pub record IsClean (box : Box) : Type 0 where
 
 -- the node of a box that is emptied: no block is there, no process was started, none polls, and there is no turn
 abbrev pub scrubbed_node : Node → Node
-scrubbed_node node = record node { processes = replicate process_count unborn_process; store = []; polling = []; turn = None }
+scrubbed_node node = record node { processes = replicate process_count unborn_process; store = []; polling_ids = []; turn = None }
 
 -- the box has room for a block more
-abbrev pub HasRoomFor : Box → Type 0
-HasRoomFor box = length (blocks_of box.node) < box.room
+abbrev pub HasRoomForBlock : Box → Type 0
+HasRoomForBlock box = length (blocks_of box.node) < box.room

@@ -13,7 +13,7 @@ use Rattle.xm_block.specs.Stores.{KeptBlock, ids_of}
 use Rattle.rk_mail.specs.declared.talk.Hearing.{Hearing}
 use Rattle.rk_mail.specs.declared.talk.Hearing.TheVariants.{Start, Mail, Kill, Poll, Posted}
 use Rattle.rk_node.specs.declared.node.Node.{Node}
-use Rattle.rk_node.specs.Stocked.{HasRoom}
+use Rattle.rk_node.specs.Ready.{HasRoom}
 
 -- what the node can be asked to do
 abbrev pub IsWorkOf : List ImageParts → model.Node → Hearing → Type 0
@@ -25,9 +25,9 @@ IsWorkOf images node (Poll pid) = pid < process_count
 IsWorkOf images node other = Unit {0}
 
 -- there is room for a parcel's block
-abbrev pub HasRoomFor : Hearing → Node → Type 0
-HasRoomFor (Mail parcel) node = HasRoom node
-HasRoomFor other node = Unit {0}
+abbrev pub HasRoomToHear : Hearing → Node → Type 0
+HasRoomToHear (Mail parcel) node = HasRoom node
+HasRoomToHear other node = Unit {0}
 
 -- the spare batch comes back with the answer to a message
 abbrev pub batch_after : Hearing → Option (List (Place × Block)) → Option (List (Place × Block))

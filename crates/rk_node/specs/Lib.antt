@@ -3,6 +3,7 @@ pub mod Boxes
 pub mod Hearings
 pub mod Laws
 pub mod Moves
+pub mod Ready
 pub mod Standing
 pub mod Stocked
 pub mod Taken

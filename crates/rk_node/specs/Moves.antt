@@ -7,11 +7,10 @@ use Rattle.ce_model.specs.Blocks.{Block, put_all}
 use Rattle.ce_model.specs.Space.{mapped_space, emptied_space, mapped_ids}
 use Rattle.ce_model.specs.Process.{Process, argument}
 use Rattle.ce_model.specs.Node as model
-use Rattle.ce_model.specs.Kernel.{CallOutcome, returns, says_call, stops, with_space}
+use Rattle.ce_model.specs.Kernel.{CallOutcome, return_outcome, leave_outcome, stop_outcome, with_space}
 use Rattle.rk_node.specs.declared.node.Node.{Node}
 use Rattle.rk_node.specs.Boxes.{fresh_at}
 use Rattle.rk_node.specs.Standing.{node_of}
-use Rattle.rk_node.specs.Stocked.{IsStocked}
 
 -- the process does this from now on
 abbrev pub with_status : Status → Process → Process
@@ -37,25 +36,24 @@ IsNamed held named (Err cause) = named ≡ Err cause
 pub record IsNew (home room : ℕ) (node : Node) : Type 0 where
   pub fresh : node_of node ≡ fresh_at home 0 0 0
   pub has_room : node.room ≡ room
-  pub stocked : IsStocked node
   pub batch : node.batch ≡ Some []
 
 -- ---- calls that a line tells
 
 abbrev pub mynode : model.Node → model.Turn → Process → CallOutcome
-mynode node turn p = returns node turn p node.number
+mynode node turn p = return_outcome node turn p node.number
 
 abbrev pub mypid : model.Node → model.Turn → Process → CallOutcome
-mypid node turn p = returns node turn p turn.pid
+mypid node turn p = return_outcome node turn p turn.pid
 
 abbrev pub nnodes : model.Node → model.Turn → Process → CallOutcome
-nnodes node turn p = returns node turn p (2 ^ node.dim)
+nnodes node turn p = return_outcome node turn p (2 ^ node.dim)
 
 abbrev pub exit : model.Node → model.Turn → Process → CallOutcome
-exit node turn p = stops node turn p (Exited (argument p 0))
+exit node turn p = stop_outcome node turn p (Exited (argument p 0))
 
 abbrev pub note : model.Node → model.Turn → Process → CallOutcome
-note node turn p = says_call node turn p (model.notes turn.pid (argument p 0))
+note node turn p = leave_outcome node turn p (model.note_call turn.pid (argument p 0))
 
 -- the numbers of the calls that a turn's limit counts
 abbrev pub is_counted_at : ℕ → Bool

@@ -14,19 +14,19 @@ process_in mappings pid own = record {
   status = own.status;
   regs = own.regs;
   pc = own.pc;
-  space = space_of own.private mappings pid own.used;
+  space = space_of own.private mappings pid own.used_count;
 }
 
 -- the processes of a node, from an id on
-abbrev pub processes_from : List Mapping → ℕ → List Own → List Process
-processes_from mappings pid [] = []
-processes_from mappings pid (own ∷ owns) = process_in mappings pid own ∷ processes_from mappings (pid + 1) owns
+abbrev pub later_processes : List Mapping → ℕ → List Own → List Process
+later_processes mappings pid [] = []
+later_processes mappings pid (own ∷ owns) = process_in mappings pid own ∷ later_processes mappings (pid + 1) owns
 
 abbrev pub processes_of : List Mapping → List Own → List Process
-processes_of mappings owns = processes_from mappings 0 owns
+processes_of mappings owns = later_processes mappings 0 owns
 
 abbrev pub turn_of : Turn → model.Turn
-turn_of turn = record { pid = turn.pid; left = turn.left; calls = turn.calls }
+turn_of turn = record { pid = turn.pid.number; instructions_left = turn.instructions_left; calls = turn.calls }
 
 -- the node of the model, with the names that its blocks have
 abbrev pub node_of : Node → model.Node
@@ -37,6 +37,6 @@ node_of node = record {
   images = node.images;
   processes = processes_of node.held.mappings node.processes.items;
   store = ids_of node.store.blocks;
-  polling = node.polling.items;
+  polling_ids = node.polling_ids.items;
   turn = option_map turn_of node.turn;
 }

@@ -1,21 +1,16 @@
 -- What always holds of the tables of a node.
-use Rattle.std.specs.Prelude.{◌≡◌, ℕ, ◌+◌, ◌<◌, ◌≤◌, Bool, true, ◌&&◌, ◌||◌, ◌==◌, nat_lt, List, [], length, map, Some, IfSome, slice_index_or}
+use Rattle.std.specs.Prelude.{◌≡◌, ℕ, ◌+◌, ◌<◌, ◌≤◌, Bool, true, ◌&&◌, ◌||◌, ◌==◌, nat_lt, List, [], ◌∷◌, length, map, slice_index_or}
 use Rattle.std.specs.List.{AllByRecursion}
-use Rattle.std.specs.VecDeque.{deque_capacity}
+use Rattle.std.proofs.Props.{props}
 use Rattle.ce_model.specs.Limits.{greatest_dim, process_count}
 use Rattle.ce_model.specs.Lists.{ArePairwise}
-use Rattle.ce_model.specs.Node as model
-use Rattle.ce_model.specs.Sound.{IsSoundTurn}
-use Rattle.ce_model.specs.declared.topology.BlockId.{BlockId}
+use Rattle.xm_block.specs.Stores.{KeptBlock}
+use Rattle.xm_owner.specs.Holdings.{MappingTable}
 use Rattle.rk_process.specs.Seen.{Own, place_of, unborn_own}
-use Rattle.ce_solo.proofs.Counting.{count}
-use Rattle.ce_solo.proofs.Nodes.{IsWell}
-use Rattle.rk_node.specs.declared.node.Node.{Node}
-use Rattle.rk_node.specs.Standing.{node_of}
 
 -- how many windows a process has used; one that isn't there has used none
 abbrev pub used_by : List Own → ℕ → ℕ
-used_by owns pid = (slice_index_or owns pid unborn_own).used
+used_by owns pid = (slice_index_or owns pid unborn_own).used_count
 
 -- each block is held in a window that its process has used
 abbrev pub AreWithin : List Own → List (ℕ × ℕ) → Type 0
@@ -28,35 +23,41 @@ is_place_before a b = nat_lt a.0 b.0 || (a.0 == b.0 && nat_lt a.1 b.1)
 abbrev pub AreRising : List (ℕ × ℕ) → Type 0
 AreRising places = ArePairwise (λ a b. is_place_before a b ≡ true) places
 
--- there are as many processes as ids; the store and the table of held blocks have each room for all that the node has room for; held
--- blocks are in used windows, in order; and there is memory for the list of those that poll
-pub record IsStocked (node : Node) : Type 0 where
-  pub processes : length node.processes.items ≡ process_count
-  pub rising : AreRising (map place_of node.held.mappings)
-  pub windows : AreWithin node.processes.items (map place_of node.held.mappings)
-  pub store : length node.store.blocks + node.store.spare ≡ node.room
-  pub held : length node.held.mappings + node.held.spare ≡ node.room
-  pub within : length node.store.blocks + length node.held.mappings ≤ node.room
-  pub polling : process_count ≤ deque_capacity node.polling
-  pub dim : node.dim ≤ greatest_dim
+-- there are as many processes as ids; held blocks are in used windows, in order; the table of held blocks and the store have each
+-- room for all that the node has room for; and there is memory for the list of those that poll
+pub record IsStocked (room dim polls : ℕ) (owns : List Own) (held : MappingTable) (store : KeptBlock) : Type 0 where
+  pub few_nodes : dim ≤ greatest_dim
+  pub every_id : length owns ≡ process_count
+  pub windows : AreWithin owns (map place_of held.mappings)
+  pub rising : AreRising (map place_of held.mappings)
+  pub held_room : length held.mappings + held.spare ≡ room
+  pub store_room : length store.blocks + store.spare ≡ room
+  pub within : length store.blocks + length held.mappings ≤ room
+  pub poll_room : process_count ≤ polls
 
--- no block is at two places of the node
-pub record IsOnce (node : model.Node) : Type 0 where
-  pub once : (id : BlockId) → count id (model.blocks_of node) ≤ 1
+-- ---- no two proofs of it differ
 
--- a process of the node is in this turn, and the spare batch is here
-pub record IsInTurn (node : Node) (turn : model.Turn) : Type 0 where
-  pub stocked : IsStocked node
-  pub well : IsWell (Some turn) (node_of node)
-  pub sound : IsSoundTurn turn
-  pub batch : node.batch ≡ Some []
+AreRising-prop : (places : List (ℕ × ℕ)) → IsProp (AreRising places)
+AreRising-prop [] = hlevel props
+AreRising-prop (place ∷ places) = hlevel (props, AreRising-prop places)
 
--- the node can hear an answer
-pub record IsHearing (node : Node) : Type 0 where
-  pub stocked : IsStocked node
-  pub well : IsWell (node_of node).turn (node_of node)
-  pub sound : IfSome (node_of node).turn IsSoundTurn
+pub IsStocked-prop : {room dim polls : ℕ} {owns : List Own} {held : MappingTable} {store : KeptBlock} → IsProp (IsStocked room dim polls owns held store)
+IsStocked-prop {owns = owns} {held = held} = λ a b i. record {
+  few_nodes = below _ _ a.few_nodes b.few_nodes i;
+  every_id = same _ _ a.every_id b.every_id i;
+  windows = windows-prop a.windows b.windows i;
+  rising = AreRising-prop (map place_of held.mappings) a.rising b.rising i;
+  held_room = same _ _ a.held_room b.held_room i;
+  store_room = same _ _ a.store_room b.store_room i;
+  within = below _ _ a.within b.within i;
+  poll_room = below _ _ a.poll_room b.poll_room i;
+}
+  where
+    below : (m n : ℕ) → IsProp (m ≤ n)
+    below m n = hlevel props
 
--- there is room for a block more
-abbrev pub HasRoom : Node → Type 0
-HasRoom node = length node.store.blocks + length node.held.mappings < node.room
+    same : (m n : ℕ) → IsProp (m ≡ n)
+    same m n = hlevel props
+
+    windows-prop : IsProp (AreWithin owns (map place_of held.mappings))
+    windows-prop = hlevel props

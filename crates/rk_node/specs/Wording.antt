@@ -14,25 +14,25 @@ use Rattle.rk_node.specs.declared.out.Out.TheVariants as out
 use Rattle.rk_node.specs.declared.turn.CallEnd.{CallEnd}
 use Rattle.rk_node.specs.declared.turn.CallEnd.TheVariants.{GoesOn, Leaves, TurnEnds}
 use Rattle.rk_node.specs.Standing.{node_of}
-use Rattle.rk_node.specs.Stocked.{IsStocked, IsInTurn}
+use Rattle.rk_node.specs.Ready.{IsInTurn}
 
 -- what a call came to, with the node and the turn that it left
-abbrev pub did_as : CallEnd → model.Node → model.Turn → kernel.CallOutcome
-did_as GoesOn node turn = kernel.goes_on node turn
-did_as (Leaves say) node turn = kernel.leaves node (call_said say)
-did_as TurnEnds node turn = kernel.turn_ends node
+abbrev pub outcome_of : CallEnd → model.Node → model.Turn → kernel.CallOutcome
+outcome_of GoesOn node turn = kernel.continuation node turn
+outcome_of (Leaves say) node turn = kernel.departure node (call_said say)
+outcome_of TurnEnds node turn = kernel.turn_conclusion node
 
 -- which call is out that leaves the node; a Take doesn't count, since it may be said again
-abbrev pub out_by : model.Call → Out
-out_by (model.sends pid to bytes) = out.Send
-out_by (model.spawns pid image to) = out.Spawn
-out_by (model.kills pid to) = out.Kill
-out_by (model.notes pid word) = out.Note
-out_by other = out.Nothing
+abbrev pub call_out : model.Call → Out
+call_out (model.send_call pid to bytes) = out.Send
+call_out (model.spawn_call pid image to) = out.Spawn
+call_out (model.kill_call pid to) = out.Kill
+call_out (model.note_call pid word) = out.Note
+call_out other = out.Nothing
 
-abbrev pub out_of : CallEnd → Out
-out_of (Leaves say) = out_by (call_said say)
-out_of other = out.Nothing
+abbrev pub end_out : CallEnd → Out
+end_out (Leaves say) = call_out (call_said say)
+end_out other = out.Nothing
 
 -- the spare batch is away exactly where a message is out, and else it is here and empty
 abbrev pub HasBatch : Out → Option (List (Place × Block)) → Type 0
@@ -40,26 +40,25 @@ HasBatch out.Send batch = batch ≡ None
 HasBatch other batch = batch ≡ Some []
 
 -- what the node says whose turn came to this, of which so many instructions are left
-abbrev pub said_by : CallEnd → model.Node → model.Turn → saying.Saying
-said_by did node turn = saying.after_call (saying.runs turn.left) (did_as did node turn)
+abbrev pub saying_of_end : CallEnd → model.Node → model.Turn → saying.Saying
+saying_of_end did node turn = saying.after_call (saying.turn_saying turn.instructions_left) (outcome_of did node turn)
 
 -- what the node says whose turn came to its end
-abbrev pub said_as : Option Say → model.Node → saying.Saying
-said_as None node = saying.asks node
-said_as (Some say) node = record { node = node; call = call_said say }
+abbrev pub saying_of_say : Option Say → model.Node → saying.Saying
+saying_of_say None node = saying.idle_saying node
+saying_of_say (Some say) node = record { node = node; call = call_said say }
 
-abbrev pub out_after : Option Say → Out
-out_after None = out.Nothing
-out_after (Some say) = out_by (call_said say)
+abbrev pub say_out : Option Say → Out
+say_out None = out.Nothing
+say_out (Some say) = call_out (call_said say)
 
 -- the call makes of a node, in this turn, what the word of the kernel does
 pub record HasMade (word : model.Node → model.Turn → Process → kernel.CallOutcome) (before after : Node) (turn turn' : model.Turn) (outcome : CallEnd) : Type 0 where
-  pub did : did_as outcome (node_of after) turn' ≡ word (node_of before) turn (model.process_at (node_of before) turn.pid)
-  pub stocked : IsStocked after
-  pub batch : HasBatch (out_of outcome) after.batch
+  pub did : outcome_of outcome (node_of after) turn' ≡ word (node_of before) turn (model.process_at (node_of before) turn.pid)
+  pub batch : HasBatch (end_out outcome) after.batch
   pub room : after.room ≡ before.room
 
 -- the turn goes on with fewer instructions left
 abbrev pub HasGoneOnIn : CallEnd → Node → model.Turn → ℕ → Type 0
-HasGoneOnIn GoesOn node turn left = IsInTurn node turn × (turn.left < left)
+HasGoneOnIn GoesOn node turn left = IsInTurn node turn × (turn.instructions_left < left)
 HasGoneOnIn other node turn left = Unit {0}

@@ -1,15 +1,16 @@
 ghost use Rattle.std.specs.Prelude.{◌≡◌, ◌<◌, ◌≤◌, ◌||◌, not, nat_lt, length, slice_get, if◌then◌else◌, IsTrue, IsSome, IfSome, Some, None, []};
-ghost use Rattle.ce_model.specs.Limits.{process_count, window_count, block_room};
+ghost use Rattle.ce_model.specs.Limits.{window_count, block_room};
 ghost use Rattle.ce_model.specs.Space.{window_start, window_of, is_window_start, has_unused_window, named_in, block_named};
 ghost use Rattle.ce_model.specs.Node.{process_at, with_process};
-ghost use Rattle.ce_model.specs.Kernel.{gives_up, returns, stops, frees, maps_least, xmalloc, xfree, xlength};
+ghost use Rattle.ce_model.specs.Kernel.{process_left_behind, return_outcome, stop_outcome, free_outcome, map_outcome, xmalloc, xfree, xlength};
 ghost use Rattle.xm_owner.specs.Holdings.{held_at};
 ghost use Rattle.rk_node.specs.Standing.{node_of, turn_of};
-ghost use Rattle.rk_node.specs.Stocked.{IsStocked, IsInTurn, HasRoom};
+ghost use Rattle.rk_node.specs.Ready.{IsInTurn, HasRoom};
 ghost use Rattle.rk_node.specs.Moves.{with_mapped, IsNamed};
 ghost use Rattle.rk_node.specs.Wording.{HasMade};
 
 use crate::node::Node;
+use crate::pid::Pid;
 use crate::turn::{CallEnd, Turn};
 use ce_model::{BLOCK_ROOM, Stop, WINDOW_BASE, WINDOW_COUNT, WINDOW_SIZE};
 use xm_block::Block;
@@ -17,11 +18,9 @@ use xm_block::Block;
 impl Node {
     /// The block at a window of a process that the address names, by its window: the address is the start of a window that
     /// holds one.
-    pub fn block_named(&self, pid: u32, address: u32) -> Result<u32, Stop>
-        requires stocked { IsStocked self.now }
-        requires pid { pid < process_count }
-        ensures { IsNamed (held_at self.now.held.mappings pid)
-            (block_named (process_at (node_of self.now) pid).space address) result }
+    pub fn block_named(&self, pid: Pid, address: u32) -> Result<u32, Stop>
+        ensures { IsNamed (held_at self.now.held.mappings pid.number)
+            (block_named (process_at (node_of self.now) pid.number).space address) result }
     {
         match window_at(address) {
             Some(window) => self.block_at(pid, window, address),
@@ -30,77 +29,67 @@ impl Node {
     }
 
     /// The block at the window that begins at an address, by its window.
-    fn block_at(&self, pid: u32, window: u32, address: u32) -> Result<u32, Stop>
-        requires stocked { IsStocked self.now }
-        requires pid { pid < process_count }
-        requires window { window ≡ window_of address }
-        ensures { IsNamed (held_at self.now.held.mappings pid)
-            (named_in (slice_get (process_at (node_of self.now) pid).space.windows window) address)
+    fn block_at(&self, pid: Pid, window: u32, address: u32) -> Result<u32, Stop>
+        requires { window ≡ window_of address }
+        ensures { IsNamed (held_at self.now.held.mappings pid.number)
+            (named_in
+            (slice_get (process_at (node_of self.now) pid.number).space.windows window) address)
             result }
     {
-        if window >= self.processes[pid as usize].windows() {
+        if window >= self.processes[pid.number as usize].windows() {
             return Err(Stop::NotABlock(address));
         }
-        match self.held.get(pid, window) {
+        match self.held.get(pid.number, window) {
             Some(_) => Ok(window),
             None => Err(Stop::Gone(address)),
         }
     }
 
     /// A further window of the process can be used.
-    pub fn has_unused_window(&self, pid: u32) -> bool
-        requires stocked { IsStocked self.now }
-        requires pid { pid < process_count }
-        ensures { result ≡ has_unused_window (process_at (node_of self.now) pid).space }
+    pub fn has_unused_window(&self, pid: Pid) -> bool
+        ensures { result ≡ has_unused_window (process_at (node_of self.now) pid.number).space }
     {
-        self.processes[pid as usize].windows() < WINDOW_COUNT
+        self.processes[pid.number as usize].windows() < WINDOW_COUNT
     }
 
     /// Maps a block at the next window of a process, and answers where the window begins.
-    pub fn map(&mut self, pid: u32, block: Block) -> u32
-        requires stocked { IsStocked self.old }
-        requires pid { pid < process_count }
+    pub fn map(&mut self, pid: Pid, block: Block) -> u32
         requires room { HasRoom self.old }
-        requires unused { IsTrue (has_unused_window (process_at (node_of self.old) pid).space) }
+        requires unused { IsTrue
+            (has_unused_window (process_at (node_of self.old) pid.number).space) }
         ensures start { result
-            ≡ window_start (length (process_at (node_of self.old) pid).space.windows) }
-        ensures node { node_of self.new ≡ with_process (node_of self.old) pid
-            (with_mapped block (process_at (node_of self.old) pid)) }
-        ensures stocked { IsStocked self.new }
+            ≡ window_start (length (process_at (node_of self.old) pid.number).space.windows) }
+        ensures node { node_of self.new ≡ with_process (node_of self.old) pid.number
+            (with_mapped block (process_at (node_of self.old) pid.number)) }
         ensures batch { self.new.batch ≡ self.old.batch }
         ensures room { self.new.room ≡ self.old.room }
     {
-        let process = &mut self.processes[pid as usize];
+        let process = &mut self.processes[pid.number as usize];
         let window = process.give_window();
-        self.held.map(pid, window, block);
+        self.held.map(pid.number, window, block);
         window_start(window)
     }
 
     /// Takes the block out of a window of a process, which holds one.
-    pub fn take_out(&mut self, pid: u32, window: u32) -> Block
-        requires stocked { IsStocked self.old }
-        requires pid { pid < process_count }
-        requires held { IsSome (held_at self.old.held.mappings pid window) }
-        ensures block { held_at self.old.held.mappings pid window ≡ Some result }
-        ensures node { node_of self.new ≡ with_process (node_of self.old) pid
-            (gives_up window (process_at (node_of self.old) pid)) }
+    pub fn take_out(&mut self, pid: Pid, window: u32) -> Block
+        requires { IsSome (held_at self.old.held.mappings pid.number window) }
+        ensures block { held_at self.old.held.mappings pid.number window ≡ Some result }
+        ensures node { node_of self.new ≡ with_process (node_of self.old) pid.number
+            (process_left_behind window (process_at (node_of self.old) pid.number)) }
         ensures room { HasRoom self.new }
-        ensures stocked { IsStocked self.new }
         ensures batch { self.new.batch ≡ self.old.batch }
         ensures size { self.new.room ≡ self.old.room }
     {
-        match self.held.unmap(pid, window) {
+        match self.held.unmap(pid.number, window) {
             Some(block) => block,
             None => unreachable!(),
         }
     }
 
     /// The call returns at once.
-    pub fn returns(&mut self, turn: Turn, value: u32) -> CallEnd
-        requires stocked { IsStocked self.old }
-        requires pid { turn.pid < process_count }
-        requires batch { self.old.batch ≡ Some [] }
-        ensures { HasMade (λ node turn p. returns node turn p value)
+    pub fn return_outcome(&mut self, turn: Turn, value: u32) -> CallEnd
+        requires { self.old.batch ≡ Some [] }
+        ensures { HasMade (λ node turn p. return_outcome node turn p value)
             self.old self.new (turn_of turn) (turn_of turn) result }
     {
         self.answer(turn.pid, value);
@@ -108,9 +97,9 @@ impl Node {
     }
 
     /// The process of the turn stops.
-    pub fn stops(&mut self, turn: Turn, cause: Stop) -> CallEnd
+    pub fn stop_outcome(&mut self, turn: Turn, cause: Stop) -> CallEnd
         requires { IsInTurn self.old (turn_of turn) }
-        ensures { HasMade (λ node turn p. stops node turn p cause)
+        ensures { HasMade (λ node turn p. stop_outcome node turn p cause)
             self.old self.new (turn_of turn) (turn_of turn) result }
     {
         self.stop(turn.pid, cause);
@@ -125,38 +114,36 @@ impl Node {
     {
         let length = self.argument(turn.pid, 0);
         if self.cannot_map(turn.pid, length) {
-            self.returns(turn, 0)
+            self.return_outcome(turn, 0)
         } else {
-            self.maps_least(turn, length)
+            self.map_outcome(turn, length)
         }
     }
 
     /// A block of this length can't be mapped: it would be too long, or no window is left.
     #[tactic(auto, unfolding(ce_model::specs::Limits::block_room))]
-    fn cannot_map(&self, pid: u32, length: u32) -> bool
-        requires stocked { IsStocked self.now }
-        requires pid { pid < process_count }
+    fn cannot_map(&self, pid: Pid, length: u32) -> bool
         ensures { result ≡ (nat_lt block_room length
-            || not (has_unused_window (process_at (node_of self.now) pid).space)) }
+            || not (has_unused_window (process_at (node_of self.now) pid.number).space)) }
     {
         length > BLOCK_ROOM || !self.has_unused_window(pid)
     }
 
     /// The store's least block is mapped at the next window; where the store is empty, the answer is 0.
-    fn maps_least(&mut self, turn: Turn, length: u32) -> CallEnd
+    fn map_outcome(&mut self, turn: Turn, length: u32) -> CallEnd
         requires ready { IsInTurn self.old (turn_of turn) }
         requires length { length ≤ block_room }
         requires unused { IsTrue
-            (has_unused_window (process_at (node_of self.old) turn.pid).space) }
-        ensures { HasMade (λ node turn p. maps_least node turn p length node.store)
+            (has_unused_window (process_at (node_of self.old) turn.pid.number).space) }
+        ensures { HasMade (λ node turn p. map_outcome node turn p length node.store)
             self.old self.new (turn_of turn) (turn_of turn) result }
     {
         match self.store.take_least() {
-            None => self.returns(turn, 0),
+            None => self.return_outcome(turn, 0),
             Some(mut block) => {
                 block.reset(length);
                 let address = self.map(turn.pid, block);
-                self.returns(turn, address)
+                self.return_outcome(turn, address)
             }
         }
     }
@@ -167,22 +154,22 @@ impl Node {
         ensures { HasMade xfree self.old self.new (turn_of turn) (turn_of turn) result }
     {
         match self.block_named(turn.pid, self.argument(turn.pid, 0)) {
-            Ok(window) => self.frees(turn, window),
-            Err(cause) => self.stops(turn, cause),
+            Ok(window) => self.free_outcome(turn, window),
+            Err(cause) => self.stop_outcome(turn, cause),
         }
     }
 
     /// The block at a window goes to the store, and the answer is 0.
-    pub fn frees(&mut self, turn: Turn, window: u32) -> CallEnd
+    pub fn free_outcome(&mut self, turn: Turn, window: u32) -> CallEnd
         requires ready { IsInTurn self.old (turn_of turn) }
-        requires held { IsSome (held_at self.old.held.mappings turn.pid window) }
-        ensures { IfSome (held_at self.old.held.mappings turn.pid window)
-            (λ block. HasMade (λ node turn p. frees node turn p (window, block))
+        requires held { IsSome (held_at self.old.held.mappings turn.pid.number window) }
+        ensures { IfSome (held_at self.old.held.mappings turn.pid.number window)
+            (λ block. HasMade (λ node turn p. free_outcome node turn p (window, block))
             self.old self.new (turn_of turn) (turn_of turn) result) }
     {
         let block = self.take_out(turn.pid, window);
         self.give(block);
-        self.returns(turn, 0)
+        self.return_outcome(turn, 0)
     }
 
     /// xlength: the block's length.
@@ -193,18 +180,18 @@ impl Node {
         match self.block_named(turn.pid, self.argument(turn.pid, 0)) {
             Ok(window) => {
                 let length = self.length_at(turn.pid, window);
-                self.returns(turn, length)
+                self.return_outcome(turn, length)
             }
-            Err(cause) => self.stops(turn, cause),
+            Err(cause) => self.stop_outcome(turn, cause),
         }
     }
 
     /// The length of the block at a window, which holds one.
-    fn length_at(&self, pid: u32, window: u32) -> u32
-        ensures { IfSome (held_at self.now.held.mappings pid window)
+    fn length_at(&self, pid: Pid, window: u32) -> u32
+        ensures { IfSome (held_at self.now.held.mappings pid.number window)
             (λ block. result ≡ length block.bytes) }
     {
-        match self.held.get(pid, window) {
+        match self.held.get(pid.number, window) {
             Some(block) => block.length(),
             None => 0,
         }

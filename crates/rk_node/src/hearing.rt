@@ -3,15 +3,16 @@ ghost use Rattle.ce_model.specs.declared.process.Status.{Status};
 ghost use Rattle.ce_model.specs.Limits.{process_count};
 ghost use Rattle.ce_model.specs.Process.{started_process};
 ghost use Rattle.ce_model.specs.Node.{process_at, blocks_of};
-ghost use Rattle.ce_model.specs.Hearing.{mail_of, kill_of, told, begins, begins_with, gets, hears};
+ghost use Rattle.ce_model.specs.Hearing.{mail_of, kill_of, answer_of, with_turn, with_answered_turn, with_received, node_after_hearing};
 ghost use Rattle.ce_solo.proofs.Counting.{count};
 ghost use Rattle.rk_mail.specs.Items.{parcel_of};
 ghost use Rattle.rk_mail.specs.Talk.{heard_as};
 ghost use Rattle.rk_node.specs.Standing.{node_of};
-ghost use Rattle.rk_node.specs.Stocked.{IsStocked, IsHearing, HasRoom};
-ghost use Rattle.rk_node.specs.Hearings.{IsWorkOf, HasRoomFor, batch_after};
+ghost use Rattle.rk_node.specs.Ready.{IsHearing, HasRoom};
+ghost use Rattle.rk_node.specs.Hearings.{IsWorkOf, HasRoomToHear, batch_after};
 
 use crate::node::Node;
+use crate::pid::Pid;
 use crate::saying::{is_receiving, is_stopped};
 use crate::turn::Turn;
 use ce_model::{Status, Stop, TURN_INSTRUCTIONS};
@@ -23,36 +24,36 @@ impl Node {
     pub fn hears(&mut self, images: &[Image], heard: Hearing)
         requires ready { IsHearing self.old }
         requires work { IsWorkOf images.now (node_of self.old) heard }
-        requires room { HasRoomFor heard self.old }
-        ensures node { node_of self.new ≡ hears images.now (node_of self.old) (heard_as heard) }
-        ensures stocked { IsStocked self.new }
+        requires room { HasRoomToHear heard self.old }
+        ensures node { node_of self.new
+            ≡ node_after_hearing images.now (node_of self.old) (heard_as heard) }
         ensures batch { self.new.batch ≡ batch_after heard self.old.batch }
         ensures room { self.new.room ≡ self.old.room }
     {
         match heard {
-            Hearing::Start { pid, image } => self.starts(pid, &images[image as usize]),
-            Hearing::Mail(parcel) => self.has_mail(parcel),
-            Hearing::Kill { pid } => self.is_killed(pid),
-            Hearing::Poll { pid } => self.begins_with(pid, 0),
+            Hearing::Start { pid, image } => self.start(
+                Pid { number: pid },
+                &images[image as usize],
+            ),
+            Hearing::Mail(parcel) => self.take_mail(parcel),
+            Hearing::Kill { pid } => self.end_process(Pid { number: pid }),
+            Hearing::Poll { pid } => self.begin_answered_turn(Pid { number: pid }, 0),
             Hearing::Idle => {}
             Hearing::Spent => {}
             Hearing::Noted => {}
-            Hearing::Posted(batch) => self.regains(batch),
-            Hearing::Spawned => self.tells(0),
-            Hearing::Killed => self.tells(0),
-            Hearing::Used => self.tells(2),
-            Hearing::Unused => self.tells(2),
-            Hearing::Already => self.tells(3),
+            Hearing::Posted(batch) => self.regain_batch(batch),
+            Hearing::Spawned => self.answer_call(0),
+            Hearing::Killed => self.answer_call(0),
+            Hearing::Used => self.answer_call(2),
+            Hearing::Unused => self.answer_call(2),
+            Hearing::Already => self.answer_call(3),
         }
     }
 
     /// A turn of a process begins.
-    fn begins(&mut self, pid: u32)
-        requires stocked { IsStocked self.old }
-        requires pid { pid < process_count }
+    fn begin_turn(&mut self, pid: Pid)
         ensures node { node_of self.new
-            ≡ begins (node_of self.old) pid (process_at (node_of self.old) pid) }
-        ensures stocked { IsStocked self.new }
+            ≡ with_turn (node_of self.old) pid.number (process_at (node_of self.old) pid.number) }
         ensures batch { self.new.batch ≡ self.old.batch }
         ensures room { self.new.room ≡ self.old.room }
     {
@@ -60,57 +61,53 @@ impl Node {
         self.leave_polling(pid);
         self.turn = Some(Turn {
             pid,
-            left: TURN_INSTRUCTIONS,
+            instructions_left: TURN_INSTRUCTIONS,
             calls: 0,
         });
     }
 
     /// A turn begins of a process that is answered by this number.
-    fn begins_with(&mut self, pid: u32, value: u32)
-        requires stocked { IsStocked self.old }
-        requires pid { pid < process_count }
-        ensures node { node_of self.new
-            ≡ begins_with (node_of self.old) pid (process_at (node_of self.old) pid) value }
-        ensures stocked { IsStocked self.new }
+    fn begin_answered_turn(&mut self, pid: Pid, value: u32)
+        ensures node { node_of self.new ≡ with_answered_turn (node_of self.old) pid.number
+            (process_at (node_of self.old) pid.number) value }
         ensures batch { self.new.batch ≡ self.old.batch }
         ensures room { self.new.room ≡ self.old.room }
     {
         self.answer(pid, value);
-        self.begins(pid);
+        self.begin_turn(pid);
     }
 
     /// An image is started as a process.
-    fn starts(&mut self, pid: u32, image: &Image)
-        requires stocked { IsStocked self.old }
-        requires pid { pid < process_count }
-        requires unborn { (process_at (node_of self.old) pid).status ≡ Status.Unborn }
-        requires unused { (process_at (node_of self.old) pid).space.windows ≡ [] }
+    fn start(&mut self, pid: Pid, image: &Image)
+        requires unborn { (process_at (node_of self.old) pid.number).status ≡ Status.Unborn }
+        requires unused { (process_at (node_of self.old) pid.number).space.windows ≡ [] }
         ensures node { node_of self.new
-            ≡ begins (node_of self.old) pid (started_process image.now) }
-        ensures stocked { IsStocked self.new }
+            ≡ with_turn (node_of self.old) pid.number (started_process image.now) }
         ensures batch { self.new.batch ≡ self.old.batch }
         ensures room { self.new.room ≡ self.old.room }
     {
-        let process = &mut self.processes[pid as usize];
+        let process = &mut self.processes[pid.number as usize];
         process.start(image);
-        self.begins(pid);
+        self.begin_turn(pid);
     }
 
     /// A parcel came: for a process that has stopped its block goes to the store.
-    fn has_mail(&mut self, parcel: Parcel)
+    fn take_mail(&mut self, parcel: Parcel)
         requires ready { IsHearing self.old }
         requires idle { self.old.turn ≡ None }
         requires pid { parcel.to.pid < process_count }
         requires room { HasRoom self.old }
         requires apart { count parcel.block.id (blocks_of (node_of self.old)) ≡ 0 }
-        ensures node { node_of self.new ≡ hears [] (node_of self.old) (mail_of (parcel_of parcel)) }
-        ensures stocked { IsStocked self.new }
+        ensures node { node_of self.new
+            ≡ node_after_hearing [] (node_of self.old) (mail_of (parcel_of parcel)) }
         ensures batch { self.new.batch ≡ self.old.batch }
         ensures room { self.new.room ≡ self.old.room }
     {
-        let pid = parcel.to.pid;
+        let pid = Pid {
+            number: parcel.to.pid,
+        };
         if is_receiving(self.status(pid)) {
-            self.gets(parcel);
+            self.receive(parcel);
         } else {
             self.give(parcel.block);
         }
@@ -118,22 +115,23 @@ impl Node {
 
     /// A process gets a parcel: its block is mapped at the next window, and its turn begins. Where no window is left it stops,
     /// and this block and all its others are in the store.
-    fn gets(&mut self, parcel: Parcel)
+    fn receive(&mut self, parcel: Parcel)
         requires ready { IsHearing self.old }
         requires idle { self.old.turn ≡ None }
         requires pid { parcel.to.pid < process_count }
         requires room { HasRoom self.old }
         requires apart { count parcel.block.id (blocks_of (node_of self.old)) ≡ 0 }
-        ensures node { node_of self.new ≡ gets (node_of self.old) (parcel_of parcel)
+        ensures node { node_of self.new ≡ with_received (node_of self.old) (parcel_of parcel)
             (process_at (node_of self.old) parcel.to.pid) }
-        ensures stocked { IsStocked self.new }
         ensures batch { self.new.batch ≡ self.old.batch }
         ensures room { self.new.room ≡ self.old.room }
     {
-        let pid = parcel.to.pid;
+        let pid = Pid {
+            number: parcel.to.pid,
+        };
         if self.has_unused_window(pid) {
             let address = self.map(pid, parcel.block);
-            self.begins_with(pid, address);
+            self.begin_answered_turn(pid, address);
         } else {
             self.give(parcel.block);
             self.stop(pid, Stop::WindowsSpent);
@@ -141,11 +139,10 @@ impl Node {
     }
 
     /// A process is stopped, unless it has stopped already.
-    fn is_killed(&mut self, pid: u32)
-        requires ready { IsHearing self.old }
-        requires pid { pid < process_count }
-        ensures node { node_of self.new ≡ hears [] (node_of self.old) (kill_of pid) }
-        ensures stocked { IsStocked self.new }
+    fn end_process(&mut self, pid: Pid)
+        requires { IsHearing self.old }
+        ensures node { node_of self.new
+            ≡ node_after_hearing [] (node_of self.old) (kill_of pid.number) }
         ensures batch { self.new.batch ≡ self.old.batch }
         ensures room { self.new.room ≡ self.old.room }
     {
@@ -155,10 +152,10 @@ impl Node {
     }
 
     /// The call of the turn's process is answered.
-    fn tells(&mut self, value: u32)
-        requires ready { IsHearing self.old }
-        ensures node { node_of self.new ≡ hears [] (node_of self.old) (told value) }
-        ensures stocked { IsStocked self.new }
+    fn answer_call(&mut self, value: u32)
+        requires { IsHearing self.old }
+        ensures node { node_of self.new
+            ≡ node_after_hearing [] (node_of self.old) (answer_of value) }
         ensures batch { self.new.batch ≡ self.old.batch }
         ensures room { self.new.room ≡ self.old.room }
     {
@@ -169,14 +166,13 @@ impl Node {
     }
 
     /// The batch comes back, and the message's sender is answered.
-    fn regains(&mut self, batch: Batch)
-        requires ready { IsHearing self.old }
-        ensures node { node_of self.new ≡ hears [] (node_of self.old) (told 0) }
-        ensures stocked { IsStocked self.new }
+    fn regain_batch(&mut self, batch: Batch)
+        requires { IsHearing self.old }
+        ensures node { node_of self.new ≡ node_after_hearing [] (node_of self.old) (answer_of 0) }
         ensures batch { self.new.batch ≡ Some batch }
         ensures room { self.new.room ≡ self.old.room }
     {
         self.batch = Some(batch);
-        self.tells(0);
+        self.answer_call(0);
     }
 }

@@ -10,6 +10,7 @@ mod messages;
 mod node;
 mod node_box;
 mod out;
+mod pid;
 mod saying;
 mod scrubbing;
 mod turn;

@@ -1,6 +1,6 @@
 ghost use Rattle.ce_model.specs.Kernel.{spawn, ckill};
 ghost use Rattle.rk_node.specs.Standing.{turn_of};
-ghost use Rattle.rk_node.specs.Stocked.{IsInTurn};
+ghost use Rattle.rk_node.specs.Ready.{IsInTurn};
 ghost use Rattle.rk_node.specs.Wording.{HasMade};
 ghost use Rattle.rk_node.specs.Moves.{note};
 
@@ -16,20 +16,14 @@ impl Node {
     {
         let to = self.place_named(turn.pid, 1);
         if !self.is_place(to) {
-            return self.returns(turn, 1);
+            return self.return_outcome(turn, 1);
         }
         let image = self.argument(turn.pid, 0);
         if image >= self.images {
-            return self.returns(turn, 3);
+            return self.return_outcome(turn, 3);
         }
-        self.says_call(
-            turn,
-            Say::Spawn {
-                pid: turn.pid,
-                image,
-                to,
-            },
-        )
+        let pid = turn.pid.number;
+        self.leave_outcome(turn, Say::Spawn { pid, image, to })
     }
 
     /// ckill: the process at a place is to be ended.
@@ -39,9 +33,10 @@ impl Node {
     {
         let to = self.place_named(turn.pid, 0);
         if !self.is_place(to) {
-            return self.returns(turn, 1);
+            return self.return_outcome(turn, 1);
         }
-        self.says_call(turn, Say::Kill { pid: turn.pid, to })
+        let pid = turn.pid.number;
+        self.leave_outcome(turn, Say::Kill { pid, to })
     }
 
     /// note: the word goes into the trace.
@@ -50,12 +45,7 @@ impl Node {
         ensures { HasMade note self.old self.new (turn_of turn) (turn_of turn) result }
     {
         let word = self.argument(turn.pid, 0);
-        self.says_call(
-            turn,
-            Say::Note {
-                pid: turn.pid,
-                word,
-            },
-        )
+        let pid = turn.pid.number;
+        self.leave_outcome(turn, Say::Note { pid, word })
     }
 }

@@ -1,16 +1,17 @@
-ghost use Rattle.std.specs.Prelude.{◌≡◌, ◌+◌, ◌^◌, ◌<◌, ◌≤◌, ◌++◌, length, take, drop, zip, IsSome, IfSome, Some, None, []};
+ghost use Rattle.std.specs.Prelude.{◌≡◌, ◌+◌, ◌^◌, ◌≤◌, ◌++◌, length, take, drop, zip, IsSome, IfSome, Some, None, []};
 ghost use Rattle.std.specs.List.{list_all};
-ghost use Rattle.ce_model.specs.Limits.{process_count, greatest_targets};
-ghost use Rattle.ce_model.specs.Space.{result_map, loaded_at, place_at, places_at};
+ghost use Rattle.ce_model.specs.Limits.{greatest_targets};
+ghost use Rattle.ce_model.specs.Space.{result_map, loaded_at, memory_place, places_at};
 ghost use Rattle.ce_model.specs.Node.{process_at, is_place};
-ghost use Rattle.ce_model.specs.Kernel.{with_store, is_target, place_named, sends_block, xsend, sends_copies, xmsend_block, xmsend, xrecv, xrecvb};
+ghost use Rattle.ce_model.specs.Kernel.{with_store, is_target, place_named, send_outcome, xsend, copies_outcome, xmsend_block, xmsend, xrecv, xrecvb};
 ghost use Rattle.xm_owner.specs.Holdings.{held_at};
 ghost use Rattle.rk_mail.specs.Targets.{bytes_of, targets_of};
 ghost use Rattle.rk_node.specs.Standing.{node_of, turn_of};
-ghost use Rattle.rk_node.specs.Stocked.{IsStocked, IsInTurn};
+ghost use Rattle.rk_node.specs.Ready.{IsInTurn};
 ghost use Rattle.rk_node.specs.Wording.{HasMade};
 
 use crate::node::Node;
+use crate::pid::Pid;
 use crate::turn::{CallEnd, Turn};
 use ce_model::{GREATEST_TARGETS, HOST, PROCESS_COUNT, Place, Status, Stop};
 use rk_mail::{Batch, Say};
@@ -22,7 +23,6 @@ impl Node {
     /// A place where a process can be: a node of the cube, and a process id.
     #[tactic(auto, unfolding(ce_model::specs::Limits::process_count))]
     pub fn is_place(&self, to: Place) -> bool
-        requires { IsStocked self.now }
         ensures { result ≡ is_place self.now.dim to }
     {
         to.node < self.nodes() && to.pid < PROCESS_COUNT
@@ -31,7 +31,6 @@ impl Node {
     /// How many nodes the cube has.
     #[tactic(auto, using(ce_model::specs::Limits::greatest_dim_lem))]
     pub fn nodes(&self) -> u32
-        requires { IsStocked self.now }
         ensures { result ≡ 2 ^ self.now.dim }
     {
         1 << self.dim
@@ -39,18 +38,15 @@ impl Node {
 
     /// A message can be sent to a place of the cube, and to its host.
     pub fn is_target(&self, to: Place) -> bool
-        requires { IsStocked self.now }
         ensures { result ≡ is_target (node_of self.now) to }
     {
         self.is_place(to) || (to.node == HOST && to.pid == 0)
     }
 
     /// The place that two arguments of a process's call name.
-    pub fn place_named(&self, pid: u32, index: u32) -> Place
-        requires stocked { IsStocked self.now }
-        requires pid { pid < process_count }
-        requires index { index ≤ 6 }
-        ensures { result ≡ place_named (process_at (node_of self.now) pid) index }
+    pub fn place_named(&self, pid: Pid, index: u32) -> Place
+        requires { index ≤ 6 }
+        ensures { result ≡ place_named (process_at (node_of self.now) pid.number) index }
     {
         Place {
             node: self.argument(pid, index),
@@ -59,7 +55,7 @@ impl Node {
     }
 
     /// The call of the turn's process leaves the node.
-    pub fn says_call(&mut self, turn: Turn, say: Say) -> CallEnd
+    pub fn leave_outcome(&mut self, turn: Turn, say: Say) -> CallEnd
         ensures result { result ≡ CallEnd.Leaves say }
         ensures after { self.new ≡ record self.old { turn = Some turn } }
     {
@@ -85,33 +81,28 @@ impl Node {
         ensures { HasMade xsend self.old self.new (turn_of turn) (turn_of turn) result }
     {
         match self.block_named(turn.pid, self.argument(turn.pid, 0)) {
-            Ok(window) => self.sends_block(turn, window),
-            Err(cause) => self.stops(turn, cause),
+            Ok(window) => self.send_outcome(turn, window),
+            Err(cause) => self.stop_outcome(turn, cause),
         }
     }
 
     /// Sends the block at a window to the place that the call names, if it is one.
-    fn sends_block(&mut self, turn: Turn, window: u32) -> CallEnd
+    fn send_outcome(&mut self, turn: Turn, window: u32) -> CallEnd
         requires ready { IsInTurn self.old (turn_of turn) }
-        requires held { IsSome (held_at self.old.held.mappings turn.pid window) }
-        ensures { IfSome (held_at self.old.held.mappings turn.pid window)
-            (λ block. HasMade (λ node turn p. sends_block node turn p (window, block))
+        requires held { IsSome (held_at self.old.held.mappings turn.pid.number window) }
+        ensures { IfSome (held_at self.old.held.mappings turn.pid.number window)
+            (λ block. HasMade (λ node turn p. send_outcome node turn p (window, block))
             self.old self.new (turn_of turn) (turn_of turn) result) }
     {
         let to = self.place_named(turn.pid, 1);
         if !self.is_target(to) {
-            return self.returns(turn, 1);
+            return self.return_outcome(turn, 1);
         }
         let block = self.take_out(turn.pid, window);
         let mut batch = self.take_batch();
         batch.first(to, block);
-        self.says_call(
-            turn,
-            Say::Send {
-                pid: turn.pid,
-                batch,
-            },
-        )
+        let pid = turn.pid.number;
+        self.leave_outcome(turn, Say::Send { pid, batch })
     }
 
     /// xmsend: the block leaves the process for several places, each further one of which gets a copy.
@@ -121,36 +112,34 @@ impl Node {
     {
         match self.block_named(turn.pid, self.argument(turn.pid, 0)) {
             Ok(window) => self.xmsend_block(turn, window),
-            Err(cause) => self.stops(turn, cause),
+            Err(cause) => self.stop_outcome(turn, cause),
         }
     }
 
     /// Reads the whole list of places, and sends the block at a window to them.
     fn xmsend_block(&mut self, turn: Turn, window: u32) -> CallEnd
         requires ready { IsInTurn self.old (turn_of turn) }
-        requires held { IsSome (held_at self.old.held.mappings turn.pid window) }
-        ensures { IfSome (held_at self.old.held.mappings turn.pid window)
+        requires held { IsSome (held_at self.old.held.mappings turn.pid.number window) }
+        ensures { IfSome (held_at self.old.held.mappings turn.pid.number window)
             (λ block. HasMade (λ node turn p. xmsend_block node turn p (window, block))
             self.old self.new (turn_of turn) (turn_of turn) result) }
     {
         let count = self.argument(turn.pid, 1);
         if count > GREATEST_TARGETS {
-            return self.returns(turn, 3);
+            return self.return_outcome(turn, 3);
         }
         let mut all = [Place { node: 0, pid: 0 }; MOST_PLACES];
         let places = &mut all[..count as usize];
         match self.read_places(turn.pid, self.argument(turn.pid, 2), places) {
-            Ok(()) => self.sends_copies(turn, window, places),
-            Err(cause) => self.stops(turn, cause),
+            Ok(()) => self.copies_outcome(turn, window, places),
+            Err(cause) => self.stop_outcome(turn, cause),
         }
     }
 
     /// Reads places, one behind the other from an address on, or why a word of theirs can't be read.
-    fn read_places(&self, pid: u32, address: u32, places: &mut [Place]) -> Result<(), Stop>
-        requires stocked { IsStocked self.now }
-        requires pid { pid < process_count }
-        ensures { places_at (process_at (node_of self.now) pid).space address (length places.old)
-            ≡ result_map (λ _. places.new) result }
+    fn read_places(&self, pid: Pid, address: u32, places: &mut [Place]) -> Result<(), Stop>
+        ensures { places_at (process_at (node_of self.now) pid.number).space address
+            (length places.old) ≡ result_map (λ _. places.new) result }
     {
         let mut at = address;
         for place in places.iter_mut() {
@@ -164,10 +153,8 @@ impl Node {
     }
 
     /// The place at an address: a word for the node, and behind it one for the process id.
-    fn place_at(&self, pid: u32, address: u32) -> Result<Place, Stop>
-        requires stocked { IsStocked self.now }
-        requires pid { pid < process_count }
-        ensures { result ≡ place_at (process_at (node_of self.now) pid).space address }
+    fn place_at(&self, pid: Pid, address: u32) -> Result<Place, Stop>
+        ensures { result ≡ memory_place (process_at (node_of self.now) pid.number).space address }
     {
         match self.word_at(pid, address) {
             Ok(node) => match self.word_at(pid, address.wrapping_add(4)) {
@@ -179,50 +166,42 @@ impl Node {
     }
 
     /// The word at an address of a process.
-    fn word_at(&self, pid: u32, address: u32) -> Result<u32, Stop>
-        requires stocked { IsStocked self.now }
-        requires pid { pid < process_count }
-        ensures { result ≡ loaded_at (process_at (node_of self.now) pid).space address 4 }
+    fn word_at(&self, pid: Pid, address: u32) -> Result<u32, Stop>
+        ensures { result ≡ loaded_at (process_at (node_of self.now) pid.number).space address 4 }
     {
-        let process = &self.processes[pid as usize];
-        process.load_word(pid, &self.held, address)
+        let process = &self.processes[pid.number as usize];
+        process.load_word(pid.number, &self.held, address)
     }
 
     /// Sends the block at a window to these places: the first gets the block, each further one a copy in the store's least
     /// block.
-    fn sends_copies(&mut self, turn: Turn, window: u32, places: &[Place]) -> CallEnd
+    fn copies_outcome(&mut self, turn: Turn, window: u32, places: &[Place]) -> CallEnd
         requires ready { IsInTurn self.old (turn_of turn) }
-        requires held { IsSome (held_at self.old.held.mappings turn.pid window) }
+        requires held { IsSome (held_at self.old.held.mappings turn.pid.number window) }
         requires few { length places.now ≤ greatest_targets }
-        ensures { IfSome (held_at self.old.held.mappings turn.pid window)
-            (λ block. HasMade (λ node turn p. sends_copies node turn p (window, block) places.now)
+        ensures { IfSome (held_at self.old.held.mappings turn.pid.number window)
+            (λ block. HasMade (λ node turn p. copies_outcome node turn p (window, block) places.now)
             self.old self.new (turn_of turn) (turn_of turn) result) }
     {
         let Some((first, others)) = places.split_first() else {
-            return self.frees(turn, window);
+            return self.free_outcome(turn, window);
         };
         if !self.are_targets(places) {
-            return self.returns(turn, 1);
+            return self.return_outcome(turn, 1);
         }
         if (self.store.count() as usize) < others.len() {
-            return self.returns(turn, 2);
+            return self.return_outcome(turn, 2);
         }
         let block = self.take_out(turn.pid, window);
         let mut batch = self.take_batch();
         batch.first(*first, block);
         self.add_copies(&mut batch, others);
-        self.says_call(
-            turn,
-            Say::Send {
-                pid: turn.pid,
-                batch,
-            },
-        )
+        let pid = turn.pid.number;
+        self.leave_outcome(turn, Say::Send { pid, batch })
     }
 
     /// A message can be sent to each of these places.
     fn are_targets(&self, places: &[Place]) -> bool
-        requires { IsStocked self.now }
         ensures { result ≡ list_all (is_target (node_of self.now)) places.now }
     {
         places.iter().all(|to| self.is_target(*to))
@@ -230,7 +209,6 @@ impl Node {
 
     /// Adds a copy of the message for each of these places, in the store's least blocks; the store has enough.
     fn add_copies(&mut self, batch: &mut Batch, places: &[Place])
-        requires stocked { IsStocked self.old }
         requires some { 1 ≤ length batch.old }
         requires few { length batch.old + length places.now ≤ greatest_targets }
         requires enough { length places.now ≤ length self.old.store.blocks }
@@ -239,7 +217,6 @@ impl Node {
         ensures targets { targets_of batch.new ≡ targets_of batch.old
             ++ zip places.now (take (length places.now) (node_of self.old).store) }
         ensures bytes { bytes_of batch.new ≡ bytes_of batch.old }
-        ensures stocked { IsStocked self.new }
         ensures batch { self.new.batch ≡ self.old.batch }
         ensures room { self.new.room ≡ self.old.room }
     {
@@ -257,7 +234,7 @@ impl Node {
         ensures { HasMade xrecv self.old self.new (turn_of turn) (turn_of turn) result }
     {
         self.set_status(turn.pid, Status::Polling);
-        self.polling.push_back_reserved(turn.pid);
+        self.polling_ids.push_back_reserved(turn.pid.number);
         self.turn = None;
         CallEnd::TurnEnds
     }

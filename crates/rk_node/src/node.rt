@@ -1,16 +1,10 @@
-ghost use Rattle.std.specs.Prelude.{◌≡◌, ◌==◌, ◌+◌, ◌-◌, ◌<◌, ◌≤◌, replicate, position, IfOk};
+ghost use Rattle.std.specs.Prelude.{◌≡◌, ◌==◌, ◌≤◌, replicate, position, IfOk};
+ghost use Rattle.std.specs.VecDeque.{deque_capacity};
 ghost use Rattle.ce_model.specs.Limits.{process_count, home_blocks};
-ghost use Rattle.ce_model.specs.Blocks.{put, blocks_of_home};
-ghost use Rattle.ce_model.specs.Process.{argument, with_answer};
-ghost use Rattle.ce_model.specs.Node.{process_at, with_process, without_poller, with_stopped};
-ghost use Rattle.ce_model.specs.Kernel.{with_store};
-ghost use Rattle.ce_solo.proofs.Counting.{count};
-ghost use Rattle.xm_block.specs.Stores.{ids_of};
 ghost use Rattle.rk_process.specs.Seen.{unborn_own};
-ghost use Rattle.rk_node.specs.Standing.{node_of};
-ghost use Rattle.rk_node.specs.Stocked.{IsStocked, IsOnce, HasRoom};
-ghost use Rattle.rk_node.specs.Moves.{with_status, released_node, IsNew};
+ghost use Rattle.rk_node.specs.Stocked.{IsStocked, IsStocked-prop};
 
+use crate::pid::Pid;
 use crate::turn::Turn;
 use ce_model::{NoMemory, PROCESS_COUNT, Status, Stop};
 use rk_mail::Batch;
@@ -25,7 +19,9 @@ const A0: u32 = 10;
 
 /// A node: its number in its cube, the cube's dimension, the home of its blocks, for how many blocks it has room, how many
 /// images there are, its processes by id, the blocks that they hold, its store, the ids in `xrecv`, longest first, its turn,
-/// and the spare batch, which is away while a message is out.
+/// and the spare batch, which is away while a message is out. There are as many processes as ids; blocks are held in windows
+/// that were used, in order; the store and the table of held blocks have each room for all that the node has room for; and
+/// there is memory for the list of those that poll.
 #[derive(Drop)]
 pub(crate) struct Node {
     pub home: u32,
@@ -36,12 +32,22 @@ pub(crate) struct Node {
     pub processes: Vec<Process>,
     pub held: HeldBlocks,
     pub store: Store,
-    pub polling: VecDeque<u32>,
+    pub polling_ids: VecDeque<u32>,
     pub turn: Option<Turn>,
     pub batch: Option<Batch>,
+    ghost stocked: { IsStocked room dim (deque_capacity polling_ids) processes.items held store } by { IsStocked-prop },
 }
 
 impl Node {
+    ghost use Rattle.ce_model.specs.Blocks.{put};
+    ghost use Rattle.ce_model.specs.Process.{argument, with_answer};
+    ghost use Rattle.ce_model.specs.Node.{process_at, with_process, without_poller, with_stopped};
+    ghost use Rattle.ce_model.specs.Kernel.{with_store};
+    ghost use Rattle.ce_solo.proofs.Counting.{count};
+    ghost use Rattle.rk_node.specs.Standing.{node_of};
+    ghost use Rattle.rk_node.specs.Ready.{IsOnce, HasRoom};
+    ghost use Rattle.rk_node.specs.Moves.{with_status, released_node, IsNew};
+
     /// A node of this home, with its own blocks in its store and no process started.
     pub fn new(alloc: Global, home: u32, room: u32) -> Result<Node, NoMemory>
         requires { home_blocks ≤ room }
@@ -56,67 +62,55 @@ impl Node {
             processes: unborn_processes(alloc)?,
             held: HeldBlocks::new(alloc, room)?,
             store: Store::of_home(alloc, home, room)?,
-            polling: VecDeque::with_capacity(alloc, PROCESS_COUNT as usize)?,
+            polling_ids: VecDeque::with_capacity(alloc, PROCESS_COUNT as usize)?,
             turn: None,
             batch: Some(Batch::new(alloc)?),
         })
     }
 
     /// An argument of a process's call: of 0 to 7, in a0 to a7.
-    pub fn argument(&self, pid: u32, index: u32) -> u32
-        requires stocked { IsStocked self.now }
-        requires pid { pid < process_count }
-        requires index { index ≤ 7 }
-        ensures { result ≡ argument (process_at (node_of self.now) pid) index }
+    pub fn argument(&self, pid: Pid, index: u32) -> u32
+        requires { index ≤ 7 }
+        ensures { result ≡ argument (process_at (node_of self.now) pid.number) index }
     {
-        self.processes[pid as usize].reg(A0 + index)
+        self.processes[pid.number as usize].reg(A0 + index)
     }
 
     /// What a process does at this moment.
-    pub fn status(&self, pid: u32) -> Status
-        requires stocked { IsStocked self.now }
-        requires pid { pid < process_count }
-        ensures { result ≡ (process_at (node_of self.now) pid).status }
+    pub fn status(&self, pid: Pid) -> Status
+        ensures { result ≡ (process_at (node_of self.now) pid.number).status }
     {
-        self.processes[pid as usize].status()
+        self.processes[pid.number as usize].status()
     }
 
     /// Answers a process's call.
-    pub fn answer(&mut self, pid: u32, value: u32)
-        requires stocked { IsStocked self.old }
-        requires pid { pid < process_count }
-        ensures node { node_of self.new ≡ with_process (node_of self.old) pid
-            (with_answer value (process_at (node_of self.old) pid)) }
-        ensures stocked { IsStocked self.new }
+    pub fn answer(&mut self, pid: Pid, value: u32)
+        ensures node { node_of self.new ≡ with_process (node_of self.old) pid.number
+            (with_answer value (process_at (node_of self.old) pid.number)) }
         ensures batch { self.new.batch ≡ self.old.batch }
         ensures room { self.new.room ≡ self.old.room }
     {
-        let process = &mut self.processes[pid as usize];
+        let process = &mut self.processes[pid.number as usize];
         process.answer(value);
     }
 
     /// Says what a process does from now on.
-    pub fn set_status(&mut self, pid: u32, status: Status)
-        requires stocked { IsStocked self.old }
-        requires pid { pid < process_count }
-        ensures node { node_of self.new ≡ with_process (node_of self.old) pid
-            (with_status status (process_at (node_of self.old) pid)) }
-        ensures stocked { IsStocked self.new }
+    pub fn set_status(&mut self, pid: Pid, status: Status)
+        ensures node { node_of self.new ≡ with_process (node_of self.old) pid.number
+            (with_status status (process_at (node_of self.old) pid.number)) }
         ensures batch { self.new.batch ≡ self.old.batch }
         ensures room { self.new.room ≡ self.old.room }
     {
-        let process = &mut self.processes[pid as usize];
+        let process = &mut self.processes[pid.number as usize];
         process.set_status(status);
     }
 
     /// Puts a block into the store.
     pub fn give(&mut self, block: Block)
-        requires stocked { IsStocked self.old }
         requires room { HasRoom self.old }
         requires apart { count block.id (node_of self.old).store ≡ 0 }
         ensures node { node_of self.new
             ≡ with_store (put block.id (node_of self.old).store) (node_of self.old) }
-        ensures stocked { IsStocked self.new }
         ensures batch { self.new.batch ≡ self.old.batch }
         ensures room { self.new.room ≡ self.old.room }
     {
@@ -124,43 +118,36 @@ impl Node {
     }
 
     /// Moves all blocks of a process to the store.
-    fn release(&mut self, pid: u32)
-        requires stocked { IsStocked self.old }
-        requires pid { pid < process_count }
-        requires once { IsOnce (node_of self.old) }
-        ensures node { node_of self.new ≡ released_node pid (node_of self.old) }
-        ensures stocked { IsStocked self.new }
+    fn release(&mut self, pid: Pid)
+        requires { IsOnce (node_of self.old) }
+        ensures node { node_of self.new ≡ released_node pid.number (node_of self.old) }
         ensures batch { self.new.batch ≡ self.old.batch }
         ensures room { self.new.room ≡ self.old.room }
     {
-        self.held.drain(pid, &mut self.store);
+        self.held.drain(pid.number, &mut self.store);
     }
 
     /// Takes a process out of the list of those that poll.
-    pub fn leave_polling(&mut self, pid: u32)
-        requires stocked { IsStocked self.old }
-        ensures node { node_of self.new
-            ≡ record (node_of self.old) { polling = without_poller pid self.old.polling.items } }
-        ensures stocked { IsStocked self.new }
+    pub fn leave_polling(&mut self, pid: Pid)
+        ensures node { node_of self.new ≡ record (node_of self.old) {
+          polling_ids = without_poller pid.number self.old.polling_ids.items;
+        } }
         ensures batch { self.new.batch ≡ self.old.batch }
         ensures room { self.new.room ≡ self.old.room }
     {
-        match place_of(&self.polling, pid) {
+        match place_of(&self.polling_ids, pid.number) {
             Some(place) => {
-                let _ = self.polling.remove(place);
+                let _ = self.polling_ids.remove(place);
             }
             None => {}
         }
     }
 
     /// Stops a process: its blocks go to the store, it polls no longer, and the turn is over.
-    pub fn stop(&mut self, pid: u32, cause: Stop)
-        requires stocked { IsStocked self.old }
-        requires pid { pid < process_count }
-        requires once { IsOnce (node_of self.old) }
-        ensures node { node_of self.new
-            ≡ with_stopped (node_of self.old) pid (process_at (node_of self.old) pid) cause }
-        ensures stocked { IsStocked self.new }
+    pub fn stop(&mut self, pid: Pid, cause: Stop)
+        requires { IsOnce (node_of self.old) }
+        ensures node { node_of self.new ≡ with_stopped (node_of self.old) pid.number
+            (process_at (node_of self.old) pid.number) cause }
         ensures batch { self.new.batch ≡ self.old.batch }
         ensures room { self.new.room ≡ self.old.room }
     {

@@ -5,16 +5,17 @@ ghost use Rattle.ce_model.specs.Blocks.{put, put_all};
 ghost use Rattle.ce_model.specs.Node.{process_at, blocks_of};
 ghost use Rattle.ce_model.specs.Kernel.{with_store};
 ghost use Rattle.ce_model.specs.Saying.{says};
-ghost use Rattle.ce_model.specs.Hearing.{hears};
+ghost use Rattle.ce_model.specs.Hearing.{node_after_hearing};
 ghost use Rattle.xm_block.specs.Stores.{ids_of};
 ghost use Rattle.rk_mail.specs.Talk.{call_said, heard_as};
-ghost use Rattle.rk_node.specs.Boxes.{IsClean, HasRoomFor, fresh_at, scrubbed_node};
+ghost use Rattle.rk_node.specs.Boxes.{IsClean, HasRoomForBlock, fresh_at, scrubbed_node};
 ghost use Rattle.rk_node.specs.Answering.{HasSaid, IsAbleToHear};
 ghost use Rattle.rk_node.specs.Taken.{HasTakenOut};
 ghost use Rattle.rk_node.specs.Hearings.{AreApartFrom};
 
 use crate::node::Node;
 use crate::out::{Out, out_by};
+use crate::pid::Pid;
 use ce_daemon::Homed;
 use ce_model::{NoMemory, Status};
 use rk_mail::{Hearing, Say};
@@ -97,7 +98,8 @@ impl NodeBox {
     pub fn hears(&mut self, images: &[Image], heard: Hearing)
         requires images { length images.now ≡ self.old.node.images }
         requires heard { IsAbleToHear images.now self.old heard }
-        ensures node { self.new.node ≡ hears images.now self.old.node (heard_as heard) }
+        ensures node { self.new.node
+            ≡ node_after_hearing images.now self.old.node (heard_as heard) }
         ensures room { self.new.room ≡ self.old.room }
         ensures out { self.new.out ≡ Out.Nothing }
     {
@@ -110,7 +112,7 @@ impl NodeBox {
         requires pid { pid < process_count }
         ensures { result ≡ (process_at self.now.node pid).status }
     {
-        self.node.status(pid)
+        self.node.status(Pid { number: pid })
     }
 
     /// Moves every block to another store, and makes every process one that wasn't started yet. The store has room for them,
@@ -131,7 +133,7 @@ impl NodeBox {
     pub fn put_home(&mut self, block: Block)
         requires home { block.id.home ≡ self.old.node.home }
         requires apart { ¬ (Contains (blocks_of self.old.node) block.id) }
-        requires room { HasRoomFor self.old }
+        requires room { HasRoomForBlock self.old }
         ensures { self.new ≡ record self.old {
           node = with_store (put block.id self.old.node.store) self.old.node;
         } }

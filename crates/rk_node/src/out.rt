@@ -16,13 +16,13 @@ pub enum Out {
 
 ghost use Rattle.std.specs.Prelude.{◌≡◌};
 ghost use Rattle.rk_mail.specs.Talk.{call_said};
-ghost use Rattle.rk_node.specs.Wording.{out_by};
+ghost use Rattle.rk_node.specs.Wording.{call_out};
 
 use rk_mail::Say;
 
 /// Which call is out once this was said.
 pub(crate) fn out_by(say: &Say) -> Out
-    ensures { result ≡ out_by (call_said say.now) }
+    ensures { result ≡ call_out (call_said say.now) }
 {
     match say {
         Say::Take { .. } => Out::Nothing,

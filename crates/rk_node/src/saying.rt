@@ -1,13 +1,13 @@
 ghost use Rattle.std.specs.Prelude.{◌≡◌, ℕ, ◌^◌, ◌<◌, ◌≤◌, List, length, Some, []};
 ghost use Rattle.ce_model.specs.Process.{turn_end, is_receiving, is_stopped};
 ghost use Rattle.ce_model.specs.Node.{process_at, with_process, ids_of, take_of};
-ghost use Rattle.ce_model.specs.Saying.{runs, says};
+ghost use Rattle.ce_model.specs.Saying.{turn_saying, says};
 ghost use Rattle.rk_mail.specs.Talk.{call_said};
 ghost use Rattle.xm_owner.specs.Holdings.{Mapping};
 ghost use Rattle.rk_process.specs.Runs.{reached_at};
-ghost use Rattle.rk_node.specs.Standing.{node_of, turn_of, processes_from};
-ghost use Rattle.rk_node.specs.Stocked.{IsStocked, IsInTurn, IsHearing};
-ghost use Rattle.rk_node.specs.Wording.{HasBatch, out_by, out_of, out_after, said_as, said_by, HasGoneOnIn};
+ghost use Rattle.rk_node.specs.Standing.{node_of, turn_of, later_processes};
+ghost use Rattle.rk_node.specs.Ready.{IsInTurn, IsHearing};
+ghost use Rattle.rk_node.specs.Wording.{HasBatch, call_out, end_out, say_out, saying_of_say, saying_of_end, HasGoneOnIn};
 
 use crate::node::Node;
 use crate::turn::{CallEnd, Turn};
@@ -22,44 +22,42 @@ impl Node {
         requires batch { self.old.batch ≡ Some [] }
         ensures call { call_said result ≡ (says (node_of self.old)).call }
         ensures node { node_of self.new ≡ (says (node_of self.old)).node }
-        ensures stocked { IsStocked self.new }
-        ensures batch { HasBatch (out_by (call_said result)) self.new.batch }
+        ensures batch { HasBatch (call_out (call_said result)) self.new.batch }
         ensures room { self.new.room ≡ self.old.room }
     {
         match self.turn {
-            Some(turn) => self.says_in(turn),
-            None => self.asks(),
+            Some(turn) => self.say_in_turn(turn),
+            None => self.work_request(),
         }
     }
 
     /// Runs the turn to the next call that leaves the node; where it ends before, the node asks for work.
-    fn says_in(&mut self, turn: Turn) -> Say
+    fn say_in_turn(&mut self, turn: Turn) -> Say
         requires { IsInTurn self.old (turn_of turn) }
         ensures call { call_said result
-            ≡ (runs turn.left (node_of self.old) (turn_of turn)).call }
-        ensures node { node_of self.new ≡ (runs turn.left (node_of self.old) (turn_of turn)).node }
-        ensures stocked { IsStocked self.new }
-        ensures batch { HasBatch (out_by (call_said result)) self.new.batch }
+            ≡ (turn_saying turn.instructions_left (node_of self.old) (turn_of turn)).call }
+        ensures node { node_of self.new
+            ≡ (turn_saying turn.instructions_left (node_of self.old) (turn_of turn)).node }
+        ensures batch { HasBatch (call_out (call_said result)) self.new.batch }
         ensures room { self.new.room ≡ self.old.room }
     {
-        match self.runs(turn) {
+        match self.run_turn(turn) {
             Some(say) => say,
-            None => self.asks(),
+            None => self.work_request(),
         }
     }
 
     /// Runs the turn to the next call that leaves the node; None where the turn ends before.
-    pub fn runs(&mut self, begun: Turn) -> Option<Say>
+    pub fn run_turn(&mut self, begun: Turn) -> Option<Say>
         requires { IsInTurn self.old (turn_of begun) }
-        ensures said { said_as result (node_of self.new)
-            ≡ runs begun.left (node_of self.old) (turn_of begun) }
-        ensures stocked { IsStocked self.new }
-        ensures batch { HasBatch (out_after result) self.new.batch }
+        ensures said { saying_of_say result (node_of self.new)
+            ≡ turn_saying begun.instructions_left (node_of self.old) (turn_of begun) }
+        ensures batch { HasBatch (say_out result) self.new.batch }
         ensures room { self.new.room ≡ self.old.room }
     {
         let mut turn = begun;
         loop {
-            match self.runs_on(&mut turn) {
+            match self.run_on(&mut turn) {
                 CallEnd::GoesOn => {}
                 CallEnd::Leaves(say) => return Some(say),
                 CallEnd::TurnEnds => return None,
@@ -68,48 +66,49 @@ impl Node {
     }
 
     /// Runs the process of the turn to its next call of the kernel, and makes the call.
-    fn runs_on(&mut self, turn: &mut Turn) -> CallEnd
+    fn run_on(&mut self, turn: &mut Turn) -> CallEnd
         requires { IsInTurn self.old (turn_of turn.old) }
-        ensures said { said_by result (node_of self.new) (turn_of turn.new)
-            ≡ runs turn.old.left (node_of self.old) (turn_of turn.old) }
-        ensures stocked { IsStocked self.new }
-        ensures batch { HasBatch (out_of result) self.new.batch }
+        ensures said { saying_of_end result (node_of self.new) (turn_of turn.new)
+            ≡ turn_saying turn.old.instructions_left (node_of self.old) (turn_of turn.old) }
+        ensures batch { HasBatch (end_out result) self.new.batch }
         ensures room { self.new.room ≡ self.old.room }
-        ensures goes_on { HasGoneOnIn result self.new (turn_of turn.new) turn.old.left }
+        ensures goes_on { HasGoneOnIn result self.new (turn_of turn.new)
+            turn.old.instructions_left }
     {
-        match self.runs_process(turn) {
+        match self.run_process(turn) {
             Pause::Call => self.kernel(turn),
-            Pause::Stopped(cause) => self.stops(*turn, cause),
+            Pause::Stopped(cause) => self.stop_outcome(*turn, cause),
         }
     }
 
     /// Runs the process of the turn to its next call of the kernel, or to its stop.
-    fn runs_process(&mut self, turn: &mut Turn) -> Pause
+    fn run_process(&mut self, turn: &mut Turn) -> Pause
         requires { IsInTurn self.old (turn_of turn.old) }
-        ensures reached { turn_end turn.old.left (process_at (node_of self.old) turn.old.pid)
-            ≡ reached_at result turn.new.left (process_at (node_of self.new) turn.old.pid) }
-        ensures node { node_of self.new ≡ with_process (node_of self.old) turn.old.pid
-            (process_at (node_of self.new) turn.old.pid) }
-        ensures turn { turn.new ≡ record turn.old { left = turn.new.left } }
-        ensures stocked { IsStocked self.new }
+        ensures reached { turn_end turn.old.instructions_left
+            (process_at (node_of self.old) turn.old.pid.number)
+            ≡ reached_at result turn.new.instructions_left
+            (process_at (node_of self.new) turn.old.pid.number) }
+        ensures node { node_of self.new ≡ with_process (node_of self.old) turn.old.pid.number
+            (process_at (node_of self.new) turn.old.pid.number) }
+        ensures pid { turn.new.pid ≡ turn.old.pid }
+        ensures calls { turn.new.calls ≡ turn.old.calls }
         ensures batch { self.new.batch ≡ self.old.batch }
         ensures room { self.new.room ≡ self.old.room }
     {
-        let process = &mut self.processes[turn.pid as usize];
-        process.run_to_call(turn.pid, &mut self.held, &mut turn.left)
+        let process = &mut self.processes[turn.pid.number as usize];
+        process.run_to_call(turn.pid.number, &mut self.held, &mut turn.instructions_left)
     }
 
     /// What a node without a turn says: it asks for work.
     #[tactic(auto, using(ce_model::specs::Limits::process_count_lem))]
-    pub fn asks(&self) -> Say
-        requires { IsStocked self.now }
+    pub fn work_request(&self) -> Say
         ensures { call_said result ≡ take_of (node_of self.now) }
     {
         let (asking, dead) = asking_and_dead(self.processes.as_slice());
         Say::Take {
             asking,
             dead,
-            poller: self.polling.front().copied(),
+            poller: self.polling_ids.front().copied(),
         }
     }
 }
@@ -118,9 +117,9 @@ impl Node {
 fn asking_and_dead(processes: &[Process]) -> (u32, u32)
     requires { length processes.now ≤ 31 }
     ensures asking { (mappings : List Mapping) (pid : ℕ)
-        → result.0 ≡ ids_of is_receiving (processes_from mappings pid processes.now) }
+        → result.0 ≡ ids_of is_receiving (later_processes mappings pid processes.now) }
     ensures dead { (mappings : List Mapping) (pid : ℕ)
-        → result.1 ≡ ids_of is_stopped (processes_from mappings pid processes.now) }
+        → result.1 ≡ ids_of is_stopped (later_processes mappings pid processes.now) }
     ensures within { (result.0 < 2 ^ length processes.now) × (result.1 < 2 ^ length processes.now) }
 {
     let mut asking = 0;

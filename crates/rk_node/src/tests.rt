@@ -1,6 +1,6 @@
 ghost use Rattle.std.specs.Prelude.{◌≡◌, IfOk, IfSome, [], None};
 ghost use Rattle.ce_model.specs.declared.process.Status.TheVariants.{Unborn};
-ghost use Rattle.ce_model.specs.Node.{takes, process_at};
+ghost use Rattle.ce_model.specs.Node.{take_call, process_at};
 ghost use Rattle.rk_node.specs.Answering.{HasSaid};
 ghost use Rattle.rk_node.specs.Boxes.{fresh_at};
 
@@ -38,7 +38,7 @@ fn gone(alloc: Global) -> Result<Image, Fail> {
 
 // A box of home 0, as the node of a cube of one node with one image, that has asked for its first work.
 fn asking(alloc: Global) -> Result<NodeBox, Fail>
-    ensures said { IfOk result (λ made. HasSaid made (takes 0 0 None)) }
+    ensures said { IfOk result (λ made. HasSaid made (take_call 0 0 None)) }
     ensures node { IfOk result (λ made. made.node ≡ fresh_at 0 0 0 1) }
     ensures unborn { IfOk result (λ made. (process_at made.node 0).status ≡ Unborn) }
     ensures images { IfOk result (λ made. made.node.images ≡ 1) }

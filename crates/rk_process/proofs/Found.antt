@@ -9,7 +9,7 @@ use Rattle.std.proofs.lemmas.List.{length-map}
 use Rattle.ce_model.specs.Limits.{window_base}
 use Rattle.ce_model.specs.Blocks.{Block}
 use Rattle.ce_model.specs.Space.{window_of, offset_of}
-use Rattle.xm_owner.specs.Holdings.{Mapping, Holding, held_at, is_at, with_block_at, without_process}
+use Rattle.xm_owner.specs.Holdings.{Mapping, MappingTable, held_at, is_at, with_block_at, without_process}
 use Rattle.xm_owner.proofs.Mappings.{changes-with_block}
 use Rattle.rk_process.specs.Seen.{windows_of, place_of, rest_of}
 use Rattle.rv_model.specs.declared.stop.Stop.{Stop}
@@ -99,7 +99,7 @@ unfolding windows_of
 windows_of-set mappings pid used k block was h held =
     let change = changes-with_block pid k block was mappings held in
     map-set (held_at mappings pid) (held_at (with_block_at pid k block mappings) pid) (Some block) 0 used k h
-    (ap (held_at (with_block_at pid k block mappings) pid) (omega arith) ∙ change.changed)
+    (ap (held_at (with_block_at pid k block mappings) pid) (omega arith) ∙ change.there_is)
     (λ j ne. change.others pid j (λ p w. ne (omega arith)))
 
 -- it leaves all else as it is
@@ -121,11 +121,11 @@ others-set pid k block (mapping ∷ mappings) = elim (cases_Bool (is_at pid k ma
   ])
 ]
 
-pub rest_of-set : (held : Holding) (pid used k : ℕ) (block : Block) → rest_of pid used (record held { mappings = with_block_at pid k block held.mappings }) ≡ rest_of pid used held
+pub rest_of-set : (held : MappingTable) (pid used k : ℕ) (block : Block) → rest_of pid used (record held { mappings = with_block_at pid k block held.mappings }) ≡ rest_of pid used held
 rest_of-set held pid used k block =
     let windows = windows-set pid k block held.mappings in
     let others = others-set pid k block held.mappings in
-    λ t. record { pid = pid; used = used; windows = windows t; others = others t; spare = held.spare }
+    λ t. record { pid = pid; used_count = used; windows = windows t; others = others t; spare = held.spare }
 
 -- what the place of an address tells
 pub place-tells : (used a w o : ℕ) → ◌≡◌ {A = Option (ℕ × ℕ)} (Some (w, o)) (if nat_le window_base a && nat_lt (window_of a) used then Some (window_of a, offset_of a) else None)
@@ -142,7 +142,7 @@ place-tells used a w o e = elim (cases_Bool (nat_le window_base a)) [
 ]
 
 -- a store into the block that a window holds
-module _ (held : Holding) (pid used a size n w : ℕ) (was left : Block) (at : w ≡ window_of a) (within : w < used) (here : held_at held.mappings pid w ≡ Some was) where
+module _ (held : MappingTable) (pid used a size n w : ℕ) (was left : Block) (at : w ≡ window_of a) (within : w < used) (here : held_at held.mappings pid w ≡ Some was) where
   found : window_found (windows_of held.mappings pid used) a ≡ Some (held_at held.mappings pid w) → block_left (window_found (windows_of held.mappings pid used) a) a size n ≡ block_left (Some (Some was)) a size n
   found e = ap (λ window. block_left window a size n) (e ∙ ap Some here)
 

@@ -7,13 +7,13 @@ use Rattle.rv_model.specs.declared.stop.Stop.{Stop}
 use Rattle.rv_model.specs.declared.stop.Stop.TheVariants.{Gone, Misaligned, Unmapped, PastEnd}
 use Rattle.rv_model.specs.declared.limits.TheConstants.{PRIVATE_START}
 use Rattle.rv_model.specs.Private.{is_private}
-use Rattle.rv_model.specs.Exec.{Outcome, went, called, stopped, exec}
+use Rattle.rv_model.specs.Exec.{Outcome, next_state, call_state, stop_state, exec}
 use Rattle.ce_model.specs.Limits.{window_base, window_base_lem}
 use Rattle.ce_model.specs.Blocks.{Block}
-use Rattle.ce_model.specs.Space.{Space, Spot, in_private, in_block, spot, spot_in, window_of, offset_of, loaded_at, stored_at, number_in, with_number_in, result_map, process_access}
-use Rattle.ce_model.specs.Process.{Process, TurnEnd, led_to, moved_process, turn_end}
-use Rattle.rk_process.specs.Windows.{fits}
-use Rattle.rk_process.specs.Lives.{Moment, runs, is_answered, is_mapped, is_unmapped, ends, run_to, after_moment, after_moments, IsGone}
+use Rattle.ce_model.specs.Space.{Space, AccessSite, in_private, in_block, access_site, site_in, window_of, offset_of, loaded_at, stored_at, number_in, with_number_in, result_map, process_access}
+use Rattle.ce_model.specs.Process.{Process, TurnEnd, end_after, moved_process, turn_end}
+use Rattle.rk_process.specs.Windows.{is_within_block}
+use Rattle.rk_process.specs.Lives.{LifeEvent, run, answer, mapping, unmapping, end, run_to, after_event, after_moments, IsWindowGone}
 use Rattle.rk_process.proofs.Keeping.{IsLeftWith, exec-leaves}
 use Rattle.rk_process.proofs.Reaching.{reached_by, reached_spent}
 
@@ -43,30 +43,30 @@ get-emptied (suc k) (w ∷ ws) h = get-emptied k ws h
 
 -- an access is made in the block that its window holds
 module _ (space : Space) (a size j o : ℕ) (block : Block) where
-  found : (window : Option (Option Block)) → spot_in window a size ≡ Ok (in_block j block o) → (j ≡ window_of a) × (window ≡ Some (Some block))
+  found : (window : Option (Option Block)) → site_in window a size ≡ Ok (in_block j block o) → (j ≡ window_of a) × (window ≡ Some (Some block))
   found None e = absurd (cc)
   found (Some None) e = absurd (cc)
-  found (Some (Some other)) e = elim (cases_Bool (fits other a size)) [
-    | inl t ↦ (let one : ◌≡◌ {A = Result Spot Stop} (Ok (in_block (window_of a) other (offset_of a))) (Ok (in_block j block o)) = (rw t refl) ∙ e in (cc, cc))
-    | inr f ↦ absurd (let bad : ◌≡◌ {A = Result Spot Stop} (Err (PastEnd a)) (Ok (in_block j block o)) = (rw f refl) ∙ e in cc)
+  found (Some (Some other)) e = elim (cases_Bool (is_within_block other a size)) [
+    | inl t ↦ (let one : ◌≡◌ {A = Result AccessSite Stop} (Ok (in_block (window_of a) other (offset_of a))) (Ok (in_block j block o)) = (rw t refl) ∙ e in (cc, cc))
+    | inr f ↦ absurd (let bad : ◌≡◌ {A = Result AccessSite Stop} (Err (PastEnd a)) (Ok (in_block j block o)) = (rw f refl) ∙ e in cc)
   ]
 
-  spot-block : spot space a size ≡ Ok (in_block j block o) → slice_get space.windows j ≡ Some (Some block)
-  unfolding spot
+  spot-block : access_site space a size ≡ Ok (in_block j block o) → slice_get space.windows j ≡ Some (Some block)
+  unfolding access_site
   spot-block e = elim (cases_Bool (a % size == 0)) [
-    | inr f ↦ absurd (let bad : ◌≡◌ {A = Result Spot Stop} (Err (Misaligned a)) (Ok (in_block j block o)) = (rw f refl) ∙ e in cc)
+    | inr f ↦ absurd (let bad : ◌≡◌ {A = Result AccessSite Stop} (Err (Misaligned a)) (Ok (in_block j block o)) = (rw f refl) ∙ e in cc)
     | inl t ↦ elim (cases_Bool (is_private a)) [
-      | inl p ↦ absurd (let bad : ◌≡◌ {A = Result Spot Stop} (Ok (in_private (a - PRIVATE_START))) (Ok (in_block j block o)) = (rw (t, p) refl) ∙ e in cc)
+      | inl p ↦ absurd (let bad : ◌≡◌ {A = Result AccessSite Stop} (Ok (in_private (a - PRIVATE_START))) (Ok (in_block j block o)) = (rw (t, p) refl) ∙ e in cc)
       | inr q ↦ elim (cases_Bool (nat_lt a window_base)) [
-        | inl b ↦ absurd (let bad : ◌≡◌ {A = Result Spot Stop} (Err (Unmapped a)) (Ok (in_block j block o)) = (rw (t, q, b) refl) ∙ e in cc)
-        | inr c ↦ (let there : spot_in (slice_get space.windows (window_of a)) a size ≡ Ok (in_block j block o) = (rw (t, q, c) refl) ∙ e in
+        | inl b ↦ absurd (let bad : ◌≡◌ {A = Result AccessSite Stop} (Err (Unmapped a)) (Ok (in_block j block o)) = (rw (t, q, b) refl) ∙ e in cc)
+        | inr c ↦ (let there : site_in (slice_get space.windows (window_of a)) a size ≡ Ok (in_block j block o) = (rw (t, q, c) refl) ∙ e in
             let is = found (slice_get space.windows (window_of a)) there in ap (slice_get space.windows) is.0 ∙ is.1)
       ]
     ]
   ]
 
 -- so a store leaves a window that is gone as it is
-stored-by : (space left : Space) (a size n k : ℕ) (r : Result Spot Stop) → spot space a size ≡ r → result_map (with_number_in space size n) r ≡ Ok left → IsGone k space → IsGone k left
+stored-by : (space left : Space) (a size n k : ℕ) (r : Result AccessSite Stop) → access_site space a size ≡ r → result_map (with_number_in space size n) r ≡ Ok left → IsWindowGone k space → IsWindowGone k left
 stored-by space left a size n k (Err cause) e h gone = absurd (cc)
 stored-by space left a size n k (Ok (in_private o)) e h gone =
     let same : space.windows ≡ left.windows = (let is = same_Ok h in ap (λ s. s.windows) is) in subst (λ (ws : List (Option Block)). slice_get ws k ≡ Some None) same gone
@@ -77,35 +77,35 @@ stored-by space left a size n k (Ok (in_block j block o)) e h gone =
     (get-set k j space.windows _ gone (λ same. absurd (let bad : ◌≡◌ {A = Option (Option Block)} (Some (Some block)) (Some None) = sym held ∙ ap (slice_get space.windows) same ∙ gone in cc)))
 
 module _ (k : ℕ) where
-  exec-gone : (x : List ℕ) (pc : ℕ) (space : Space) → IsGone k space → IsLeftWith (IsGone k) (exec process_access x pc space)
-  exec-gone = exec-leaves process_access (IsGone k) (λ m left a size n e gone. stored-by m left a size n k (spot m a size) refl e gone)
+  exec-gone : (x : List ℕ) (pc : ℕ) (space : Space) → IsWindowGone k space → IsLeftWith (IsWindowGone k) (exec process_access x pc space)
+  exec-gone = exec-leaves process_access (IsWindowGone k) (λ m left a size n e gone. stored-by m left a size n k (access_site m a size) refl e gone)
 
   led-gone : (onward : Process → TurnEnd) (left : ℕ) (p : Process) (outcome : Outcome Space)
-      → ((q : Process) → IsGone k q.space → IsGone k (run_to (onward q)).space) → IsGone k p.space → IsLeftWith (IsGone k) outcome → IsGone k (run_to (led_to onward left p outcome)).space
-  led-gone onward left p (went x pc space) goes gone h = goes (moved_process p x pc space) h
-  led-gone onward left p (called x pc space) goes gone h = h
-  led-gone onward left p (stopped cause) goes gone h = gone
+      → ((q : Process) → IsWindowGone k q.space → IsWindowGone k (run_to (onward q)).space) → IsWindowGone k p.space → IsLeftWith (IsWindowGone k) outcome → IsWindowGone k (run_to (end_after onward left p outcome)).space
+  led-gone onward left p (next_state x pc space) goes gone h = goes (moved_process p x pc space) h
+  led-gone onward left p (call_state x pc space) goes gone h = h
+  led-gone onward left p (stop_state cause) goes gone h = gone
 
-  reached-gone : (left : ℕ) (p : Process) → IsGone k p.space → IsGone k (run_to (turn_end left p)).space
-  reached-gone zero p gone = subst (λ (r : TurnEnd). IsGone k (run_to r).space) (sym (reached_spent zero p refl)) gone
+  reached-gone : (left : ℕ) (p : Process) → IsWindowGone k p.space → IsWindowGone k (run_to (turn_end left p)).space
+  reached-gone zero p gone = subst (λ (r : TurnEnd). IsWindowGone k (run_to r).space) (sym (reached_spent zero p refl)) gone
   reached-gone (suc left) p gone =
-      subst (λ (r : TurnEnd). IsGone k (run_to r).space) (sym (reached_by (suc left) left p (exec process_access p.regs p.pc p.space) refl refl))
+      subst (λ (r : TurnEnd). IsWindowGone k (run_to r).space) (sym (reached_by (suc left) left p (exec process_access p.regs p.pc p.space) refl refl))
       (led-gone (turn_end left) left p (exec process_access p.regs p.pc p.space) (reached-gone left) gone (exec-gone p.regs p.pc p.space gone))
 
-  moment-gone : (p : Process) (moment : Moment) → IsGone k p.space → IsGone k (after_moment p moment).space
-  moment-gone p (runs left) gone = reached-gone left p gone
-  moment-gone p (is_answered value) gone = gone
-  moment-gone p (is_mapped block) gone = get-append k p.space.windows _ gone
-  moment-gone p (is_unmapped j) gone = get-set k j p.space.windows None gone (λ same. refl)
-  moment-gone p (ends cause) gone = get-emptied k p.space.windows gone
+  moment-gone : (p : Process) (moment : LifeEvent) → IsWindowGone k p.space → IsWindowGone k (after_event p moment).space
+  moment-gone p (run left) gone = reached-gone left p gone
+  moment-gone p (answer value) gone = gone
+  moment-gone p (mapping block) gone = get-append k p.space.windows _ gone
+  moment-gone p (unmapping j) gone = get-set k j p.space.windows None gone (λ same. refl)
+  moment-gone p (end cause) gone = get-emptied k p.space.windows gone
 
-  moments-gone : (p : Process) (moments : List Moment) → IsGone k p.space → IsGone k (after_moments p moments).space
+  moments-gone : (p : Process) (moments : List LifeEvent) → IsWindowGone k p.space → IsWindowGone k (after_moments p moments).space
   moments-gone p [] gone = gone
-  moments-gone p (moment ∷ moments) gone = moments-gone (after_moment p moment) moments (moment-gone p moment gone)
+  moments-gone p (moment ∷ moments) gone = moments-gone (after_event p moment) moments (moment-gone p moment gone)
 
 -- and every access at a multiple of its size there is refused as gone
-spot-gone : (space : Space) (a size : ℕ) → IsGone (window_of a) space → window_base ≤ a → a % size ≡ 0 → spot space a size ≡ Err (Gone a)
-unfolding spot
+spot-gone : (space : Space) (a size : ℕ) → IsWindowGone (window_of a) space → window_base ≤ a → a % size ≡ 0 → access_site space a size ≡ Err (Gone a)
+unfolding access_site
 spot-gone space a size gone above aligned =
     let base = window_base_lem in
     let t : (a % size == 0) ≡ true = grind (arith, nat_tests) in
@@ -113,7 +113,7 @@ spot-gone space a size gone above aligned =
     let c : nat_lt a window_base ≡ false = grind (arith, nat_tests) in
     rw (t, q, c, gone) refl
 
-pub stays-gone : (p : Process) (moments : List Moment) (a size n : ℕ) → IsGone (window_of a) p.space → window_base ≤ a → a % size ≡ 0
+pub stays-gone : (p : Process) (moments : List LifeEvent) (a size n : ℕ) → IsWindowGone (window_of a) p.space → window_base ≤ a → a % size ≡ 0
     → (loaded_at (after_moments p moments).space a size ≡ Err (Gone a)) × (stored_at (after_moments p moments).space a size n ≡ Err (Gone a))
 stays-gone p moments a size n gone above aligned =
     let space = (after_moments p moments).space in

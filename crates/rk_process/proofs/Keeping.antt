@@ -5,17 +5,17 @@ use Rattle.std.proofs.lemmas.Bool.{cases_Bool}
 use Rattle.rv_model.specs.declared.stop.Stop.{Stop}
 use Rattle.rv_model.specs.declared.inst.Inst.{Inst}
 use Rattle.rv_model.specs.declared.inst.Inst.TheVariants.{Lui, Auipc, Jal, Jalr, Branch, Load, Store, OpImm, Op, Fence, Ecall, Ebreak}
-use Rattle.rv_model.specs.Exec.{Access, Outcome, went, called, stopped, ◌>>=◌, effect_of, jump_outcome, exec, is_taken, reg, with_reg, next_pc, offset_by, load_size, store_size, loaded_number}
+use Rattle.rv_model.specs.Exec.{Access, Outcome, next_state, call_state, stop_state, ◌>>=◌, effect_of, jump_outcome, exec, is_taken, reg, with_reg, next_pc, offset_by, load_size, store_size, loaded_number}
 use Rattle.rv_model.specs.Words.{dec}
 use Rattle.rv_model.specs.declared.stop.Stop.TheVariants.{Illegal}
 
 -- the memory that an instruction leaves, if it leaves one, has a property
 abbrev pub IsLeftWith : {M : Type 0} → (M → Type 0) → Outcome M → Type 0
-IsLeftWith P (went x pc m) = P m
-IsLeftWith P (called x pc m) = P m
-IsLeftWith P (stopped cause) = Unit {0}
+IsLeftWith P (next_state x pc m) = P m
+IsLeftWith P (call_state x pc m) = P m
+IsLeftWith P (stop_state cause) = Unit {0}
 
-module _ {M : Type 0} (A : Access M) (P : M → Type 0) (stores : (m left : M) (a size n : ℕ) → A.stored m a size n ≡ Ok left → P m → P left) where
+module _ {M : Type 0} (A : Access M) (P : M → Type 0) (stores : (m left : M) (a size n : ℕ) → A.store m a size n ≡ Ok left → P m → P left) where
   after : {X : Type 0} (r : Result X Stop) (f : X → Outcome M) → ((x : X) → r ≡ Ok x → IsLeftWith P (f x)) → IsLeftWith P (r >>= f)
   after (Ok x) f h = h x refl
   after (Err cause) f h = tt
@@ -37,11 +37,11 @@ module _ {M : Type 0} (A : Access M) (P : M → Type 0) (stores : (m left : M) (
     | inr f ↦ rw f p
   ]
   performed-leaves (Load op rd rs1 imm) x pc m p =
-      after (A.loaded m (offset_by (reg x rs1) imm) (load_size op)) (λ n. went (with_reg x rd (loaded_number op n)) (next_pc pc) m) (λ n e. p)
+      after (A.load m (offset_by (reg x rs1) imm) (load_size op)) (λ n. next_state (with_reg x rd (loaded_number op n)) (next_pc pc) m) (λ n e. p)
   performed-leaves (Store op rs1 rs2 imm) x pc m p =
       let a = offset_by (reg x rs1) imm in
       let n = reg x rs2 % 256 ^ store_size op in
-      after (A.stored m a (store_size op) n) (λ left. went x (next_pc pc) left) (λ left e. stores m left a (store_size op) n e p)
+      after (A.store m a (store_size op) n) (λ left. next_state x (next_pc pc) left) (λ left e. stores m left a (store_size op) n e p)
   performed-leaves (OpImm op rd rs1 imm) x pc m p = p
   performed-leaves (Op op rd rs1 rs2) x pc m p = p
   performed-leaves (Fence word) x pc m p = p
@@ -51,5 +51,5 @@ module _ {M : Type 0} (A : Access M) (P : M → Type 0) (stores : (m left : M) (
   pub exec-leaves : (x : List ℕ) (pc : ℕ) (m : M) → P m → IsLeftWith P (exec A x pc m)
   unfolding exec
   exec-leaves x pc m p =
-      after (A.fetched m pc) (λ word. ok_or (dec word) (Illegal pc word) >>= (λ inst. effect_of A inst x pc m))
+      after (A.fetch m pc) (λ word. ok_or (dec word) (Illegal pc word) >>= (λ inst. effect_of A inst x pc m))
       (λ word e. after (ok_or (dec word) (Illegal pc word)) (λ inst. effect_of A inst x pc m) (λ inst d. performed-leaves inst x pc m p))

@@ -2,4 +2,4 @@ pub mod Found
 pub mod Goners
 pub mod Keeping
 pub mod Reaching
-pub mod Spots
+pub mod Sites

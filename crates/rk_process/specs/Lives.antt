@@ -9,33 +9,33 @@ use Rattle.rv_model.specs.declared.stop.Stop.{Stop}
 
 -- it runs to its next call with so many instructions left at most, it is answered, a block is mapped at its next window, the
 -- block of a window is sent or freed, or it ends
-pub data Moment : Type 0 where
-  runs : ℕ → Moment
-  is_answered : ℕ → Moment
-  is_mapped : Block → Moment
-  is_unmapped : ℕ → Moment
-  ends : Stop → Moment
+pub data LifeEvent : Type 0 where
+  run : ℕ → LifeEvent
+  answer : ℕ → LifeEvent
+  mapping : Block → LifeEvent
+  unmapping : ℕ → LifeEvent
+  end : Stop → LifeEvent
 
 -- the process where its run ends
 abbrev pub run_to : TurnEnd → Process
 run_to (at_call left p) = p
 run_to (at_stop left p cause) = p
 
-abbrev pub after_moment : Process → Moment → Process
-after_moment p (runs left) = run_to (turn_end left p)
-after_moment p (is_answered value) = with_answer value p
-after_moment p (is_mapped block) = record p { space = mapped_space block p.space }
-after_moment p (is_unmapped k) = record p { space = unmapped_space k p.space }
-after_moment p (ends cause) = ended_process cause p
+abbrev pub after_event : Process → LifeEvent → Process
+after_event p (run left) = run_to (turn_end left p)
+after_event p (answer value) = with_answer value p
+after_event p (mapping block) = record p { space = mapped_space block p.space }
+after_event p (unmapping k) = record p { space = unmapped_space k p.space }
+after_event p (end cause) = ended_process cause p
 
-abbrev pub after_moments : Process → List Moment → Process
-after_moments p moments = fold after_moment p moments
+abbrev pub after_moments : Process → List LifeEvent → Process
+after_moments p moments = fold after_event p moments
 
 -- a window that was used and holds no block
-abbrev pub IsGone : ℕ → Space → Type 0
-IsGone k space = slice_get space.windows k ≡ Some None
+abbrev pub IsWindowGone : ℕ → Space → Type 0
+IsWindowGone k space = slice_get space.windows k ≡ Some None
 
 -- an access in a window whose block is gone stops the process as Gone, whatever has happened to it since
-abbrev pub StaysGone : Type 0
-StaysGone = (p : Process) (moments : List Moment) (a size n : ℕ) → IsGone (window_of a) p.space → window_base ≤ a → a % size ≡ 0
+abbrev pub WindowsStayGone : Type 0
+WindowsStayGone = (p : Process) (moments : List LifeEvent) (a size n : ℕ) → IsWindowGone (window_of a) p.space → window_base ≤ a → a % size ≡ 0
     → (loaded_at (after_moments p moments).space a size ≡ Err (Gone a)) × (stored_at (after_moments p moments).space a size n ≡ Err (Gone a))

@@ -12,5 +12,5 @@ reached_at Call left p = at_call left p
 reached_at (Stopped cause) left p = at_stop left p cause
 
 -- a process by its parts
-abbrev pub process_at : Status → List ℕ → ℕ → Space → Process
-process_at status regs pc space = record { status = status; regs = regs; pc = pc; space = space }
+abbrev pub process_of_parts : Status → List ℕ → ℕ → Space → Process
+process_of_parts status regs pc space = record { status = status; regs = regs; pc = pc; space = space }

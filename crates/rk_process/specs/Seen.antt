@@ -7,7 +7,7 @@ use Rattle.ce_model.specs.declared.process.Status.TheVariants.{Unborn}
 use Rattle.ce_model.specs.Blocks.{Block}
 use Rattle.ce_model.specs.Space.{Space}
 use Rattle.ce_model.specs.Process.{Process, register_count}
-use Rattle.xm_owner.specs.Holdings.{Mapping, Holding, held_at, without_process}
+use Rattle.xm_owner.specs.Holdings.{Mapping, MappingTable, held_at, without_process}
 
 -- what a process does, its registers, its pc, its private memory, and how many windows it has used
 pub record Own : Type 0 where
@@ -15,7 +15,7 @@ pub record Own : Type 0 where
   pub regs : List ℕ
   pub pc : ℕ
   pub private : List ℕ
-  pub used : ℕ
+  pub used_count : ℕ
 
 -- what the windows of a process hold that has used so many
 unfoldable pub windows_of : List Mapping → ℕ → ℕ → List (Option Block)
@@ -25,12 +25,12 @@ abbrev pub space_of : List ℕ → List Mapping → ℕ → ℕ → Space
 space_of private mappings pid used = record { private = private; windows = windows_of mappings pid used }
 
 -- the process of this id, with the blocks that are held for it
-abbrev pub process_of : Own → ℕ → Holding → Process
-process_of own pid held = record {
+abbrev pub owned_process : Own → ℕ → MappingTable → Process
+owned_process own pid held = record {
   status = own.status;
   regs = own.regs;
   pc = own.pc;
-  space = space_of own.private held.mappings pid own.used;
+  space = space_of own.private held.mappings pid own.used_count;
 }
 
 -- where a block is mapped: the process, and its window
@@ -41,15 +41,15 @@ place_of mapping = (mapping.pid, mapping.window)
 -- a block, what the other processes hold, and the room that is left
 pub record Rest : Type 0 where
   pub pid : ℕ
-  pub used : ℕ
+  pub used_count : ℕ
   pub windows : List (ℕ × ℕ)
   pub others : List Mapping
   pub spare : ℕ
 
-abbrev pub rest_of : ℕ → ℕ → Holding → Rest
+abbrev pub rest_of : ℕ → ℕ → MappingTable → Rest
 rest_of pid used held = record {
   pid = pid;
-  used = used;
+  used_count = used;
   windows = map place_of held.mappings;
   others = without_process pid held.mappings;
   spare = held.spare;
@@ -57,4 +57,4 @@ rest_of pid used held = record {
 
 -- what a process has that wasn't started yet
 abbrev pub unborn_own : Own
-unborn_own = record { status = Unborn; regs = replicate register_count 0; pc = 0; private = with_loaded []; used = 0 }
+unborn_own = record { status = Unborn; regs = replicate register_count 0; pc = 0; private = with_loaded []; used_count = 0 }

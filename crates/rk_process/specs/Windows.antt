@@ -8,21 +8,21 @@ use Rattle.ce_model.specs.Blocks.{Block}
 use Rattle.ce_model.specs.Space.{window_of, offset_of, result_map}
 
 -- an access of `size` bytes at an address lies within the block of its window
-abbrev pub fits : Block → ℕ → ℕ → Bool
-fits block a size = nat_le (offset_of a + size) (length block.bytes)
+abbrev pub is_within_block : Block → ℕ → ℕ → Bool
+is_within_block block a size = nat_le (offset_of a + size) (length block.bytes)
 
 -- the number that a load at an address finds in what its window holds; nothing, where the window wasn't used
 abbrev pub number_found : Option (Option Block) → ℕ → ℕ → Result ℕ Stop
 number_found None a size = Err (Unmapped a)
 number_found (Some None) a size = Err (Gone a)
-number_found (Some (Some block)) a size = if fits block a size then Ok (number_at block.bytes (offset_of a) size) else Err (PastEnd a)
+number_found (Some (Some block)) a size = if is_within_block block a size then Ok (number_at block.bytes (offset_of a) size) else Err (PastEnd a)
 
 -- the block that a store at an address leaves in its window
 abbrev pub block_left : Option (Option Block) → ℕ → ℕ → ℕ → Result Block Stop
 block_left None a size n = Err (Unmapped a)
 block_left (Some None) a size n = Err (Gone a)
 block_left (Some (Some block)) a size n =
-    if fits block a size then Ok (record block { bytes = with_number_at block.bytes (offset_of a) size n }) else Err (PastEnd a)
+    if is_within_block block a size then Ok (record block { bytes = with_number_at block.bytes (offset_of a) size n }) else Err (PastEnd a)
 
 -- what the window of an address holds: it isn't used below the first window, nor from the used ones on
 abbrev pub window_found : List (Option Block) → ℕ → Option (Option Block)

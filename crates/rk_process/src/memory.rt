@@ -16,7 +16,7 @@ use xm_owner::HeldBlocks;
 #[derive(Clone, Copy)]
 pub(crate) struct Windows {
     pub pid: u32,
-    pub used: u32,
+    pub used_count: u32,
 }
 
 /// The window of an address, and the offset in it, where it is one that was used.
@@ -46,7 +46,7 @@ fn window_at(addr: u32, used: u32) -> Option<(u32, u32)>
 }
 
 /// Whether `size` bytes from `offset` on lie within the block.
-fn fits(block: &Block, offset: u32, size: u32) -> bool
+fn is_within_block(block: &Block, offset: u32, size: u32) -> bool
     ensures { result ≡ nat_le (offset + size) (length block.now.bytes) }
 {
     u64::from(offset) + u64::from(size) <= u64::from(block.length())
@@ -56,14 +56,15 @@ fn fits(block: &Block, offset: u32, size: u32) -> bool
 fn load_in_window(held: &HeldBlocks, windows: Windows, addr: u32, size: u32) -> Result<u32, Stop>
     requires { IsAccessSize size }
     ensures value { result ≡ number_found
-        (window_found (windows_of held.now.mappings windows.pid windows.used) addr) addr size }
+        (window_found (windows_of held.now.mappings windows.pid windows.used_count) addr)
+        addr size }
     ensures fits { IfOk result (λ n. n < 256 ^ size) }
 {
-    match window_at(addr, windows.used) {
+    match window_at(addr, windows.used_count) {
         None => Err(Stop::Unmapped(addr)),
         Some((window, offset)) => match held.get(windows.pid, window) {
             None => Err(Stop::Gone(addr)),
-            Some(block) if fits(block, offset, size) => Ok(block.load(offset, size)),
+            Some(block) if is_within_block(block, offset, size) => Ok(block.load(offset, size)),
             Some(_) => Err(Stop::PastEnd(addr)),
         },
     }
@@ -85,7 +86,7 @@ fn store_in_block(
         (λ cause. block_left (Some (Some block.old)) addr size value ≡ Err cause) }
     ensures unchanged { OnErr result (block.new ≡ block.old) }
 {
-    if !fits(block, offset, size) {
+    if !is_within_block(block, offset, size) {
         return Err(Stop::PastEnd(addr));
     }
     block.store(offset, size, value);
@@ -102,16 +103,16 @@ fn store_in_window(
 ) -> Result<(), Stop>
     requires { IsAccessSize size }
     ensures stored { OnOk result
-        (windows_left (windows_of held.old.mappings windows.pid windows.used) addr size value
-        ≡ Ok (windows_of held.new.mappings windows.pid windows.used)) }
+        (windows_left (windows_of held.old.mappings windows.pid windows.used_count) addr size value
+        ≡ Ok (windows_of held.new.mappings windows.pid windows.used_count)) }
     ensures refused { IfErr result (λ cause.
-        windows_left (windows_of held.old.mappings windows.pid windows.used) addr size value
+        windows_left (windows_of held.old.mappings windows.pid windows.used_count) addr size value
         ≡ Err cause) }
     ensures unchanged { OnErr result (held.new ≡ held.old) }
-    ensures rest { rest_of windows.pid windows.used held.new
-        ≡ rest_of windows.pid windows.used held.old }
+    ensures rest { rest_of windows.pid windows.used_count held.new
+        ≡ rest_of windows.pid windows.used_count held.old }
 {
-    match window_at(addr, windows.used) {
+    match window_at(addr, windows.used_count) {
         None => Err(Stop::Unmapped(addr)),
         Some((window, offset)) => match held.get_mut(windows.pid, window) {
             None => Err(Stop::Gone(addr)),
@@ -132,7 +133,7 @@ fn load_elsewhere(
     requires { IsAccessSize size }
     ensures value { result ≡ (if addr % size == 0
         then number_found (window_found
-        (windows_of held.now.mappings windows.now.pid windows.now.used) addr) addr size
+        (windows_of held.now.mappings windows.now.pid windows.now.used_count) addr) addr size
         else Err cause) }
     ensures fits { IfOk result (λ n. n < 256 ^ size) }
 {
@@ -155,16 +156,18 @@ fn store_elsewhere(
 ) -> Result<(), Stop>
     requires { IsAccessSize size }
     ensures stored { OnOk result ((if addr % size == 0
-        then windows_left (windows_of held.old.mappings windows.now.pid windows.now.used) addr size
+        then windows_left
+        (windows_of held.old.mappings windows.now.pid windows.now.used_count) addr size
         value else Err cause)
-        ≡ Ok (windows_of held.new.mappings windows.now.pid windows.now.used)) }
+        ≡ Ok (windows_of held.new.mappings windows.now.pid windows.now.used_count)) }
     ensures refused { IfErr result (λ because. (if addr % size == 0
-        then windows_left (windows_of held.old.mappings windows.now.pid windows.now.used) addr size
+        then windows_left
+        (windows_of held.old.mappings windows.now.pid windows.now.used_count) addr size
         value else Err cause)
         ≡ Err because) }
     ensures unchanged { OnErr result (held.new ≡ held.old) }
-    ensures rest { rest_of windows.now.pid windows.now.used held.new
-        ≡ rest_of windows.now.pid windows.now.used held.old }
+    ensures rest { rest_of windows.now.pid windows.now.used_count held.new
+        ≡ rest_of windows.now.pid windows.now.used_count held.old }
 {
     if addr.is_multiple_of(size) {
         store_in_window(held, *windows, addr, size, value)
@@ -184,7 +187,7 @@ pub(crate) fn load_at(
 ) -> Result<u32, Stop>
     requires { IsAccessSize size }
     ensures value { result ≡ loaded_at
-        (space_of private.now held.now.mappings windows.now.pid windows.now.used) addr size }
+        (space_of private.now held.now.mappings windows.now.pid windows.now.used_count) addr size }
     ensures fits { IfOk result (λ n. n < 256 ^ size) }
 {
     match private.load(addr, size) {
@@ -210,11 +213,11 @@ impl Memory for ProcessMemory {
     ghost access = { process_access };
 
     ghost holds = { λ memory. space_of memory.private memory.held.mappings memory.windows.pid
-        memory.windows.used };
+        memory.windows.used_count };
 
     ghost Rest = { Rest };
 
-    ghost rest = { λ memory. rest_of memory.windows.pid memory.windows.used memory.held };
+    ghost rest = { λ memory. rest_of memory.windows.pid memory.windows.used_count memory.held };
 
     #[inline]
     fn fetch(&self, pc: u32) -> Result<u32, Stop> {

@@ -4,11 +4,11 @@ ghost use Rattle.rv_model.specs.Private.{with_loaded};
 ghost use Rattle.ce_model.specs.Limits.{window_count};
 ghost use Rattle.ce_model.specs.Process.{started_process, turn_end, register_count};
 ghost use Rattle.ce_model.specs.Space.{loaded_at};
-ghost use Rattle.xm_owner.specs.Holdings.{Holding};
-ghost use Rattle.rk_process.specs.Runs.{reached_at, process_at};
+ghost use Rattle.xm_owner.specs.Holdings.{MappingTable};
+ghost use Rattle.rk_process.specs.Runs.{reached_at, process_of_parts};
 ghost use Rattle.ce_model.specs.declared.process.Status.{Status};
 ghost use Rattle.rk_process.specs.Memories.{memory_seen, memory_rest};
-ghost use Rattle.rk_process.specs.Seen.{process_of, space_of, rest_of, unborn_own};
+ghost use Rattle.rk_process.specs.Seen.{owned_process, space_of, rest_of, unborn_own};
 
 use crate::Pause;
 use crate::memory::{ProcessMemory, Windows, load_at};
@@ -35,7 +35,7 @@ pub struct Process {
     pc: u32,
     memory: ProcessMemory,
     /// Whether private memory is known to hold zeros alone, so that nothing need be wiped.
-    blank: bool,
+    is_blank: bool,
 }
 
 impl Model for Process {
@@ -50,10 +50,10 @@ impl Model for Process {
       regs = p.registers.x;
       pc = p.pc;
       private = p.memory.private;
-      used = p.memory.windows.used;
+      used_count = p.memory.windows.used_count;
     } };
 
-    ghost invariant = { λ p. IsTrue p.blank → p.memory.private ≡ with_loaded [] };
+    ghost invariant = { λ p. IsTrue p.is_blank → p.memory.private ≡ with_loaded [] };
 }
 
 impl Process {
@@ -68,9 +68,12 @@ impl Process {
             memory: ProcessMemory {
                 private: PrivateMemory::new(alloc)?,
                 held: HeldBlocks::new(alloc, 0)?,
-                windows: Windows { pid: 0, used: 0 },
+                windows: Windows {
+                    pid: 0,
+                    used_count: 0,
+                },
             },
-            blank: true,
+            is_blank: true,
         })
     }
 
@@ -80,14 +83,14 @@ impl Process {
     #[tactic(auto, unfolding(crate::specs::Seen::windows_of))]
     pub fn start(&mut self, image: &Image)
         requires { self.old.status ≡ Status.Unborn }
-        ensures started { (pid : ℕ) (held : Holding) → process_of self.new pid held
+        ensures started { (pid : ℕ) (held : MappingTable) → owned_process self.new pid held
             ≡ started_process image.now }
         ensures running { self.new.status ≡ Status.Running }
-        ensures windows { self.new.used ≡ 0 }
+        ensures windows { self.new.used_count ≡ 0 }
     {
-        load(&mut self.memory.private, self.blank, image.loaded());
-        self.blank = false;
-        self.memory.windows.used = 0;
+        load(&mut self.memory.private, self.is_blank, image.loaded());
+        self.is_blank = false;
+        self.memory.windows.used_count = 0;
         self.registers = Regs::new();
         self.registers.set(SP, PRIVATE_END);
         self.pc = image.entry();
@@ -103,9 +106,9 @@ impl Process {
 
     /// How many windows it has used.
     pub fn windows(&self) -> u32
-        ensures { result ≡ self.now.used }
+        ensures { result ≡ self.now.used_count }
     {
-        self.memory.windows.used
+        self.memory.windows.used_count
     }
 
     /// The value of a register, of 0 to 31.
@@ -126,18 +129,18 @@ impl Process {
     /// Uses the next window, and answers its number; fewer than 32,768 were used.
     #[tactic(auto, unfolding(ce_model::specs::Limits::window_count))]
     pub fn give_window(&mut self) -> u32
-        requires { self.old.used < window_count }
-        ensures window { result ≡ self.old.used }
-        ensures after { self.new ≡ record self.old { used = self.old.used + 1 } }
+        requires { self.old.used_count < window_count }
+        ensures window { result ≡ self.old.used_count }
+        ensures after { self.new ≡ record self.old { used_count = self.old.used_count + 1 } }
     {
-        let window = self.memory.windows.used;
-        self.memory.windows.used = window + 1;
+        let window = self.memory.windows.used_count;
+        self.memory.windows.used_count = window + 1;
         window
     }
 
     /// Answers a kernel call: the value goes to a0.
     pub fn answer(&mut self, value: u32)
-        ensures { self.new ≡ record self.old { regs = slice_set self.old.regs 10 value } }
+        ensures { self.new ≡ record self.old { regs = slice_set self.old.regs A0 value } }
     {
         self.registers.set(A0, value);
     }
@@ -146,11 +149,11 @@ impl Process {
     pub fn reset(&mut self)
         ensures { self.new ≡ unborn_own }
     {
-        if !self.blank {
+        if !self.is_blank {
             self.memory.private.load_image(&[]);
-            self.blank = true;
+            self.is_blank = true;
         }
-        self.memory.windows.used = 0;
+        self.memory.windows.used_count = 0;
         self.registers = Regs::new();
         self.pc = 0;
         self.status = Status::Unborn;
@@ -160,11 +163,12 @@ impl Process {
     /// process's id, and `held` its node's map.
     pub fn load_word(&self, pid: u32, held: &HeldBlocks, addr: u32) -> Result<u32, Stop>
         ensures { result
-            ≡ loaded_at (space_of self.now.private held.now.mappings pid self.now.used) addr 4 }
+            ≡ loaded_at
+            (space_of self.now.private held.now.mappings pid self.now.used_count) addr 4 }
     {
         let windows = Windows {
             pid,
-            used: self.memory.windows.used,
+            used_count: self.memory.windows.used_count,
         };
         load_at(&self.memory.private, held, &windows, addr, 4)
     }
@@ -174,12 +178,13 @@ impl Process {
     /// its node's map, of which it changes nothing but bytes in its own windows.
     pub fn run_to_call(&mut self, pid: u32, held: &mut HeldBlocks, left: &mut u32) -> Pause
         requires { self.old.status ≡ Status.Running }
-        ensures reached { turn_end left.old (process_of self.old pid held.old)
-            ≡ reached_at result left.new (process_of self.new pid held.new) }
+        ensures reached { turn_end left.old (owned_process self.old pid held.old)
+            ≡ reached_at result left.new (owned_process self.new pid held.new) }
         ensures status { self.new.status ≡ self.old.status }
-        ensures rest { rest_of pid self.new.used held.new ≡ rest_of pid self.old.used held.old }
+        ensures rest { rest_of pid self.new.used_count held.new
+            ≡ rest_of pid self.old.used_count held.old }
     {
-        self.blank = false;
+        self.is_blank = false;
         self.memory.windows.pid = pid;
         mem::swap(&mut self.memory.held, held);
         let paused = run(&mut self.registers, &mut self.pc, &mut self.memory, left);
@@ -189,12 +194,12 @@ impl Process {
 }
 
 /// Makes private memory begin with these bytes, and end in zeros. Where it is blank, no zeros are written.
-fn load(private: &mut PrivateMemory, blank: bool, loaded: &[u8])
-    requires blank { IsTrue blank → private.old ≡ with_loaded [] }
+fn load(private: &mut PrivateMemory, is_blank: bool, loaded: &[u8])
+    requires blank { IsTrue is_blank → private.old ≡ with_loaded [] }
     requires room { length loaded.now ≤ image_room }
     ensures { private.new ≡ with_loaded loaded.now }
 {
-    if blank {
+    if is_blank {
         private.load_into_zeros(loaded);
     } else {
         private.load_image(loaded);
@@ -205,9 +210,10 @@ fn load(private: &mut PrivateMemory, blank: bool, loaded: &[u8])
 /// back at the end.
 fn run(registers: &mut Regs, pc: &mut u32, memory: &mut ProcessMemory, left: &mut u32) -> Pause
     ensures reached { (status : Status)
-        → turn_end left.old (process_at status registers.old.x pc.old (memory_seen memory.old))
+        → turn_end left.old
+        (process_of_parts status registers.old.x pc.old (memory_seen memory.old))
         ≡ reached_at result left.new
-        (process_at status registers.new.x pc.new (memory_seen memory.new)) }
+        (process_of_parts status registers.new.x pc.new (memory_seen memory.new)) }
     ensures rest { memory_rest memory.new ≡ memory_rest memory.old }
 {
     let mut at = *pc;

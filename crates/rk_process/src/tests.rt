@@ -208,12 +208,12 @@ fn fill(alloc: Global, store: &mut Store) -> Result<(), Fail>
 #[tactic(auto, unfolding(ce_model::specs::Limits::window_count))]
 fn allocate(process: &mut Process, held: &mut HeldBlocks, store: &mut Store, length: u32) -> u32
     requires length { length ≤ block_room }
-    requires unused { process.old.used < window_count }
+    requires unused { process.old.used_count < window_count }
     requires room { 1 ≤ held.old.spare }
-    requires vacant { (k : ℕ) → process.old.used ≤ k → held_at held.old.mappings 0 k ≡ None }
-    ensures used { process.new.used ≤ process.old.used + 1 }
+    requires vacant { (k : ℕ) → process.old.used_count ≤ k → held_at held.old.mappings 0 k ≡ None }
+    ensures used { process.new.used_count ≤ process.old.used_count + 1 }
     ensures room { held.old.spare ≤ held.new.spare + 1 }
-    ensures vacant { (k : ℕ) → process.new.used ≤ k → held_at held.new.mappings 0 k ≡ None }
+    ensures vacant { (k : ℕ) → process.new.used_count ≤ k → held_at held.new.mappings 0 k ≡ None }
     ensures spare { store.old.spare ≤ store.new.spare }
 {
     match store.take_least() {

@@ -1,5 +1,5 @@
 -- Which answers a box can hear.
-use Rattle.std.proofs.Common.{◌≡◌, ℕ, ◌<◌, ◌≤◌, true, false, List, [], ◌∷◌, length, find, slice_get, Option, Some, None, IsTrue, refl, ap, sym, subst, arith, inl, inr}
+use Rattle.std.proofs.Common.{◌≡◌, ℕ, ◌<◌, ◌≤◌, Bool, true, false, List, [], ◌∷◌, length, find, slice_get, Option, Some, None, IsTrue, refl, ap, sym, subst, arith, inl, inr}
 use Rattle.std.proofs.lemmas.Bool.{both_ways}
 use Rattle.rv_model.specs.Image.{ImageParts}
 use Rattle.ce_model.specs.declared.topology.BlockId.{BlockId}
@@ -13,7 +13,7 @@ use Rattle.ce_model.specs.Blocks.{blocks_of_home}
 use Rattle.ce_model.specs.Lists.{without_first}
 use Rattle.ce_model.specs.Parcels.{Item, start, mail, kill, is_eligible}
 use Rattle.ce_model.specs.Process.{is_receiving, is_stopped}
-use Rattle.ce_model.specs.Node.{Node, Call, takes, kills, blocks_of, ids_of, take_of}
+use Rattle.ce_model.specs.Node.{Node, Call, take_call, spawn_call, kill_call, blocks_of, ids_of, take_of}
 use Rattle.ce_model.specs.Sound.{is_unborn}
 use Rattle.ce_solo.proofs.Counting.{hit-self, count, count-nil, count-one}
 use Rattle.ce_solo.proofs.Items.{parcel_ids}
@@ -21,14 +21,14 @@ use Rattle.ce_solo.proofs.Words.{call_ids}
 use Rattle.ce_solo.proofs.HandedOver.{find-passes}
 use Rattle.rk_mail.specs.declared.talk.Hearing.{Hearing}
 use Rattle.rk_mail.specs.declared.talk.Hearing.TheVariants.{Poll, Idle}
-use Rattle.rk_mail.specs.declared.talk.Hearing.TheVariants as heard
-use Rattle.rk_mail.specs.Talk.{is_of_take, IsAnswerTo, heard_of_kill}
+use Rattle.rk_mail.specs.declared.talk.Hearing.TheVariants as hearing
+use Rattle.rk_mail.specs.Talk.{is_of_take, IsAnswerTo, heard_of_spawn, heard_of_kill}
 use Rattle.rk_node.specs.Boxes.{Box}
 use Rattle.rk_node.specs.Answering.{IsWork}
 use Rattle.xm_block.proofs.HomeBlocks.{length-blocks_of_home}
 use Rattle.rk_node.proofs.Names.{not_contained}
 use Rattle.rk_node.proofs.Sorted.{once-rising, rising-home}
-use Rattle.rk_rows.specs.Lone.{heard_ids, AreAtOnePlace, HasQueued, IsFor, IsAnswerable, IsAnswered}
+use Rattle.rk_rows.specs.Lone.{heard_ids, AreAtOnePlace, HasQueued, IsFor, IsAnswerable, IsAnsweredAlone}
 use Rattle.rk_rows.proofs.Counts.{length-counts, taken-ids}
 
 -- ---- processes that were started, and that weren't
@@ -45,13 +45,13 @@ born-is status born e = absurd (both_ways (is_unborn status) born (ap is_unborn 
 
 -- ---- what a Take says
 
-taken-asking : (asking dead : ℕ) (poller : Option ℕ) (node : Node) → takes asking dead poller ≡ take_of node → asking ≡ ids_of is_receiving node.processes
+taken-asking : (asking dead : ℕ) (poller : Option ℕ) (node : Node) → take_call asking dead poller ≡ take_of node → asking ≡ ids_of is_receiving node.processes
 taken-asking asking dead poller node e = cc
 
-taken-dead : (asking dead : ℕ) (poller : Option ℕ) (node : Node) → takes asking dead poller ≡ take_of node → dead ≡ ids_of is_stopped node.processes
+taken-dead : (asking dead : ℕ) (poller : Option ℕ) (node : Node) → take_call asking dead poller ≡ take_of node → dead ≡ ids_of is_stopped node.processes
 taken-dead asking dead poller node e = cc
 
-taken-poller : (asking dead : ℕ) (poller : Option ℕ) (node : Node) → takes asking dead poller ≡ take_of node → poller ≡ slice_get node.polling 0
+taken-poller : (asking dead : ℕ) (poller : Option ℕ) (node : Node) → take_call asking dead poller ≡ take_of node → poller ≡ slice_get node.polling_ids 0
 taken-poller asking dead poller node e = cc
 
 -- ---- blocks
@@ -72,7 +72,7 @@ few-blocks box away items room at =
     )
 
 -- an item that waits and can be given is one for the box
-pub item-for : (box : Box) (asking dead : ℕ) (poller : Option ℕ) (items : List Item) (item : Item) → IsAnswerable box (takes asking dead poller) items
+pub item-for : (box : Box) (asking dead : ℕ) (poller : Option ℕ) (items : List Item) (item : Item) → IsAnswerable box (take_call asking dead poller) items
     → find (is_eligible asking dead) items ≡ Some item → IsFor box item
 item-for box asking dead poller items (start pid image) can found = tt
 item-for box asking dead poller items (kill pid) can found = tt
@@ -85,17 +85,17 @@ item-for box asking dead poller items (mail parcel) can found =
       eligible = subst (λ asking. IsTrue (is_eligible asking (ids_of is_stopped box.node.processes) (mail parcel))) (taken-asking asking dead poller box.node is)
           (subst (λ dead. IsTrue (is_eligible asking dead (mail parcel))) (taken-dead asking dead poller box.node is) passes);
       apart = not_contained id (blocks_of box.node) (omega (arith, can.places.places id, own-once id, waits, count-one id id, hit-self id));
-      room = few-blocks box (call_ids (takes asking dead poller)) items can.room can.places;
+      room = few-blocks box (call_ids (take_call asking dead poller)) items can.room can.places;
     }
 
 -- ---- answers
 
 -- the item is given
 pub item-answers : (images : List ImageParts) (box : Box) (asking dead : ℕ) (poller : Option ℕ) (items rest : List Item) (item : Item) (heard : Hearing)
-    → IsAnswerable box (takes asking dead poller) items → find (is_eligible asking dead) items ≡ Some item → rest ≡ without_first (is_eligible asking dead) items
-    → IsWork images box heard → IsTrue (is_of_take heard) → heard_ids heard ≡ parcel_ids (item ∷ []) → IsAnswered images box heard rest
+    → IsAnswerable box (take_call asking dead poller) items → find (is_eligible asking dead) items ≡ Some item → rest ≡ without_first (is_eligible asking dead) items
+    → IsWork images box heard → IsTrue (is_of_take heard) → heard_ids heard ≡ parcel_ids (item ∷ []) → IsAnsweredAlone images box heard rest
 item-answers images box asking dead poller items rest item heard can found left work take blocks = record {
-  can = record { call = takes asking dead poller; said = can.said; answer = take; work = work };
+  can = record { call = take_call asking dead poller; said = can.said; answer = take; work = work };
   places = record {
     places = λ id. omega (
       arith,
@@ -109,30 +109,36 @@ item-answers images box asking dead poller items rest item heard can found left 
 }
 
 -- the one that polls longest is told so
-pub poll-answers : (images : List ImageParts) (box : Box) (asking dead pid : ℕ) (items : List Item) → IsAnswerable box (takes asking dead (Some pid)) items
-    → IsAnswered images box (Poll pid) items
+pub poll-answers : (images : List ImageParts) (box : Box) (asking dead pid : ℕ) (items : List Item) → IsAnswerable box (take_call asking dead (Some pid)) items
+    → IsAnsweredAlone images box (Poll pid) items
 poll-answers images box asking dead pid items can = record {
-  can = record { call = takes asking dead (Some pid); said = can.said; answer = refl; work = sym (taken-poller asking dead (Some pid) box.node can.said.2) };
+  can = record { call = take_call asking dead (Some pid); said = can.said; answer = refl; work = sym (taken-poller asking dead (Some pid) box.node can.said.2) };
   places = record { places = λ id. can.places.places id };
 }
 
-pub idle-answers : (images : List ImageParts) (box : Box) (asking dead : ℕ) (items : List Item) → IsAnswerable box (takes asking dead None) items → IsAnswered images box Idle items
+pub idle-answers : (images : List ImageParts) (box : Box) (asking dead : ℕ) (items : List Item) → IsAnswerable box (take_call asking dead None) items → IsAnsweredAlone images box Idle items
 idle-answers images box asking dead items can = record {
-  can = record { call = takes asking dead None; said = can.said; answer = refl; work = tt };
+  can = record { call = take_call asking dead None; said = can.said; answer = refl; work = tt };
   places = record { places = λ id. can.places.places id };
 }
 
 -- a call that asks for no work is answered, and its blocks wait
 pub call-answers : (images : List ImageParts) (box : Box) (call : Call) (before after : List Item) (heard : Hearing) → IsAnswerable box call before → IsAnswerTo call heard
-    → IsWork images box heard → heard_ids heard ≡ [] → HasQueued (call_ids call) before after → IsAnswered images box heard after
+    → IsWork images box heard → heard_ids heard ≡ [] → HasQueued (call_ids call) before after → IsAnsweredAlone images box heard after
 call-answers images box call before after heard can answer work none queued = record {
   can = record { call = call; said = can.said; answer = answer; work = work };
   places = record { places = λ id. omega (arith, can.places.places id, queued.counts id, ap (count id) none, count-nil id) };
 }
 
+-- a spawn is answered by whether the id was never used before
+pub spawn-answers : (images : List ImageParts) (box : Box) (pid image : ℕ) (to : Place) (before after : List Item) (fresh : Bool) → IsAnswerable box (spawn_call pid image to) before
+    → HasQueued [] before after → IsAnsweredAlone images box (heard_of_spawn fresh) after
+spawn-answers images box pid image to before after true can queued = call-answers images box (spawn_call pid image to) before after hearing.Spawned can (inl refl) tt refl queued
+spawn-answers images box pid image to before after false can queued = call-answers images box (spawn_call pid image to) before after hearing.Used can (inr refl) tt refl queued
+
 -- a kill is answered by what it found
-pub kill-answers : (images : List ImageParts) (box : Box) (pid : ℕ) (to : Place) (before after : List Item) (found : KillFound) → IsAnswerable box (kills pid to) before
-    → HasQueued [] before after → IsAnswered images box (heard_of_kill found) after
-kill-answers images box pid to before after Killed can queued = call-answers images box (kills pid to) before after heard.Killed can (inl refl) tt refl queued
-kill-answers images box pid to before after Unused can queued = call-answers images box (kills pid to) before after heard.Unused can (inr (inl refl)) tt refl queued
-kill-answers images box pid to before after Already can queued = call-answers images box (kills pid to) before after heard.Already can (inr (inr refl)) tt refl queued
+pub kill-answers : (images : List ImageParts) (box : Box) (pid : ℕ) (to : Place) (before after : List Item) (found : KillFound) → IsAnswerable box (kill_call pid to) before
+    → HasQueued [] before after → IsAnsweredAlone images box (heard_of_kill found) after
+kill-answers images box pid to before after Killed can queued = call-answers images box (kill_call pid to) before after hearing.Killed can (inl refl) tt refl queued
+kill-answers images box pid to before after Unused can queued = call-answers images box (kill_call pid to) before after hearing.Unused can (inr (inl refl)) tt refl queued
+kill-answers images box pid to before after Already can queued = call-answers images box (kill_call pid to) before after hearing.Already can (inr (inr refl)) tt refl queued

@@ -6,7 +6,7 @@ use Rattle.ce_model.specs.declared.topology.BlockId.{BlockId}
 use Rattle.ce_model.specs.Limits.{greatest_blocks}
 use Rattle.ce_model.specs.Node.{Node, Call, process_at, blocks_of}
 use Rattle.ce_model.specs.Saying.{says}
-use Rattle.ce_model.specs.Hearing.{hears}
+use Rattle.ce_model.specs.Hearing.{node_after_hearing}
 use Rattle.ce_model.specs.Sound.{is_unborn, is_polling, IsSoundTurn}
 use Rattle.ce_solo.proofs.Counting.{count, count-nil}
 use Rattle.ce_solo.proofs.Nodes.{polls, IsWell}
@@ -25,13 +25,13 @@ use Rattle.rk_node.specs.Taken.{HasTakenOut}
 use Rattle.rk_node.proofs.Answered.{once-come, born_status, polling-receives, take-idle, work-of}
 use Rattle.rk_node.proofs.Polling.{polls-head}
 use Rattle.rk_node.proofs.Sorted.{idle-well, idle-fresh, idle-blocks}
-use Rattle.rk_rows.specs.Lone.{heard_ids, HasQueued, IsAnswerable, IsAnswered, IsAtRest}
+use Rattle.rk_rows.specs.Lone.{heard_ids, HasQueued, IsAnswerable, IsAnsweredAlone, IsAloneAtRest}
 
 -- ---- a fresh box
 
-pub fresh-rests : (box : Box) (images : List ImageParts) (queue : Queue) (spare n : ℕ) → box.node ≡ fresh_at 0 0 0 n → box.out ≡ Nothing → greatest_blocks ≤ box.room
-    → length images ≡ n → queue.items ≡ [] → spare ≤ queue.spare → IsAtRest box images queue spare
-fresh-rests box images queue spare n fresh idle room long empty within = record {
+pub fresh-rests : (box : Box) (images : List ImageParts) (queue : Queue) (n : ℕ) → box.node ≡ fresh_at 0 0 0 n → box.out ≡ Nothing → greatest_blocks ≤ box.room
+    → length images ≡ n → queue.items ≡ [] → IsAloneAtRest box images queue
+fresh-rests box images queue n fresh idle room long empty = record {
   idle = idle;
   well = subst (λ (node : Node). IsWell node.turn node) (sym fresh) (idle-well (fresh_at 0 0 0 n) (idle-fresh 0 0 0 n));
   sound = subst (λ (node : Node). IfSome node.turn IsSoundTurn) (sym fresh) tt;
@@ -46,15 +46,14 @@ fresh-rests box images queue spare n fresh idle room long empty within = record 
       ap (λ items. count id (parcel_ids items)) empty,
     );
   };
-  spare = within;
 }
 
 -- ---- what was said
 
 -- a box that has said a call waits for its answer
-pub said-answerable : (before after : Box) (call : Call) (images : List ImageParts) (queue : Queue) (spare : ℕ) → IsAtRest before images queue spare → HasSaid after call
+pub said-answerable : (before after : Box) (call : Call) (images : List ImageParts) (queue : Queue) → IsAloneAtRest before images queue → HasSaid after call
     → after.room ≡ before.room → HasTakenOut before.node after.node call → IsAnswerable after call queue.items
-said-answerable before after call images queue spare rests said room out = record {
+said-answerable before after call images queue rests said room out = record {
   said = said;
   room = omega (arith, room, rests.room);
   places = record { places = λ id. omega (arith, rests.places.places id, out id, count-nil id) };
@@ -70,11 +69,11 @@ pub record IsAfter (node node' : Node) (come : List BlockId) : Type 0 where
   pub blocks : (id : BlockId) → count id (blocks_of node') ≡ count id (blocks_of node) + count id come
 
 heard-after : (node node' : Node) (come : List BlockId) → HasHeardAnswer node node' come → IsAfter node node' come
-heard-after node node' come hears = record {
-  well = hears.became.well;
-  sound = hears.turn;
-  images = hears.became.images;
-  blocks = λ id. omega (arith, hears.became.blocks id, count-nil id);
+heard-after node node' come node_after_hearing = record {
+  well = node_after_hearing.became.well;
+  sound = node_after_hearing.turn;
+  images = node_after_hearing.became.images;
+  blocks = λ id. omega (arith, node_after_hearing.became.blocks id, count-nil id);
 }
 
 first-polls : (pid : ℕ) (polling : List ℕ) → slice_get polling 0 ≡ Some pid → 1 ≤ polls pid polling
@@ -82,18 +81,18 @@ first-polls pid [] e = absurd (cc)
 first-polls pid (x ∷ xs) e = let same : x ≡ pid = cc in subst (λ q. 1 ≤ polls q (x ∷ xs)) same (polls-head x xs)
 
 -- the one that polls longest polls
-poller-polls : (node : Node) (pid : ℕ) → IsWell node.turn node → slice_get node.polling 0 ≡ Some pid → is_polling (process_at node pid).status ≡ true
+poller-polls : (node : Node) (pid : ℕ) → IsWell node.turn node → slice_get node.polling_ids 0 ≡ Some pid → is_polling (process_at node pid).status ≡ true
 poller-polls node pid well e =
     elim (cases_Bool (is_polling (process_at node pid).status)) [
       | inl t ↦ t
-      | inr f ↦ absurd (omega (arith, first-polls pid node.polling e, well.polling pid, ap {B = ℕ} (λ b. if b then 1 else 0) f))
+      | inr f ↦ absurd (omega (arith, first-polls pid node.polling_ids e, well.polling_ids pid, ap {B = ℕ} (λ b. if b then 1 else 0) f))
     ]
 
 module _ (images : List ImageParts) (box : Box) (well : IsWell box.node.turn box.node) (sound : IfSome box.node.turn IsSoundTurn) where
   well-idle : box.node.turn ≡ None → IsWell None box.node
   well-idle none = subst (λ turn. IsWell turn box.node) none well
 
-  pub hears-after : (heard : Hearing) → IsAbleToHear images box heard → IsAfter box.node (hears images box.node (heard_as heard)) (heard_ids heard)
+  pub hears-after : (heard : Hearing) → IsAbleToHear images box heard → IsAfter box.node (node_after_hearing images box.node (heard_as heard)) (heard_ids heard)
   hears-after (Start pid image) can =
       let none = take-idle box can.call (Start pid image) can.said can.answer refl in
       let begins = start-begins images box.node pid image (well-idle none) can.work.0 (ap is_unborn can.work.1) in
@@ -119,10 +118,10 @@ module _ (images : List ImageParts) (box : Box) (well : IsWell box.node.turn box
   hears-after Noted can = heard-after box.node _ _ (nothing-hears images box.node well sound)
 
 -- a box that has heard the answer is at rest again
-pub heard-rests : (images : List ImageParts) (before said after : Box) (heard : Hearing) (queue queue' : Queue) (spare spare' : ℕ) → IsAtRest before images queue spare
-    → said.node ≡ (says before.node).node → said.room ≡ before.room → IsAnswered images said heard queue'.items
-    → after.node ≡ hears images said.node (heard_as heard) → after.room ≡ said.room → after.out ≡ Nothing → spare' ≤ queue'.spare → IsAtRest after images queue' spare'
-heard-rests images before said after heard queue queue' spare spare' rests is room answered heard_is room' idle within =
+pub heard-rests : (images : List ImageParts) (before said after : Box) (heard : Hearing) (queue queue' : Queue) → IsAloneAtRest before images queue
+    → said.node ≡ (says before.node).node → said.room ≡ before.room → IsAnsweredAlone images said heard queue'.items
+    → after.node ≡ node_after_hearing images said.node (heard_as heard) → after.room ≡ said.room → after.out ≡ Nothing → IsAloneAtRest after images queue'
+heard-rests images before said after heard queue queue' rests is room answered heard_is room' idle =
     let leaves = (says-said before.node rests.well rests.sound).leaves in
     let well = subst (λ (node : Node). IsWell node.turn node) (sym is) leaves.became.well in
     let sound = subst (λ (node : Node). IfSome node.turn IsSoundTurn) (sym is) leaves.turn in
@@ -136,24 +135,22 @@ heard-rests images before said after heard queue queue' spare spare' rests is ro
       places = record {
         places = λ id. omega (arith, answered.places.places id, now.blocks id, ap (λ (node : Node). count id (blocks_of node)) heard_is, count-nil id);
       };
-      spare = within;
     }
 
 -- the list of images is as long as the box was told, also once it has said something
-pub said-images : (images : List ImageParts) (before said : Box) (queue : Queue) (spare : ℕ) → IsAtRest before images queue spare → said.node ≡ (says before.node).node
+pub said-images : (images : List ImageParts) (before said : Box) (queue : Queue) → IsAloneAtRest before images queue → said.node ≡ (says before.node).node
     → length images ≡ said.node.images
-said-images images before said queue spare rests is =
+said-images images before said queue rests is =
     rests.images ∙ sym (ap (λ (node : Node). node.images) is ∙ (says-said before.node rests.well rests.sound).leaves.became.images)
 
 -- nothing else waits than before that has a block
-pub queued-rests : (box : Box) (images : List ImageParts) (queue queue' : Queue) (spare spare' : ℕ) → IsAtRest box images queue spare → HasQueued [] queue.items queue'.items
-    → spare' ≤ queue'.spare → IsAtRest box images queue' spare'
-queued-rests box images queue queue' spare spare' rests queued within = record {
+pub queued-rests : (box : Box) (images : List ImageParts) (queue queue' : Queue) → IsAloneAtRest box images queue → HasQueued [] queue.items queue'.items
+    → IsAloneAtRest box images queue'
+queued-rests box images queue queue' rests queued = record {
   idle = rests.idle;
   well = rests.well;
   sound = rests.sound;
   images = rests.images;
   room = rests.room;
   places = record { places = λ id. omega (arith, rests.places.places id, queued.counts id, count-nil id) };
-  spare = within;
 }

@@ -8,7 +8,7 @@ use Rattle.ce_model.specs.Blocks.{Block, blocks_of_home}
 use Rattle.ce_model.specs.Parcels.{Item, mail}
 use Rattle.ce_model.specs.Node.{Node, Call, blocks_of}
 use Rattle.ce_model.specs.Saying.{says}
-use Rattle.ce_model.specs.Hearing.{hears}
+use Rattle.ce_model.specs.Hearing.{node_after_hearing}
 use Rattle.ce_model.specs.Sound.{IsSoundTurn}
 use Rattle.ce_solo.proofs.Counting.{count}
 use Rattle.ce_solo.proofs.Nodes.{IsWell}
@@ -52,25 +52,24 @@ pub record IsAnswerable (box : Box) (call : Call) (items : List Item) : Type 0 w
   pub places : AreAtOnePlace box.node (call_ids call) items
 
 -- the box can hear this answer, while these items wait for it
-pub record IsAnswered (images : List ImageParts) (box : Box) (heard : Hearing) (items : List Item) : Type 0 where
+pub record IsAnsweredAlone (images : List ImageParts) (box : Box) (heard : Hearing) (items : List Item) : Type 0 where
   pub can : IsAbleToHear images box heard
   pub places : AreAtOnePlace box.node (heard_ids heard) items
 
 -- no call of the box but a Take is out, and each of its blocks is at one place
-pub record IsAtRest (box : Box) (list : List ImageParts) (queue : Queue) (room_left : ℕ) : Type 0 where
+pub record IsAloneAtRest (box : Box) (list : List ImageParts) (queue : Queue) : Type 0 where
   pub idle : box.out ≡ Nothing
   pub well : IsWell box.node.turn box.node
   pub sound : IfSome box.node.turn IsSoundTurn
   pub images : length list ≡ box.node.images
   pub room : greatest_blocks ≤ box.room
   pub places : AreAtOnePlace box.node [] queue.items
-  pub spare : room_left ≤ queue.spare
 
 -- the box has said what it says, and has heard an answer that it could hear
-pub record HasExchanged (before after : Box) : Type 0 where
+pub record HasExchangedAlone (before after : Box) : Type 0 where
   pub images : List ImageParts
   pub said : Box
   pub heard : Hearing
   pub said_is : said.node ≡ (says before.node).node
   pub can : IsAbleToHear images said heard
-  pub heard_is : after.node ≡ hears images said.node (heard_as heard)
+  pub heard_is : after.node ≡ node_after_hearing images said.node (heard_as heard)

@@ -1,17 +1,17 @@
 ghost use Rattle.std.specs.Prelude.{◌≡◌, ◌<◌, ◌≤◌, IfOk, IsTrue, [], ◌∷◌, map};
 ghost use Rattle.ce_model.specs.Limits.{process_count};
 ghost use Rattle.ce_model.specs.Parcels.{item_id};
-ghost use Rattle.ce_model.specs.Node.{takes};
+ghost use Rattle.ce_model.specs.Node.{take_call};
 ghost use Rattle.ce_solo.proofs.Items.{parcel_ids};
 ghost use Rattle.rk_mail.specs.Items.{item_of};
 ghost use Rattle.rk_mail.specs.Talk.{call_said, is_of_take};
 ghost use Rattle.rk_node.specs.Answering.{IsWork};
-ghost use Rattle.rk_rows.specs.Lone.{heard_ids, batch_ids, HasQueued, IsFor, IsAnswerable, IsAnswered};
+ghost use Rattle.rk_rows.specs.Lone.{heard_ids, batch_ids, HasQueued, IsFor, IsAnswerable, IsAnsweredAlone};
 
-use crate::fault::Fault;
+use crate::fault::RowFault;
 use crate::transcript::Transcript;
 use ce_model::{HOST, KillFound, PROCESS_COUNT, Place, Status};
-use rk_mail::{Batch, Hearing, Item, Mailbox, Parcel, Say};
+use rk_mail::{Batch, Hearing, Item, Mailbox, Parcel, Say, heard_of_kill, heard_of_spawn};
 use rk_node::NodeBox;
 use rv_image::Image;
 use std::alloc::Global;
@@ -34,25 +34,25 @@ pub(crate) enum Life {
 /// What answers a node that is alone: the items that wait for it, for how many more there is room at least, what became of each
 /// process id, how many parcels there were, and what was said so far.
 #[derive(Drop)]
-pub(crate) struct Desk {
+pub(crate) struct LoneDesk {
     pub mailbox: Mailbox,
     pub spare: u32,
     pub lives: Vec<Life>,
     pub parcels: u64,
     pub transcript: Transcript,
+    ghost within: { spare ≤ mailbox.spare },
 }
 
-impl Desk {
+impl LoneDesk {
     /// Nothing waits, and no process id was used.
-    pub fn new(alloc: Global, is_told: bool) -> Result<Desk, Fault>
-        ensures empty { IfOk result (λ desk. desk.mailbox.items ≡ []) }
-        ensures spare { IfOk result (λ desk. desk.spare ≤ desk.mailbox.spare) }
+    pub fn new(alloc: Global, is_told: bool) -> Result<LoneDesk, RowFault>
+        ensures { IfOk result (λ desk. desk.mailbox.items ≡ []) }
     {
         let mut lives = Vec::with_capacity(alloc, PROCESS_COUNT as usize)?;
         for _ in 0..PROCESS_COUNT {
             lives.push(Life::Unused)?;
         }
-        Ok(Desk {
+        Ok(LoneDesk {
             mailbox: Mailbox::new(alloc, QUEUE_ROOM)?,
             spare: QUEUE_ROOM,
             lives,
@@ -68,15 +68,13 @@ impl Desk {
     }
 
     /// An item waits from now on.
-    fn queues(&mut self, item: Item) -> Result<(), Fault>
-        requires process { item_id (item_of item) < process_count }
-        requires spare { self.old.spare ≤ self.old.mailbox.spare }
-        ensures queued { IfOk result (λ _. HasQueued (parcel_ids (item_of item ∷ []))
+    fn queue(&mut self, item: Item) -> Result<(), RowFault>
+        requires { item_id (item_of item) < process_count }
+        ensures { IfOk result (λ _. HasQueued (parcel_ids (item_of item ∷ []))
             self.old.mailbox.items self.new.mailbox.items) }
-        ensures spare { IfOk result (λ _. self.new.spare ≤ self.new.mailbox.spare) }
     {
         if self.spare == 0 {
-            return Err(Fault::Full);
+            return Err(RowFault::Full);
         }
         self.spare -= 1;
         self.mailbox.post(item);
@@ -84,16 +82,14 @@ impl Desk {
     }
 
     /// The start of an image as a process waits, unless the process id was used: whether it was fresh.
-    pub fn spawns(&mut self, image: u32, pid: u32) -> Result<bool, Fault>
-        requires { self.old.spare ≤ self.old.mailbox.spare }
-        ensures queued { IfOk result (λ _. HasQueued []
+    pub fn accept_spawn(&mut self, image: u32, pid: u32) -> Result<bool, RowFault>
+        ensures { IfOk result (λ _. HasQueued []
             self.old.mailbox.items self.new.mailbox.items) }
-        ensures spare { IfOk result (λ _. self.new.spare ≤ self.new.mailbox.spare) }
     {
         match life_at(&self.lives, pid)? {
             Life::Unused => {
                 set_life(&mut self.lives, pid, Life::Used);
-                self.queues(Item::Start { pid, image })?;
+                self.queue(Item::Start { pid, image })?;
                 Ok(true)
             }
             Life::Used | Life::Killed => Ok(false),
@@ -101,16 +97,14 @@ impl Desk {
     }
 
     /// The end of a process waits, unless the process id wasn't used or a kill was accepted before.
-    pub fn kills(&mut self, pid: u32) -> Result<KillFound, Fault>
-        requires { self.old.spare ≤ self.old.mailbox.spare }
-        ensures queued { IfOk result (λ _. HasQueued []
+    pub fn accept_kill(&mut self, pid: u32) -> Result<KillFound, RowFault>
+        ensures { IfOk result (λ _. HasQueued []
             self.old.mailbox.items self.new.mailbox.items) }
-        ensures spare { IfOk result (λ _. self.new.spare ≤ self.new.mailbox.spare) }
     {
         match life_at(&self.lives, pid)? {
             Life::Used => {
                 set_life(&mut self.lives, pid, Life::Killed);
-                self.queues(Item::Kill { pid })?;
+                self.queue(Item::Kill { pid })?;
                 Ok(KillFound::Killed)
             }
             Life::Unused => Ok(KillFound::Unused),
@@ -119,22 +113,20 @@ impl Desk {
     }
 
     /// A block goes its way: a parcel for a process of the node waits, and what is for the host is gone.
-    fn delivers(&mut self, from: Place, to: Place, block: Block) -> Result<(), Fault>
-        requires { self.old.spare ≤ self.old.mailbox.spare }
-        ensures queued { IfOk result (λ _. HasQueued (block.id ∷ [])
+    fn deliver(&mut self, from: Place, to: Place, block: Block) -> Result<(), RowFault>
+        ensures { IfOk result (λ _. HasQueued (block.id ∷ [])
             self.old.mailbox.items self.new.mailbox.items) }
-        ensures spare { IfOk result (λ _. self.new.spare ≤ self.new.mailbox.spare) }
     {
         self.transcript.target(to, block.id())?;
         let number = self.parcels;
-        self.parcels = number.checked_add(1).ok_or(Fault::Full)?;
+        self.parcels = number.checked_add(1).ok_or(RowFault::Full)?;
         if to.node == HOST {
             return Ok(());
         }
         if to.node != 0 || to.pid >= PROCESS_COUNT {
-            return Err(Fault::Place);
+            return Err(RowFault::Place);
         }
-        self.queues(Item::Mail(Parcel {
+        self.queue(Item::Mail(Parcel {
             from,
             to,
             number,
@@ -143,44 +135,40 @@ impl Desk {
     }
 
     /// The blocks of a message go their ways; its batch is empty then.
-    fn sends(&mut self, pid: u32, mut batch: Batch) -> Result<Batch, Fault>
-        requires { self.old.spare ≤ self.old.mailbox.spare }
+    fn send(&mut self, pid: u32, mut batch: Batch) -> Result<Batch, RowFault>
         ensures emptied { IfOk result (λ rest. rest ≡ []) }
         ensures queued { IfOk result (λ _. HasQueued (batch_ids batch)
             self.old.mailbox.items self.new.mailbox.items) }
-        ensures spare { IfOk result (λ _. self.new.spare ≤ self.new.mailbox.spare) }
     {
         if batch.count() == 0 {
-            return Err(Fault::Place);
+            return Err(RowFault::Place);
         }
         self.transcript.message(pid, self.parcels, batch.bytes())?;
         let from = Place { node: 0, pid };
         while let Some((to, block)) = batch.take_first() {
-            self.delivers(from, to, block)?;
+            self.deliver(from, to, block)?;
         }
         self.transcript.end()?;
         Ok(batch)
     }
 
     /// The answer to a Take: the first item that can be given, else a poll, else nothing.
-    fn takes(
+    fn take(
         &mut self,
         node: &NodeBox,
         images: &[Image],
         asking: u32,
         dead: u32,
         poller: Option<u32>,
-    ) -> Result<Hearing, Fault>
-        requires spare { self.old.spare ≤ self.old.mailbox.spare }
-        requires said { IsAnswerable node.now (takes asking dead poller) self.old.mailbox.items }
-        ensures heard { IfOk result (λ heard. IsAnswered images.now node.now heard
+    ) -> Result<Hearing, RowFault>
+        requires { IsAnswerable node.now (take_call asking dead poller) self.old.mailbox.items }
+        ensures { IfOk result (λ heard. IsAnsweredAlone images.now node.now heard
             self.new.mailbox.items) }
-        ensures spare { IfOk result (λ _. self.new.spare ≤ self.new.mailbox.spare) }
     {
         let heard = match self.mailbox.next(asking, dead) {
             Some(item) => {
                 self.spare = self.spare.saturating_add(1);
-                given(node, images, item)?
+                hearing_of_item(node, images, item)?
             }
             None => match poller {
                 Some(pid) => Hearing::Poll { pid },
@@ -192,31 +180,30 @@ impl Desk {
     }
 
     /// The answer to what the node has said.
-    pub fn answers(&mut self, node: &NodeBox, images: &[Image], said: Say) -> Result<Hearing, Fault>
-        requires spare { self.old.spare ≤ self.old.mailbox.spare }
-        requires said { IsAnswerable node.now (call_said said) self.old.mailbox.items }
-        ensures heard { IfOk result (λ heard. IsAnswered images.now node.now heard
+    pub fn answer(
+        &mut self,
+        node: &NodeBox,
+        images: &[Image],
+        said: Say,
+    ) -> Result<Hearing, RowFault>
+        requires { IsAnswerable node.now (call_said said) self.old.mailbox.items }
+        ensures { IfOk result (λ heard. IsAnsweredAlone images.now node.now heard
             self.new.mailbox.items) }
-        ensures spare { IfOk result (λ _. self.new.spare ≤ self.new.mailbox.spare) }
     {
         match said {
             Say::Take {
                 asking,
                 dead,
                 poller,
-            } => self.takes(node, images, asking, dead, poller),
-            Say::Send { pid, batch } => Ok(Hearing::Posted(self.sends(pid, batch)?)),
+            } => self.take(node, images, asking, dead, poller),
+            Say::Send { pid, batch } => Ok(Hearing::Posted(self.send(pid, batch)?)),
             Say::Spawn { pid, image, to } => {
-                let is_fresh = self.spawns(image, to.pid)?;
+                let is_fresh = self.accept_spawn(image, to.pid)?;
                 self.transcript.spawn(pid, image, to, is_fresh)?;
-                Ok(if is_fresh {
-                    Hearing::Spawned
-                } else {
-                    Hearing::Used
-                })
+                Ok(heard_of_spawn(is_fresh))
             }
             Say::Kill { pid, to } => {
-                let found = self.kills(to.pid)?;
+                let found = self.accept_kill(to.pid)?;
                 self.transcript.kill(pid, to, found)?;
                 Ok(heard_of_kill(found))
             }
@@ -228,28 +215,15 @@ impl Desk {
     }
 }
 
-/// What a node hears of a kill.
-fn heard_of_kill(found: KillFound) -> Hearing
-    ensures { result ≡ heard_of_kill found }
-{
-    match found {
-        KillFound::Killed => Hearing::Killed,
-        KillFound::Unused => Hearing::Unused,
-        KillFound::Already => Hearing::Already,
-    }
-}
-
-ghost use Rattle.rk_mail.specs.Talk.{heard_of_kill};
-
 /// What became of a process id, which is below 8.
 #[tactic(auto, using(ce_model::specs::Limits::process_count_lem))]
-fn life_at(lives: &Vec<Life>, pid: u32) -> Result<Life, Fault>
+fn life_at(lives: &Vec<Life>, pid: u32) -> Result<Life, RowFault>
     ensures { IfOk result (λ _. pid < process_count) }
 {
     if pid >= PROCESS_COUNT {
-        return Err(Fault::Place);
+        return Err(RowFault::Place);
     }
-    lives.get(pid as usize).copied().ok_or(Fault::Place)
+    lives.get(pid as usize).copied().ok_or(RowFault::Place)
 }
 
 /// Says what becomes of a process id.
@@ -260,7 +234,7 @@ fn set_life(lives: &mut Vec<Life>, pid: u32, life: Life) {
 }
 
 /// What a node hears that is given an item.
-fn given(node: &NodeBox, images: &[Image], item: Item) -> Result<Hearing, Fault>
+fn hearing_of_item(node: &NodeBox, images: &[Image], item: Item) -> Result<Hearing, RowFault>
     requires { IsFor node.now (item_of item) }
     ensures work { IfOk result (λ heard. IsWork images.now node.now heard) }
     ensures take { IfOk result (λ heard. IsTrue (is_of_take heard)) }
@@ -274,7 +248,7 @@ fn given(node: &NodeBox, images: &[Image], item: Item) -> Result<Hearing, Fault>
             {
                 Ok(Hearing::Start { pid, image })
             } else {
-                Err(Fault::Unfit)
+                Err(RowFault::Unfit)
             }
         }
         Item::Mail(parcel) => Ok(Hearing::Mail(parcel)),
@@ -282,7 +256,7 @@ fn given(node: &NodeBox, images: &[Image], item: Item) -> Result<Hearing, Fault>
             if pid < PROCESS_COUNT && !is_unborn(node.status(pid)) {
                 Ok(Hearing::Kill { pid })
             } else {
-                Err(Fault::Unfit)
+                Err(RowFault::Unfit)
             }
         }
     }

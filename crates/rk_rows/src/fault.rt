@@ -4,7 +4,7 @@ use thiserror::Error;
 
 /// Why a step of a node that is driven by hand was not made. No further step is made then.
 #[derive(Clone, Copy, Debug, PartialEq, Eq, Error)]
-pub enum Fault {
+pub enum RowFault {
     /// There are more than 64 images.
     #[error("too many images")]
     Images,
@@ -24,24 +24,24 @@ pub enum Fault {
     #[error("endless")]
     Endless,
     /// Memory ran out.
-    #[error("no memory")]
+    #[error("{0}")]
     Memory(NoMemory),
 }
 
-impl From<NoMemory> for Fault {
-    fn from(fault: NoMemory) -> Fault {
-        Fault::Memory(fault)
+impl From<NoMemory> for RowFault {
+    fn from(fault: NoMemory) -> RowFault {
+        RowFault::Memory(fault)
     }
 }
 
-impl From<AllocError> for Fault {
-    fn from(_: AllocError) -> Fault {
-        Fault::Memory(NoMemory)
+impl From<AllocError> for RowFault {
+    fn from(_: AllocError) -> RowFault {
+        RowFault::Memory(NoMemory)
     }
 }
 
-impl<T: Drop> From<AllocFailed<T>> for Fault {
-    fn from(_: AllocFailed<T>) -> Fault {
-        Fault::Memory(NoMemory)
+impl<T: Drop> From<AllocFailed<T>> for RowFault {
+    fn from(_: AllocFailed<T>) -> RowFault {
+        RowFault::Memory(NoMemory)
     }
 }

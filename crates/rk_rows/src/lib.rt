@@ -6,7 +6,7 @@ mod fault;
 mod lone_node;
 mod transcript;
 
-pub use fault::Fault;
+pub use fault::RowFault;
 pub use lone_node::LoneNode;
 
 #[cfg(test)]

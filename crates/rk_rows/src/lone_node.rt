@@ -1,10 +1,10 @@
 ghost use Rattle.std.specs.Prelude.{◌≡◌, ◌<◌, IfOk, false};
 ghost use Rattle.ce_model.specs.Limits.{process_count};
 ghost use Rattle.ce_model.specs.Node.{process_at};
-ghost use Rattle.rk_rows.specs.Lone.{HasExchanged};
+ghost use Rattle.rk_rows.specs.Lone.{HasExchangedAlone};
 
-use crate::desk::Desk;
-use crate::fault::Fault;
+use crate::desk::LoneDesk;
+use crate::fault::RowFault;
 use crate::transcript::Transcript;
 use ce_model::{GREATEST_BLOCKS, GREATEST_IMAGES, KillFound, PROCESS_COUNT, Status};
 use rk_mail::Hearing;
@@ -19,76 +19,76 @@ use std::marker::Model;
 pub struct LoneNode {
     node: NodeBox,
     images: Vec<Image>,
-    desk: Desk,
+    desk: LoneDesk,
     is_stuck: bool,
 }
 
 impl Model for LoneNode {
     ghost use Rattle.std.specs.Prelude.{◌≡◌, false};
     ghost use Rattle.rk_node.specs.Boxes.{Box};
-    ghost use Rattle.rk_rows.specs.Lone.{IsAtRest};
+    ghost use Rattle.rk_rows.specs.Lone.{IsAloneAtRest};
 
     ghost Value = { Box };
 
     ghost view = { λ inside. inside.node };
 
     ghost invariant = { λ inside. inside.is_stuck ≡ false
-        → IsAtRest inside.node inside.images.items inside.desk.mailbox inside.desk.spare };
+        → IsAloneAtRest inside.node inside.images.items inside.desk.mailbox };
 }
 
 impl LoneNode {
     /// The node of a cube of one node, with these images, 64 at most, and no process started. What it says and hears is kept as
     /// a text where that is asked for.
-    pub fn new(alloc: Global, images: Vec<Image>, is_told: bool) -> Result<LoneNode, Fault> {
+    pub fn new(alloc: Global, images: Vec<Image>, is_told: bool) -> Result<LoneNode, RowFault> {
         if images.len() > GREATEST_IMAGES as usize {
-            return Err(Fault::Images);
+            return Err(RowFault::Images);
         }
         let mut node = NodeBox::new(alloc, 0, GREATEST_BLOCKS)?;
         node.enter(0, 0, images.len() as u32);
         Ok(LoneNode {
             node,
             images,
-            desk: Desk::new(alloc, is_told)?,
+            desk: LoneDesk::new(alloc, is_told)?,
             is_stuck: false,
         })
     }
 
     /// Has the start of an image as a process wait, unless the process id was used: whether it was fresh.
-    pub fn spawn(&mut self, image: u32, pid: u32) -> Result<bool, Fault>
+    pub fn spawn(&mut self, image: u32, pid: u32) -> Result<bool, RowFault>
         ensures { self.new ≡ self.old }
     {
         if self.is_stuck {
-            return Err(Fault::Stuck);
+            return Err(RowFault::Stuck);
         }
         self.is_stuck = true;
-        let is_fresh = self.desk.spawns(image, pid)?;
+        let is_fresh = self.desk.accept_spawn(image, pid)?;
         self.is_stuck = false;
         Ok(is_fresh)
     }
 
     /// Has the end of a process wait, unless the process id wasn't used or a kill was accepted before.
-    pub fn kill(&mut self, pid: u32) -> Result<KillFound, Fault>
+    pub fn kill(&mut self, pid: u32) -> Result<KillFound, RowFault>
         ensures { self.new ≡ self.old }
     {
         if self.is_stuck {
-            return Err(Fault::Stuck);
+            return Err(RowFault::Stuck);
         }
         self.is_stuck = true;
-        let found = self.desk.kills(pid)?;
+        let found = self.desk.accept_kill(pid)?;
         self.is_stuck = false;
         Ok(found)
     }
 
     /// The node says something, is answered, and hears the answer: whether there was something to do.
-    pub fn exchange(&mut self) -> Result<bool, Fault>
-        ensures { IfOk result (λ _. HasExchanged self.old self.new) }
+    pub fn exchange(&mut self) -> Result<bool, RowFault>
+        ensures { IfOk result (λ _. HasExchangedAlone self.old self.new) }
     {
         if self.is_stuck {
-            return Err(Fault::Stuck);
+            return Err(RowFault::Stuck);
         }
         self.is_stuck = true;
         let said = self.node.says();
-        let heard = self.desk.answers(&self.node, self.images.as_slice(), said)?;
+        let heard = self.desk.answer(&self.node, self.images.as_slice(), said)?;
         let has_work = !matches!(heard, Hearing::Idle);
         self.node.hears(self.images.as_slice(), heard);
         self.is_stuck = false;
@@ -96,13 +96,13 @@ impl LoneNode {
     }
 
     /// Makes exchanges until there is nothing to do, so many at most.
-    pub fn run(&mut self, most: u32) -> Result<(), Fault> {
+    pub fn run(&mut self, most: u32) -> Result<(), RowFault> {
         for _ in 0..most {
             if !self.exchange()? {
                 return Ok(());
             }
         }
-        Err(Fault::Endless)
+        Err(RowFault::Endless)
     }
 
     /// What a process does at this moment; its id is below 8.

@@ -121,10 +121,10 @@ fn hears(rt: HostRuntime) -> Result<(), Fail> {
 fn nothing_goes_on_behind_a_fault(rt: HostRuntime) -> Result<(), Fail> {
     let alloc = rt.alloc();
     let mut node = LoneNode::new(alloc, Vec::new(alloc), true)?;
-    assert_eq!(rt; node.spawn(0, PROCESS_COUNT).err(), Some(Fault::Place));
-    assert_eq!(rt; node.run(1).err(), Some(Fault::Stuck));
+    assert_eq!(rt; node.spawn(0, PROCESS_COUNT).err(), Some(RowFault::Place));
+    assert_eq!(rt; node.run(1).err(), Some(RowFault::Stuck));
     let mut other = LoneNode::new(alloc, Vec::new(alloc), true)?;
     assert!(rt; other.spawn(0, 0)?);
-    assert_eq!(rt; other.run(1).err(), Some(Fault::Unfit));
+    assert_eq!(rt; other.run(1).err(), Some(RowFault::Unfit));
     Ok(())
 }

@@ -2,7 +2,7 @@
 use Rattle.std.proofs.Common.{◌≡◌, ℕ, ◌≤◌, Bool, true, false, not, cond, List, length, Option, Some, None, Ok, Err, refl, sym, ap, ◌∙◌, arith}
 use Rattle.std.proofs.lemmas.Bool.{le-ltb}
 use Rattle.rv_image.specs.declared.fault.ImageFault.{ImageFault}
-use Rattle.rv_image.specs.declared.fault.ImageFault.TheVariants as images
+use Rattle.rv_image.specs.declared.fault.ImageFault.TheVariants as image_faults
 use Rattle.rv_model.specs.Image.{image_start, image_parts, image_room}
 use Rattle.rv_image.specs.Fault.{is_entry, is_too_large, parts_fault}
 use Rattle.rv_asm.specs.declared.fault.AsmKind.{AsmKind}
@@ -48,7 +48,7 @@ unfolding assembly_of
 has_no_entry text laid parts first second entry = rw (first, second, entry) refl
 
 abbrev entry_fault : Bool → Option ImageFault
-entry_fault begins = cond (not begins) (Some images.Entry) None
+entry_fault begins = cond (not begins) (Some image_faults.Entry) None
 
 true_from_none : (begins : Bool) → None ≡ entry_fault begins → begins ≡ true
 true_from_none true e = refl

@@ -4,10 +4,10 @@ use Rattle.std.specs.Ordering.{ord_min}
 use Rattle.rv_asm.specs.declared.fault.AsmKind.{AsmKind}
 use Rattle.rv_asm.specs.declared.fault.AsmKind.TheVariants.{BadByte, NameTaken, UnknownWord, Operands, BadRegister, BadNumber, UnknownName, Unaligned, TooLarge, TooFar, Entry, Memory}
 use Rattle.rv_asm.specs.contracts.fault.AsmKindOrd.TheImpl.{cmp-value}
-use Rattle.rv_asm.specs.Faults.{earlier}
+use Rattle.rv_asm.specs.Faults.{earlier_kind}
 
 -- the least of two kinds is the one that is judged first
-pub least_is_earlier : (first second : AsmKind) → ord_min cmp-value.it first second ≡ earlier first second
+pub least_is_earlier : (first second : AsmKind) → ord_min cmp-value.it first second ≡ earlier_kind first second
 least_is_earlier BadByte BadByte = refl
 least_is_earlier BadByte NameTaken = refl
 least_is_earlier BadByte UnknownWord = refl

@@ -9,7 +9,7 @@ use Rattle.rv_asm.specs.declared.statement.PlacedStatement.{PlacedStatement}
 use Rattle.rv_asm.specs.Faults.{◌>>=◌}
 use Rattle.rv_asm.specs.Names.{Names}
 use Rattle.rv_asm.specs.Sizes.{size_of}
-use Rattle.rv_asm.specs.Sound.{IsSound, ArePlacedSound}
+use Rattle.rv_asm.specs.Sound.{IsSoundStatement, ArePlacedSound}
 use Rattle.rv_asm.specs.FirstPass.{at_line}
 use Rattle.rv_asm.specs.SecondPass.{Part, Instruction, Plain, parts_of, second_pass}
 use Rattle.rv_asm.specs.Spelling.{IsSpellingOf, HasAppendedParts}
@@ -87,7 +87,7 @@ put_all names all i bytes le so_far =
     ∙ ap (λ (r : Result (List Part) AsmFault). r >>= behind so_far.parts) (at_drop_all (second_pass names (image_start + length bytes)) all i le)
     ∙ ap (λ (parts : List Part). Ok parts) (append-nil so_far.parts)
 
-pub sound_at : (all : List PlacedStatement) (i : ℕ) (d : PlacedStatement) → i < length all → ArePlacedSound all → IsSound (get_or all i d).statement
+pub sound_at : (all : List PlacedStatement) (i : ℕ) (d : PlacedStatement) → i < length all → ArePlacedSound all → IsSoundStatement (get_or all i d).statement
 sound_at [] i d lt h = absurd (omega arith)
 sound_at (placed ∷ all) zero d lt h = h.0
 sound_at (placed ∷ all) (suc i) d lt h = sound_at all i d (omega arith) h.1

@@ -3,8 +3,8 @@ use Rattle.std.proofs.Common.{◌≡◌, ℕ, ◌+◌, List, [], ◌∷◌, opti
 use Rattle.std.specs.Prelude.{bytes_eq, codes}
 use Rattle.std.proofs.lemmas.Bool.{cases_Bool}
 use Rattle.ce_text.specs.Table.{look_up}
-use Rattle.rv_asm.specs.Places.{place_of, number_at}
-use Rattle.rv_asm.specs.Register.{register_names, register_of}
+use Rattle.rv_asm.specs.Places.{place_of, register_number}
+use Rattle.rv_asm.specs.Register.{register_names, named_register}
 
 -- texts, each with what its place gives
 abbrev placed : {X : Type 0} → (ℕ → X) → ℕ → List (List ℕ) → List (List ℕ × X)
@@ -32,6 +32,6 @@ names =
     ∷ codes "x31"
     ∷ []
 
-pub register_by_place : (text : List ℕ) → register_of text ≡ option_map number_at (place_of 0 names text)
-unfolding register_of register_names
-register_by_place text = look_up_placed number_at 0 names text
+pub register_by_place : (text : List ℕ) → named_register text ≡ option_map register_number (place_of 0 names text)
+unfolding named_register register_names
+register_by_place text = look_up_placed register_number 0 names text

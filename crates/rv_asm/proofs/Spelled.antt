@@ -7,7 +7,7 @@ use Rattle.std.proofs.Math.Seq.{drop-append-add}
 use Rattle.rv_model.specs.Words.{dec}
 use Rattle.rv_inst.proofs.Joined.{one_word}
 use Rattle.rv_asm.specs.SecondPass.{Instruction, Plain}
-use Rattle.rv_asm.specs.Law.{parts_size, word_at, InstructionsDecode, OneSpelling}
+use Rattle.rv_asm.specs.Law.{parts_size, word_at, InstructionsDecode, PartsHaveOneSpelling}
 
 -- a place behind a word, or behind bytes
 behind_word : (place word : ℕ) (rest bytes : List ℕ) → bytes ≡ to_le_bytes w32 word ++ rest → word_at (4 + place) bytes ≡ word_at place rest
@@ -27,7 +27,7 @@ decodes [] back inst bytes s = ap dec (word_in_front s.0 s.1 bytes s.2 s.4) ∙ 
 decodes (Instruction first ∷ front) back inst bytes s = ap dec (behind_word (parts_size front) s.0 s.1 bytes s.4) ∙ decodes front back inst s.1 s.5
 decodes (Plain plain ∷ front) back inst bytes s = ap dec (behind_bytes (parts_size front) plain s.0 bytes s.1) ∙ decodes front back inst s.0 s.2
 
-pub one_spelling : OneSpelling
+pub one_spelling : PartsHaveOneSpelling
 one_spelling [] first second s t = s ∙ sym t
 one_spelling (Instruction inst ∷ parts) first second s t =
     s.4

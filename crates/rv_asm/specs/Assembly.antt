@@ -7,7 +7,7 @@ use Rattle.rv_asm.specs.declared.fault.AsmFault.{AsmFault}
 use Rattle.rv_asm.specs.declared.symbols.Symbol.{Symbol}
 use Rattle.rv_asm.specs.declared.symbols.Symbol.TheVariants.{Label, Number}
 use Rattle.rv_asm.specs.Names.{Names}
-use Rattle.rv_asm.specs.Faults.{◌>>=◌, refuse, Unless}
+use Rattle.rv_asm.specs.Faults.{◌>>=◌, refusal, Unless}
 use Rattle.rv_asm.specs.FirstPass.{at_line, first_pass}
 use Rattle.rv_asm.specs.SecondPass.{Part, second_pass}
 use Rattle.rv_asm.specs.Spelling.{IsSpellingOf}
@@ -32,7 +32,7 @@ unfoldable pub assembly_of : List ℕ → Result Assembly AsmFault
 assembly_of text = do
   laid ← first_pass text
   parts ← second_pass laid.names image_start laid.statements
-  begins ← at_line 0 (refuse (not (is_entry (entry_of laid.names) laid.size)) Entry)
+  begins ← at_line 0 (refusal (not (is_entry (entry_of laid.names) laid.size)) Entry)
   Ok (record { entry = entry_of laid.names; parts = parts })
 
 -- an image that is laid out so

@@ -12,8 +12,8 @@ abbrev pub ◌>>=◌ : {A B E : Type 0} → Result A E → (A → Result B E) �
 (Err fault) >>= next = Err fault
 
 -- nothing, where a test does not hold, and else this fault
-abbrev pub refuse : Bool → AsmKind → Result (Unit {0}) AsmKind
-refuse test kind = if test then Err kind else Ok tt
+abbrev pub refusal : Bool → AsmKind → Result (Unit {0}) AsmKind
+refusal test kind = if test then Err kind else Ok tt
 
 -- the value, or this fault where there is none
 abbrev pub or_fault : {A : Type 0} → Option A → AsmKind → Result A AsmKind
@@ -36,15 +36,15 @@ rank Entry = 10
 rank (Memory cause) = 11
 
 -- the kind that is judged first
-abbrev pub earlier : AsmKind → AsmKind → AsmKind
-earlier first second = if nat_le (rank first) (rank second) then first else second
+abbrev pub earlier_kind : AsmKind → AsmKind → AsmKind
+earlier_kind first second = if nat_le (rank first) (rank second) then first else second
 
 -- two judgments of one line: both values, or the fault whose kind is judged first
 unfoldable pub both : {A B : Type 0} → Result A AsmKind → Result B AsmKind → Result (A × B) AsmKind
 both (Ok first) (Ok second) = Ok (first, second)
 both (Ok first) (Err kind) = Err kind
 both (Err kind) (Ok second) = Err kind
-both (Err first) (Err second) = Err (earlier first second)
+both (Err first) (Err second) = Err (earlier_kind first second)
 
 -- one more judgment behind those of a line
 unfoldable pub with_judged : {A : Type 0} → Result (List A) AsmKind → Result A AsmKind → Result (List A) AsmKind

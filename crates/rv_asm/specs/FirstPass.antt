@@ -10,13 +10,13 @@ use Rattle.rv_asm.specs.declared.symbols.Symbol.TheVariants.{Label, Number}
 use Rattle.rv_asm.specs.declared.statement.Statement.{Statement}
 use Rattle.rv_asm.specs.declared.statement.PlacedStatement.{PlacedStatement}
 use Rattle.ce_text.specs.Bytes.{is_plain, is_blank}
-use Rattle.ce_text.specs.Line.{lines, cut, without_outer_blanks, before_comment}
+use Rattle.ce_text.specs.Line.{line_texts, cut, without_outer_blanks, before_comment}
 use Rattle.rv_asm.specs.Line.{is_colon, is_comma}
 use Rattle.rv_asm.specs.Name.{is_name}
 use Rattle.rv_asm.specs.Names.{Names, no_names, with_name, is_taken}
 use Rattle.rv_asm.specs.Words.{mnemonic_of}
 use Rattle.rv_asm.specs.declared.fault.Halt.{Halt}
-use Rattle.rv_asm.specs.Faults.{◌>>=◌, refuse, or_fault, both, IsHaltOf}
+use Rattle.rv_asm.specs.Faults.{◌>>=◌, refusal, or_fault, both, IsHaltOf}
 use Rattle.rv_asm.specs.Operand.{two_pieces, number, name_piece}
 use Rattle.rv_asm.specs.Sizes.{size_of, lays_words}
 use Rattle.rv_asm.specs.Statements.{statements_of}
@@ -27,11 +27,11 @@ pub record LayoutSoFar : Type 0 where
   pub statements : List PlacedStatement
   pub size : ℕ
 
-abbrev pub laid_of : Names → List PlacedStatement → ℕ → LayoutSoFar
-laid_of names statements size = record { names = names; statements = statements; size = size }
+abbrev pub layout_of : Names → List PlacedStatement → ℕ → LayoutSoFar
+layout_of names statements size = record { names = names; statements = statements; size = size }
 
 abbrev pub nothing_laid : LayoutSoFar
-nothing_laid = laid_of no_names [] 0
+nothing_laid = layout_of no_names [] 0
 
 -- what is known of a call that lays something: what is laid out then is what the definition says, unless memory ran out
 abbrev pub HasLaid : Result (Unit {0}) Halt → LayoutSoFar → Result LayoutSoFar AsmKind → Type 0
@@ -41,40 +41,40 @@ HasLaid (Err halt) laid judged = IsHaltOf halt judged
 -- ---- places
 
 -- one more statement, of this line
-unfoldable pub place : ℕ → LayoutSoFar → Statement → Result LayoutSoFar AsmKind
-place line laid statement = do
-  aligned ← refuse (lays_words statement && not (laid.size % 4 == 0)) Unaligned
-  fits ← refuse (nat_lt image_room (laid.size + size_of statement)) TooLarge
-  Ok (laid_of laid.names (laid.statements ++ record { line = line; statement = statement } ∷ []) (laid.size + size_of statement))
+unfoldable pub layout_with_statement : ℕ → LayoutSoFar → Statement → Result LayoutSoFar AsmKind
+layout_with_statement line laid statement = do
+  aligned ← refusal (lays_words statement && not (laid.size % 4 == 0)) Unaligned
+  fits ← refusal (nat_lt image_room (laid.size + size_of statement)) TooLarge
+  Ok (layout_of laid.names (laid.statements ++ record { line = line; statement = statement } ∷ []) (laid.size + size_of statement))
 
-unfoldable pub place_all : ℕ → LayoutSoFar → List Statement → Result LayoutSoFar AsmKind
-place_all line laid [] = Ok laid
-place_all line laid (statement ∷ statements) = do
-  one ← place line laid statement
-  place_all line one statements
+unfoldable pub layout_with_all : ℕ → LayoutSoFar → List Statement → Result LayoutSoFar AsmKind
+layout_with_all line laid [] = Ok laid
+layout_with_all line laid (statement ∷ statements) = do
+  one ← layout_with_statement line laid statement
+  layout_with_all line one statements
 
 -- ---- a line
 
 -- a name that means something from here on
-unfoldable pub define : LayoutSoFar → List ℕ → Symbol → Result LayoutSoFar AsmKind
-define laid name symbol = do
-  free ← refuse (is_taken laid.names name) NameTaken
-  Ok (laid_of (with_name laid.names name symbol) laid.statements laid.size)
+unfoldable pub layout_with_name : LayoutSoFar → List ℕ → Symbol → Result LayoutSoFar AsmKind
+layout_with_name laid name symbol = do
+  free ← refusal (is_taken laid.names name) NameTaken
+  Ok (layout_of (with_name laid.names name symbol) laid.statements laid.size)
 
 -- `.equ name, n`
-unfoldable pub equ : LayoutSoFar → List ℕ → Result LayoutSoFar AsmKind
-equ laid operands = do
-  free ← refuse (is_taken laid.names (without_outer_blanks (cut is_comma operands).0)) NameTaken
+unfoldable pub layout_with_number : LayoutSoFar → List ℕ → Result LayoutSoFar AsmKind
+layout_with_number laid operands = do
+  free ← refusal (is_taken laid.names (without_outer_blanks (cut is_comma operands).0)) NameTaken
   parts ← two_pieces operands
   values ← both (name_piece parts.0) (number laid.names parts.1)
-  define laid parts.0 (Number values.1)
+  layout_with_name laid parts.0 (Number values.1)
 
 -- a statement whose mnemonic or directive is another than `.equ`
-unfoldable pub lay : ℕ → LayoutSoFar → List ℕ → List ℕ → Result LayoutSoFar AsmKind
-lay line laid front operands = do
+unfoldable pub layout_with_statements : ℕ → LayoutSoFar → List ℕ → List ℕ → Result LayoutSoFar AsmKind
+layout_with_statements line laid front operands = do
   mnemonic ← or_fault (mnemonic_of front) UnknownWord
   statements ← statements_of mnemonic laid.names operands
-  place_all line laid statements
+  layout_with_all line laid statements
 
 -- what stands behind a mnemonic, without blanks at its ends
 abbrev pub operands_of : Option (List ℕ) → List ℕ
@@ -85,22 +85,22 @@ operands_of (Some rest) = without_outer_blanks rest
 unfoldable pub statement : ℕ → LayoutSoFar → List ℕ → Result LayoutSoFar AsmKind
 statement line laid [] = Ok laid
 statement line laid (byte ∷ bytes) = do
-  one_colon ← refuse (list_any is_colon (byte ∷ bytes)) UnknownWord
+  one_colon ← refusal (list_any is_colon (byte ∷ bytes)) UnknownWord
   let parts = cut is_blank (byte ∷ bytes)
-  if bytes_eq parts.0 (codes ".equ") then equ laid (operands_of parts.1) else lay line laid parts.0 (operands_of parts.1)
+  if bytes_eq parts.0 (codes ".equ") then layout_with_number laid (operands_of parts.1) else layout_with_statements line laid parts.0 (operands_of parts.1)
 
 -- a label, and the statement behind it; or a statement alone
 abbrev pub labelled_statement : ℕ → LayoutSoFar → List ℕ → Option (List ℕ) → Result LayoutSoFar AsmKind
 labelled_statement line laid front None = statement line laid (without_outer_blanks front)
 labelled_statement line laid front (Some rest) = do
-  named ← refuse (not (is_name (without_outer_blanks front))) UnknownWord
-  defined ← define laid (without_outer_blanks front) (Label (image_start + laid.size))
+  named ← refusal (not (is_name (without_outer_blanks front))) UnknownWord
+  defined ← layout_with_name laid (without_outer_blanks front) (Label (image_start + laid.size))
   statement line defined (without_outer_blanks rest)
 
 -- one line
 unfoldable pub line_laid : ℕ → LayoutSoFar → List ℕ → Result LayoutSoFar AsmKind
 line_laid number laid line = do
-  plain ← refuse (not (list_all is_plain (before_comment line))) BadByte
+  plain ← refusal (not (list_all is_plain (before_comment line))) BadByte
   labelled_statement number laid (cut is_colon (before_comment line)).0 (cut is_colon (before_comment line)).1
 
 -- ---- all lines
@@ -113,10 +113,10 @@ at_line line (Err kind) = Err (record { line = line; kind = kind })
 -- lines, of which the first has the number behind this one
 unfoldable pub lines_laid : ℕ → LayoutSoFar → List (List ℕ) → Result LayoutSoFar AsmFault
 lines_laid before laid [] = Ok laid
-lines_laid before laid (line ∷ lines) = do
+lines_laid before laid (line ∷ line_texts) = do
   one ← at_line (before + 1) (line_laid (before + 1) laid line)
-  lines_laid (before + 1) one lines
+  lines_laid (before + 1) one line_texts
 
 -- the first pass over a text
 unfoldable pub first_pass : List ℕ → Result LayoutSoFar AsmFault
-first_pass text = lines_laid 0 nothing_laid (lines text)
+first_pass text = lines_laid 0 nothing_laid (line_texts text)

@@ -1,7 +1,7 @@
 -- What the code's layout stands for.
 use Rattle.rv_asm.specs.declared.layout.Layout.{Layout}
 use Rattle.ce_text.specs.Names.{meanings_of}
-use Rattle.rv_asm.specs.FirstPass.{LayoutSoFar, laid_of}
+use Rattle.rv_asm.specs.FirstPass.{LayoutSoFar, layout_of}
 
 abbrev pub laid_out : Layout → LayoutSoFar
-laid_out layout = laid_of (meanings_of layout.symbols) layout.statements.items layout.size
+laid_out layout = layout_of (meanings_of layout.symbols) layout.statements.items layout.size

@@ -21,5 +21,5 @@ abbrev pub InstructionsDecode : Type 0
 InstructionsDecode = (front back : List Part) (inst : Inst) (bytes : List ℕ) → IsSpellingOf (front ++ Instruction inst ∷ back) bytes → dec (word_at (parts_size front) bytes) ≡ Some inst
 
 -- parts have one spelling
-abbrev pub OneSpelling : Type 0
-OneSpelling = (parts : List Part) (first second : List ℕ) → IsSpellingOf parts first → IsSpellingOf parts second → first ≡ second
+abbrev pub PartsHaveOneSpelling : Type 0
+PartsHaveOneSpelling = (parts : List Part) (first second : List ℕ) → IsSpellingOf parts first → IsSpellingOf parts second → first ≡ second

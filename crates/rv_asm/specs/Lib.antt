@@ -4,6 +4,7 @@ pub mod Register
 pub mod Places
 pub mod Literal
 pub mod Faults
+pub mod FaultTexts
 pub mod Names
 pub mod Operand
 pub mod Words

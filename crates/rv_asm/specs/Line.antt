@@ -30,6 +30,6 @@ unfoldable pub pieces : List ℕ → List (List ℕ)
 pieces operands = map without_outer_blanks (slice_split is_comma operands)
 
 -- the same of what stands behind a comma, where there is one
-abbrev pub pieces_behind : Option (List ℕ) → List (List ℕ)
-pieces_behind None = []
-pieces_behind (Some rest) = pieces rest
+abbrev pub comma_pieces : Option (List ℕ) → List (List ℕ)
+comma_pieces None = []
+comma_pieces (Some rest) = pieces rest

@@ -1,5 +1,6 @@
 -- Operands of statements.
 use Rattle.std.specs.Prelude.{◌≡◌, ℕ, ◌-◌, ◌^◌, ◌%◌, Bool, false, not, ◌&&◌, ◌==◌, if◌then◌else◌, List, [], ◌∷◌, Option, Some, None, Result, Ok, Err, length, ℤ, pos, negsuc, int_le}
+use Rattle.rv_model.specs.declared.limits.TheConstants.{GREATEST_IMMEDIATE, GREATEST_SHIFT, LEAST_IMMEDIATE}
 use Rattle.rv_model.specs.declared.inst.ImmOp.{ImmOp}
 use Rattle.rv_model.specs.declared.inst.ImmOp.TheVariants.{Slli, Srli, Srai}
 use Rattle.rv_asm.specs.declared.fault.AsmKind.{AsmKind}
@@ -9,10 +10,10 @@ use Rattle.rv_asm.specs.declared.symbols.Symbol.TheVariants.{Label, Number}
 use Rattle.ce_text.specs.Line.{cut, without_outer_blanks}
 use Rattle.rv_asm.specs.Line.{pieces, is_token, is_opening, is_closing}
 use Rattle.rv_asm.specs.Name.{is_name}
-use Rattle.rv_asm.specs.Register.{register_of}
+use Rattle.rv_asm.specs.Register.{named_register}
 use Rattle.rv_asm.specs.Literal.{literal_of}
 use Rattle.rv_asm.specs.Names.{Names}
-use Rattle.rv_asm.specs.Faults.{◌>>=◌, refuse, or_fault, both}
+use Rattle.rv_asm.specs.Faults.{◌>>=◌, refusal, or_fault, both}
 
 -- a judgment that stands for another one: the same fault, or its value seen by `view`
 abbrev pub IsViewOf : {A B : Type 0} → (A → B) → Result A AsmKind → Result B AsmKind → Type 0
@@ -51,8 +52,8 @@ three_pieces operands = three_of (pieces operands)
 
 unfoldable pub register : List ℕ → Result ℕ AsmKind
 register piece = do
-  whole ← refuse (not (is_token piece)) Operands
-  or_fault (register_of piece) BadRegister
+  whole ← refusal (not (is_token piece)) Operands
+  or_fault (named_register piece) BadRegister
 
 -- what a name means where a number is wanted: the number that an earlier `.equ` gave
 abbrev pub number_named : Option Symbol → Result ℤ AsmKind
@@ -62,7 +63,7 @@ number_named None = Err UnknownName
 
 unfoldable pub number : Names → List ℕ → Result ℤ AsmKind
 number names piece = do
-  whole ← refuse (not (is_token piece)) Operands
+  whole ← refusal (not (is_token piece)) Operands
   if is_name piece then number_named (names piece) else or_fault (literal_of piece) BadNumber
 
 -- a number that is judged to lie in a range
@@ -71,11 +72,11 @@ number_in_range low high judged = judged >>= λ n. if int_le low n && int_le n h
 
 -- an operand that is a name
 unfoldable pub name_piece : List ℕ → Result (Unit {0}) AsmKind
-name_piece piece = refuse (not (is_name piece)) Operands
+name_piece piece = refusal (not (is_name piece)) Operands
 
--- from -2,048 to 2,047
+-- a number of twelve bits
 unfoldable pub twelve_bits : Names → List ℕ → Result ℤ AsmKind
-twelve_bits names piece = number_in_range (negsuc 2047) (pos 2047) (number names piece)
+twelve_bits names piece = number_in_range LEAST_IMMEDIATE GREATEST_IMMEDIATE (number names piece)
 
 -- behind `n(`: the register, and nothing behind its bracket
 abbrev pub is_closed : Option (List ℕ) → Bool
@@ -86,7 +87,7 @@ is_closed (Some rest) = length (without_outer_blanks rest) == 0
 abbrev pub in_brackets : Names → List ℕ → Option (List ℕ) → Result (ℤ × ℕ) AsmKind
 in_brackets names front None = Err Operands
 in_brackets names front (Some behind) = do
-  whole ← refuse (not (is_closed (cut is_closing behind).1)) Operands
+  whole ← refusal (not (is_closed (cut is_closing behind).1)) Operands
   both (twelve_bits names (without_outer_blanks front)) (register (without_outer_blanks (cut is_closing behind).0))
 
 unfoldable pub memory : Names → List ℕ → Result (ℤ × ℕ) AsmKind
@@ -95,9 +96,9 @@ memory names piece = in_brackets names (cut is_opening piece).0 (cut is_opening 
 -- ---- numbers as bits
 
 -- a number modulo 2^32
-abbrev pub word_of : ℤ → ℕ
-word_of (pos n) = n % 2 ^ 32
-word_of (negsuc n) = 2 ^ 32 - 1 - n % 2 ^ 32
+abbrev pub wrapped_word : ℤ → ℕ
+wrapped_word (pos n) = n % 2 ^ 32
+wrapped_word (negsuc n) = 2 ^ 32 - 1 - n % 2 ^ 32
 
 -- a number modulo 2^8
 abbrev pub byte_of : ℤ → ℕ
@@ -109,10 +110,10 @@ abbrev pub least_immediate : ImmOp → ℤ
 least_immediate Slli = pos 0
 least_immediate Srli = pos 0
 least_immediate Srai = pos 0
-least_immediate op = negsuc 2047
+least_immediate op = LEAST_IMMEDIATE
 
 abbrev pub greatest_immediate : ImmOp → ℤ
-greatest_immediate Slli = pos 31
-greatest_immediate Srli = pos 31
-greatest_immediate Srai = pos 31
-greatest_immediate op = pos 2047
+greatest_immediate Slli = GREATEST_SHIFT
+greatest_immediate Srli = GREATEST_SHIFT
+greatest_immediate Srai = GREATEST_SHIFT
+greatest_immediate op = GREATEST_IMMEDIATE

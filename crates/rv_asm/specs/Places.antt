@@ -7,5 +7,5 @@ place_of place [] text = None
 place_of place (word ∷ words) text = if bytes_eq word text then Some place else place_of (place + 1) words text
 
 -- the number of a register by the place of its name: the names of the calling convention, `fp`, and the numbers
-abbrev pub number_at : ℕ → ℕ
-number_at place = if nat_lt place 32 then place else if place == 32 then 8 else place - 33
+abbrev pub register_number : ℕ → ℕ
+register_number place = if nat_lt place 32 then place else if place == 32 then 8 else place - 33

@@ -25,5 +25,5 @@ register_names =
     ∷ []
 
 -- the number of the register with this name
-unfoldable pub register_of : List ℕ → Option ℕ
-register_of name = look_up register_names name
+unfoldable pub named_register : List ℕ → Option ℕ
+named_register name = look_up register_names name

@@ -1,6 +1,7 @@
 -- The second pass: each statement becomes instructions or bytes.
 use Rattle.std.specs.Prelude.{ℕ, ◌+◌, ◌%◌, Bool, not, ◌&&◌, ◌==◌, List, [], ◌∷◌, ◌++◌, map, replicate, Option, Some, None, Result, Ok, Err, ℤ, pos, ◌-ℤ◌, neg_ℤ, int_le, int_lt, unsigned_abs}
 use Rattle.std.specs.Int.{w32, to_le_bytes}
+use Rattle.rv_model.specs.declared.limits.TheConstants.{BRANCH_REACH, JUMP_REACH}
 use Rattle.rv_model.specs.declared.inst.Inst.{Inst}
 use Rattle.rv_model.specs.declared.inst.Inst.TheVariants as insts
 use Rattle.rv_asm.specs.declared.fault.AsmKind.{AsmKind}
@@ -12,7 +13,7 @@ use Rattle.rv_asm.specs.declared.statement.Statement.{Statement}
 use Rattle.rv_asm.specs.declared.statement.Statement.TheVariants as statements
 use Rattle.rv_asm.specs.declared.statement.PlacedStatement.{PlacedStatement}
 use Rattle.rv_asm.specs.Names.{Names}
-use Rattle.rv_asm.specs.Faults.{◌>>=◌, refuse}
+use Rattle.rv_asm.specs.Faults.{◌>>=◌, refusal}
 use Rattle.rv_asm.specs.Sizes.{size_of}
 use Rattle.rv_asm.specs.FirstPass.{at_line}
 use Rattle.rv_asm.specs.Statements.{two_instructions}
@@ -38,25 +39,19 @@ is_reached reach offset = (unsigned_abs offset % 2 == 0) && int_le (neg_ℤ (pos
 -- from the instruction at an address to a target
 unfoldable pub offset_to : ℕ → ℕ → ℕ → Result ℤ AsmKind
 offset_to reach address target = do
-  near ← refuse (not (is_reached reach (pos target -ℤ pos address))) TooFar
+  near ← refusal (not (is_reached reach (pos target -ℤ pos address))) TooFar
   Ok (pos target -ℤ pos address)
-
-abbrev pub branch_reach : ℕ
-branch_reach = 4096
-
-abbrev pub jump_reach : ℕ
-jump_reach = 1048576
 
 -- what a statement at an address becomes
 unfoldable pub parts_of : Names → ℕ → Statement → Result (List Part) AsmKind
 parts_of names address (statements.Inst inst) = Ok (Instruction inst ∷ [])
 parts_of names address (statements.Jal rd label) = do
   target ← address_of names label
-  offset ← offset_to jump_reach address target
+  offset ← offset_to JUMP_REACH address target
   Ok (Instruction (insts.Jal rd offset) ∷ [])
 parts_of names address (statements.Branch op rs1 rs2 label) = do
   target ← address_of names label
-  offset ← offset_to branch_reach address target
+  offset ← offset_to BRANCH_REACH address target
   Ok (Instruction (insts.Branch op rs1 rs2 offset) ∷ [])
 parts_of names address (statements.La rd label) = do
   target ← address_of names label

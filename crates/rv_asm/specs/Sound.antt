@@ -19,23 +19,23 @@ IsSoundMnemonic (words.Jump rd) = IsRegister rd
 IsSoundMnemonic mnemonic = Unit {0}
 
 -- what a statement says of registers and numbers can be encoded
-abbrev pub IsSound : Statement → Type 0
-IsSound (statements.Inst inst) = IsValid inst
-IsSound (statements.Jal rd label) = IsRegister rd
-IsSound (statements.Branch op rs1 rs2 label) = IsRegister rs1 × IsRegister rs2
-IsSound (statements.La rd label) = IsRegister rd
-IsSound (statements.Word word) = Unit {0}
-IsSound (statements.Address label) = Unit {0}
-IsSound (statements.Byte byte) = Unit {0}
-IsSound (statements.Zero count) = Unit {0}
+abbrev pub IsSoundStatement : Statement → Type 0
+IsSoundStatement (statements.Inst inst) = IsValid inst
+IsSoundStatement (statements.Jal rd label) = IsRegister rd
+IsSoundStatement (statements.Branch op rs1 rs2 label) = IsRegister rs1 × IsRegister rs2
+IsSoundStatement (statements.La rd label) = IsRegister rd
+IsSoundStatement (statements.Word word) = Unit {0}
+IsSoundStatement (statements.Address label) = Unit {0}
+IsSoundStatement (statements.Byte byte) = Unit {0}
+IsSoundStatement (statements.Zero count) = Unit {0}
 
 abbrev pub AreSound : List Statement → Type 0
 AreSound [] = Unit {0}
-AreSound (statement ∷ others) = IsSound statement × AreSound others
+AreSound (statement ∷ others) = IsSoundStatement statement × AreSound others
 
 abbrev pub ArePlacedSound : List PlacedStatement → Type 0
 ArePlacedSound [] = Unit {0}
-ArePlacedSound (placed ∷ others) = IsSound placed.statement × ArePlacedSound others
+ArePlacedSound (placed ∷ others) = IsSoundStatement placed.statement × ArePlacedSound others
 
 -- ---- no two proofs that statements are sound differ
 
@@ -64,7 +64,7 @@ IsValid-prop (insts.Fence word) = hlevel props
 IsValid-prop insts.Ecall = hlevel props
 IsValid-prop insts.Ebreak = hlevel props
 
-IsSound-prop : (statement : Statement) → IsProp (IsSound statement)
+IsSound-prop : (statement : Statement) → IsProp (IsSoundStatement statement)
 IsSound-prop (statements.Inst inst) = IsValid-prop inst
 IsSound-prop (statements.Jal rd label) = hlevel props
 IsSound-prop (statements.Branch op rs1 rs2 label) = hlevel props

@@ -1,5 +1,6 @@
 -- What each statement means.
-use Rattle.std.specs.Prelude.{ℕ, ◌+◌, ◌*◌, ◌/◌, ◌-◌, ◌^◌, ◌%◌, Bool, not, ◌||◌, nat_lt, nat_le, if◌then◌else◌, List, [], ◌∷◌, map, Option, Some, None, Result, Ok, ℤ, pos, negsuc, unsigned_abs}
+use Rattle.std.specs.Prelude.{ℕ, ◌+◌, ◌*◌, ◌/◌, ◌-◌, ◌^◌, ◌%◌, Bool, not, ◌||◌, nat_lt, nat_le, if◌then◌else◌, List, [], ◌∷◌, map, Option, Some, None, Result, Ok, ℤ, pos, unsigned_abs}
+use Rattle.rv_model.specs.declared.limits.TheConstants.{GREATEST_UPPER}
 use Rattle.rv_model.specs.declared.inst.Inst.{Inst}
 use Rattle.rv_model.specs.declared.inst.Inst.TheVariants as insts
 use Rattle.rv_model.specs.declared.inst.ImmOp.{ImmOp}
@@ -12,14 +13,15 @@ use Rattle.rv_asm.specs.declared.symbols.Symbol.{Symbol}
 use Rattle.rv_asm.specs.declared.symbols.Symbol.TheVariants.{Label, Number}
 use Rattle.rv_asm.specs.declared.mnemonic.Mnemonic.{Mnemonic}
 use Rattle.rv_asm.specs.declared.mnemonic.Mnemonic.TheVariants as words
+use Rattle.rv_asm.specs.declared.statement.TheConstants.{GREATEST_BYTE, LEAST_BYTE}
 use Rattle.rv_asm.specs.declared.statement.Statement.{Statement}
 use Rattle.rv_asm.specs.declared.statement.Statement.TheVariants as statements
 use Rattle.rv_asm.specs.Line.{pieces, is_token}
 use Rattle.rv_asm.specs.Name.{is_name}
 use Rattle.rv_asm.specs.Literal.{literal_of}
 use Rattle.rv_asm.specs.Names.{Names}
-use Rattle.rv_asm.specs.Faults.{◌>>=◌, refuse, or_fault, both, all_of}
-use Rattle.rv_asm.specs.Operand.{no_piece, one_piece, two_pieces, three_pieces, register, number, number_in_range, name_piece, memory, word_of, byte_of, least_immediate, greatest_immediate}
+use Rattle.rv_asm.specs.Faults.{◌>>=◌, refusal, or_fault, both, all_of}
+use Rattle.rv_asm.specs.Operand.{no_piece, one_piece, two_pieces, three_pieces, register, number, number_in_range, name_piece, memory, wrapped_word, byte_of, least_immediate, greatest_immediate}
 
 -- ---- `li` and `la`
 
@@ -45,11 +47,11 @@ load_word rd word = if is_short word then insts.OpImm Addi rd 0 (low_part word) 
 
 -- ---- operands in the forms of the statements
 
--- `rd, n` with n from 0 to 1,048,575, which is bits 31..12
+-- `rd, n` with n from 0 to `GREATEST_UPPER`, which is bits 31..12
 unfoldable pub register_upper : Names → List ℕ → Result (ℕ × ℕ) AsmKind
 register_upper names operands = do
   parts ← two_pieces operands
-  values ← both (register parts.0) (number_in_range (pos 0) (pos 1048575) (number names parts.1))
+  values ← both (register parts.0) (number_in_range (pos 0) GREATEST_UPPER (number names parts.1))
   Ok (values.0, unsigned_abs values.1 * 4096)
 
 -- `rd, n(rs1)`, as rd, n and rs1
@@ -88,7 +90,7 @@ unfoldable pub register_word : Names → List ℕ → Result (ℕ × ℕ) AsmKin
 register_word names operands = do
   parts ← two_pieces operands
   values ← both (register parts.0) (number names parts.1)
-  Ok (values.0, word_of values.1)
+  Ok (values.0, wrapped_word values.1)
 
 -- `rd, label`
 unfoldable pub register_label : List ℕ → Result (ℕ × List ℕ) AsmKind
@@ -113,19 +115,19 @@ one_label operands = do
 
 -- an operand of `.word`: a number, or a name that is none so far, which is a label
 abbrev pub value_named : List ℕ → Option Symbol → Statement
-value_named name (Some (Number n)) = statements.Word (word_of n)
+value_named name (Some (Number n)) = statements.Word (wrapped_word n)
 value_named name (Some (Label address)) = statements.Address name
 value_named name None = statements.Address name
 
 unfoldable pub word_value : Names → List ℕ → Result Statement AsmKind
 word_value names piece = do
-  whole ← refuse (not (is_token piece)) Operands
-  if is_name piece then Ok (value_named piece (names piece)) else (or_fault (literal_of piece) BadNumber >>= λ n. Ok (statements.Word (word_of n)))
+  whole ← refusal (not (is_token piece)) Operands
+  if is_name piece then Ok (value_named piece (names piece)) else (or_fault (literal_of piece) BadNumber >>= λ n. Ok (statements.Word (wrapped_word n)))
 
--- an operand of `.byte`, from -128 to 255
+-- an operand of `.byte`
 unfoldable pub byte_value : Names → List ℕ → Result Statement AsmKind
 byte_value names piece = do
-  n ← number_in_range (negsuc 127) (pos 255) (number names piece)
+  n ← number_in_range LEAST_BYTE GREATEST_BYTE (number names piece)
   Ok (statements.Byte (byte_of n))
 
 -- `n` of `.zero`, from 0 to the most bytes that an image may take up

@@ -13,6 +13,6 @@ datum_value datums.Word names piece = word_value names piece
 datum_value datums.Byte names piece = byte_value names piece
 
 -- the judgment that a list and a fault stand for: the fault, where there is one
-abbrev pub judged_of : {A : Type 0} → Option AsmKind → List A → Result (List A) AsmKind
-judged_of None list = Ok list
-judged_of (Some kind) list = Err kind
+abbrev pub list_judgment : {A : Type 0} → Option AsmKind → List A → Result (List A) AsmKind
+list_judgment None list = Ok list
+list_judgment (Some kind) list = Err kind

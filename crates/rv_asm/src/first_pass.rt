@@ -2,19 +2,21 @@
 
 ghost use Rattle.std.specs.Prelude.{◌≡◌, ◌^◌, ◌<◌, length, Some, option_map};
 ghost use Rattle.rv_asm.specs.Sizes.{size_of, lays_words};
-ghost use Rattle.rv_asm.specs.Sound.{IsSound, AreSound};
+ghost use Rattle.rv_asm.specs.Sound.{IsSoundStatement, AreSound};
 ghost use Rattle.rv_asm.specs.LaidOut.{laid_out};
-ghost use Rattle.rv_asm.specs.FirstPass.{place, place_all, define, equ, lay, statement, labelled_statement, line_laid, operands_of, HasLaid, first_pass};
+ghost use Rattle.rv_asm.specs.FirstPass.{layout_with_statement, layout_with_all, layout_with_name, layout_with_number, layout_with_statements, statement, labelled_statement, line_laid, operands_of, HasLaid, first_pass};
 ghost use Rattle.rv_asm.specs.Faults.{IsAllSeenAs};
 
 use crate::fault::{AsmFault, AsmKind, Halt};
 use crate::layout::Layout;
 use crate::mnemonic::mnemonic_of;
 use crate::name::is_name;
-use crate::operand::{both, name_piece, number, two_pieces};
+use crate::operand::{name_piece, number, pair, two_pieces};
 use crate::statement::{PlacedStatement, Statement, statements_of};
 use crate::symbols::{Symbol, Symbols};
-use ce_text::{are_plain, before_comment, cut_at, cut_at_blank, has_byte, trimmed};
+use ce_text::{
+    are_plain, before_comment, cut_at, cut_at_blank, has_byte, next_line, without_outer_blanks,
+};
 use rv_model::{IMAGE_ROOM, PRIVATE_START};
 use std::alloc::Global;
 
@@ -40,18 +42,18 @@ fn operands_of(rest: Option<&[u8]>) -> &[u8]
 {
     match rest {
         None => &[],
-        Some(bytes) => trimmed(bytes),
+        Some(bytes) => without_outer_blanks(bytes),
     }
 }
 
 impl<'a> Layout<'a> {
     /// HasLaid one more statement, of this line. `Unaligned` where words would not stand at a multiple of 4, then
     /// `TooLarge`.
-    #[tactic(auto, unfolding(crate::specs::FirstPass::place))]
+    #[tactic(auto, unfolding(crate::specs::FirstPass::layout_with_statement))]
     fn place(&mut self, line: u32, statement: Statement<'a>) -> Result<(), Halt>
-        requires { IsSound statement }
+        requires { IsSoundStatement statement }
         ensures { HasLaid result (laid_out self.new)
-            (place line (laid_out self.old) statement.entry) }
+            (layout_with_statement line (laid_out self.old) statement.entry) }
     {
         if lays_words(&statement) && self.size % 4 != 0 {
             return Err(Halt::Fault(AsmKind::Unaligned));
@@ -68,7 +70,7 @@ impl<'a> Layout<'a> {
     fn place_all(&mut self, line: u32, statements: Vec<Statement<'a>>) -> Result<(), Halt>
         requires { AreSound statements.items }
         ensures { HasLaid result (laid_out self.new)
-            (place_all line (laid_out self.old) statements.entry.items) }
+            (layout_with_all line (laid_out self.old) statements.entry.items) }
     {
         for statement in statements {
             self.place(line, statement)?;
@@ -77,9 +79,10 @@ impl<'a> Layout<'a> {
     }
 
     /// Gives a name a meaning, and `NameTaken` where it has one.
-    #[tactic(auto, unfolding(crate::specs::FirstPass::define))]
+    #[tactic(auto, unfolding(crate::specs::FirstPass::layout_with_name))]
     fn define(&mut self, name: &[u8], symbol: Symbol) -> Result<(), Halt>
-        ensures { HasLaid result (laid_out self.new) (define (laid_out self.old) name.now symbol) }
+        ensures { HasLaid result (laid_out self.new)
+            (layout_with_name (laid_out self.old) name.now symbol) }
     {
         if self.symbols.meaning(name).is_some() {
             return Err(Halt::Fault(AsmKind::NameTaken));
@@ -89,24 +92,25 @@ impl<'a> Layout<'a> {
     }
 
     /// `.equ name, n`
-    #[tactic(auto, unfolding(crate::specs::FirstPass::equ))]
+    #[tactic(auto, unfolding(crate::specs::FirstPass::layout_with_number))]
     fn equ(&mut self, operands: &[u8]) -> Result<(), Halt>
-        ensures { HasLaid result (laid_out self.new) (equ (laid_out self.old) operands.now) }
+        ensures { HasLaid result (laid_out self.new)
+            (layout_with_number (laid_out self.old) operands.now) }
     {
         let first = cut_at(operands, b',').0;
-        if self.symbols.meaning(trimmed(first)).is_some() {
+        if self.symbols.meaning(without_outer_blanks(first)).is_some() {
             return Err(Halt::Fault(AsmKind::NameTaken));
         }
         let (name, n) = two_pieces(operands)?;
-        let ((), n) = both(name_piece(name), number(&self.symbols, n))?;
+        let ((), n) = pair(name_piece(name), number(&self.symbols, n))?;
         self.define(name, Symbol::Number(n))
     }
 
     /// A statement whose mnemonic or directive is another than `.equ`.
-    #[tactic(auto, unfolding(crate::specs::FirstPass::lay))]
+    #[tactic(auto, unfolding(crate::specs::FirstPass::layout_with_statements))]
     fn lay(&mut self, line: u32, front: &[u8], operands: &'a [u8]) -> Result<(), Halt>
         ensures { HasLaid result (laid_out self.new)
-            (lay line (laid_out self.old) front.now operands.now) }
+            (layout_with_statements line (laid_out self.old) front.now operands.now) }
     {
         let mnemonic = mnemonic_of(front).ok_or(AsmKind::UnknownWord)?;
         let statements = statements_of(self.alloc, mnemonic, &self.symbols, operands)?;
@@ -133,17 +137,17 @@ impl<'a> Layout<'a> {
         }
     }
 
-    fn labelled(&mut self, line: u32, front: &'a [u8], rest: &'a [u8]) -> Result<(), Halt>
+    fn labelled_statement(&mut self, line: u32, front: &'a [u8], rest: &'a [u8]) -> Result<(), Halt>
         ensures { HasLaid result (laid_out self.new)
             (labelled_statement line (laid_out self.old) front.now (Some rest.now)) }
     {
-        let label = trimmed(front);
+        let label = without_outer_blanks(front);
         if !is_name(label) {
             return Err(Halt::Fault(AsmKind::UnknownWord));
         }
         let address = PRIVATE_START + self.size;
         self.define(label, Symbol::Label(address))?;
-        self.statement(line, trimmed(rest))
+        self.statement(line, without_outer_blanks(rest))
     }
 
     /// One line.
@@ -158,8 +162,8 @@ impl<'a> Layout<'a> {
         }
         let (front, rest) = cut_at(code, b':');
         match rest {
-            None => self.statement(number, trimmed(front)),
-            Some(rest) => self.labelled(number, front, rest),
+            None => self.statement(number, without_outer_blanks(front)),
+            Some(rest) => self.labelled_statement(number, front, rest),
         }
     }
 }
@@ -179,7 +183,7 @@ pub fn first_pass(alloc: Global, text: &[u8]) -> Result<Layout<'_>, AsmFault>
     let mut number: u32 = 0;
     let mut rest = Some(text);
     while let Some(bytes) = rest {
-        let (front, after) = cut_at(bytes, b'\n');
+        let (front, after) = next_line(bytes);
         number += 1;
         if let Err(halt) = layout.line(number, front) {
             return Err(halt.at(number));

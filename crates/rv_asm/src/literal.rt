@@ -5,7 +5,7 @@ ghost use Rattle.rv_asm.specs.Literal.{literal_of, unsigned_literal, behind_pref
 
 use ce_text::number_of_digits;
 
-fn unsigned(bytes: &[u8]) -> Option<i64>
+fn unsigned_literal(bytes: &[u8]) -> Option<i64>
     ensures { result ≡ unsigned_literal (behind_prefix bytes.now) bytes.now }
 {
     let most = u64::from(u32::MAX);
@@ -27,6 +27,6 @@ pub fn literal_of(bytes: &[u8]) -> Option<i64>
             let number = number_of_digits(digits, 10, 1 << 31)?;
             Some(-(number as i64))
         }
-        _ => unsigned(bytes),
+        _ => unsigned_literal(bytes),
     }
 }

@@ -36,7 +36,7 @@ impl<'a> Name<'a> {
     }
 }
 
-/// Whether the bytes are a name: 1 to 32 letters, digits and `_`, no digit first.
+/// Whether the bytes are a name: 1 to `LONGEST` letters, digits and `_`, no digit first.
 pub fn is_name(bytes: &[u8]) -> bool
     ensures { result ≡ is_name bytes.now }
 {

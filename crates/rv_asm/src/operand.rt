@@ -3,7 +3,7 @@
 ghost use Rattle.std.specs.Prelude.{◌≡◌, ◌∷◌, [], ◌≤ℤ◌, ◌<◌, length, Some, Ok, IfOk, IfSome, option_map};
 ghost use Rattle.rv_inst.specs.Valid.{IsRegister, IsTwelveBits};
 ghost use Rattle.rv_asm.specs.Faults.{both};
-ghost use Rattle.rv_asm.specs.Line.{pieces, pieces_behind};
+ghost use Rattle.rv_asm.specs.Line.{pieces, comma_pieces};
 ghost use Rattle.ce_text.specs.Names.{meanings_of};
 ghost use Rattle.rv_asm.specs.Operand.{IsViewOf, no_piece, one_piece, two_pieces, three_pieces, register, number, number_in_range, name_piece, twelve_bits, in_brackets, memory};
 
@@ -13,11 +13,12 @@ use crate::literal::literal_of;
 use crate::name::is_name;
 use crate::register::register_of;
 use crate::symbols::{Symbol, Symbols};
-use ce_text::{cut_at, trimmed};
+use ce_text::{cut_at, without_outer_blanks};
+use rv_model::{GREATEST_IMMEDIATE, LEAST_IMMEDIATE};
 
 /// Two judgments of one line: both values, or the fault whose kind is judged first.
 #[tactic(auto, unfolding(crate::specs::Faults::both))]
-pub fn both<A: Drop, B: Drop>(first: Judged<A>, second: Judged<B>) -> Judged<(A, B)>
+pub fn pair<A: Drop, B: Drop>(first: Judged<A>, second: Judged<B>) -> Judged<(A, B)>
     ensures joined { result ≡ both first second }
     ensures parts { IfOk result (λ pair. (first ≡ Ok pair.0) × (second ≡ Ok pair.1)) }
 {
@@ -41,11 +42,11 @@ pub fn no_piece(operands: &[u8]) -> Judged<()>
 /// The first operand, and what stands behind its comma, where there is one.
 pub fn first_piece(operands: &[u8]) -> (&[u8], Option<&[u8]>)
     ensures parts { pieces operands.now
-        ≡ result.0.now ∷ pieces_behind (option_map (λ rest. rest.now) result.1) }
+        ≡ result.0.now ∷ comma_pieces (option_map (λ rest. rest.now) result.1) }
     ensures shorter { IfSome result.1 (λ rest. length rest.now < length operands.now) }
 {
     let (piece, rest) = cut_at(operands, b',');
-    (trimmed(piece), rest)
+    (without_outer_blanks(piece), rest)
 }
 
 /// The one operand, and `Operands` where there are more.
@@ -122,7 +123,7 @@ pub fn number(symbols: &Symbols, piece: &[u8]) -> Judged<i64>
 
 /// A number that is judged to lie in a range, and `BadNumber` where it does not.
 #[tactic(auto, unfolding(crate::specs::Operand::number_in_range))]
-pub fn ranged(low: i64, high: i64, judged: Judged<i64>) -> Judged<i64>
+pub fn number_in_range(low: i64, high: i64, judged: Judged<i64>) -> Judged<i64>
     ensures value { result ≡ number_in_range low high judged }
     ensures least { IfOk result (λ number. low ≤ℤ number) }
     ensures greatest { IfOk result (λ number. number ≤ℤ high) }
@@ -147,13 +148,17 @@ pub fn name_piece(piece: &[u8]) -> Judged<()>
     }
 }
 
-/// A number from -2,048 to 2,047.
+/// A number of twelve bits.
 #[tactic(auto, unfolding(crate::specs::Operand::twelve_bits))]
 pub fn twelve_bits(symbols: &Symbols, piece: &[u8]) -> Judged<i64>
     ensures value { result ≡ twelve_bits (meanings_of symbols.now) piece.now }
     ensures small { IfOk result IsTwelveBits }
 {
-    ranged(-2048, 2047, number(symbols, piece))
+    number_in_range(
+        i64::from(LEAST_IMMEDIATE),
+        i64::from(GREATEST_IMMEDIATE),
+        number(symbols, piece),
+    )
 }
 
 fn in_brackets(symbols: &Symbols, front: &[u8], behind: &[u8]) -> Judged<(i64, u8)>
@@ -164,18 +169,18 @@ fn in_brackets(symbols: &Symbols, front: &[u8], behind: &[u8]) -> Judged<(i64, u
     match rest {
         None => Err(AsmKind::Operands),
         Some(rest) => {
-            if !trimmed(rest).is_empty() {
+            if !without_outer_blanks(rest).is_empty() {
                 return Err(AsmKind::Operands);
             }
-            both(
-                twelve_bits(symbols, trimmed(front)),
-                register(trimmed(inner)),
+            pair(
+                twelve_bits(symbols, without_outer_blanks(front)),
+                register(without_outer_blanks(inner)),
             )
         }
     }
 }
 
-/// `n(rs1)`: a number from -2,048 to 2,047, and a register.
+/// `n(rs1)`: a number of twelve bits, and a register.
 #[tactic(auto, unfolding(crate::specs::Operand::memory))]
 pub fn memory(symbols: &Symbols, piece: &[u8]) -> Judged<(i64, u8)>
     ensures value { result ≡ memory (meanings_of symbols.now) piece.now }

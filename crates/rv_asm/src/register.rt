@@ -1,9 +1,9 @@
 //! The names of the registers.
 
-ghost use Rattle.std.specs.Prelude.{◌≡◌, ◌<◌, IfSome};
+ghost use Rattle.std.specs.Prelude.{◌≡◌, ◌<◌, IfSome, length};
 ghost use Rattle.rv_inst.specs.Valid.{IsRegister};
-ghost use Rattle.rv_asm.specs.Register.{register_of};
-ghost use Rattle.rv_asm.specs.Places.{number_at};
+ghost use Rattle.rv_asm.specs.Register.{register_names, named_register};
+ghost use Rattle.rv_asm.specs.Places.{register_number};
 
 use crate::table::place_of;
 
@@ -17,9 +17,9 @@ const NAMES: [&str; 65] = [
 ];
 
 /// The number of the register with this name, 0 to 31.
-#[tactic(auto, using(crate::proofs::RegisterTable::register_by_place))]
+#[tactic(auto, using(crate::proofs::RegisterTable::register_by_place), unfolding(crate::specs::Register::register_names))]
 pub fn register_of(name: &[u8]) -> Option<u8>
-    ensures value { result ≡ register_of name.now }
+    ensures value { result ≡ named_register name.now }
     ensures small { IfSome result IsRegister }
 {
     let place = place_of(&NAMES, name)?;
@@ -27,9 +27,10 @@ pub fn register_of(name: &[u8]) -> Option<u8>
 }
 
 /// The number of the register whose name has this place.
+#[tactic(auto, unfolding(crate::specs::Register::register_names))]
 fn number_at(place: usize) -> u8
-    requires { place < 65 }
-    ensures value { result ≡ number_at place }
+    requires { place < length register_names }
+    ensures value { result ≡ register_number place }
     ensures small { IsRegister result }
 {
     match place {

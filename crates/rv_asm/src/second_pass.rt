@@ -1,12 +1,12 @@
 //! The second pass: each statement becomes instructions or bytes.
 
-ghost use Rattle.std.specs.Prelude.{◌≡◌, ◌+◌, ◌^◌, ◌≤◌, ◌∷◌, [], ◌++◌, replicate, vec_len, pos, neg_ℤ, ◌≤ℤ◌, ◌<ℤ◌, Ok, IfOk, OnOk};
+ghost use Rattle.std.specs.Prelude.{◌≡◌, ◌+◌, ◌≤◌, ◌∷◌, [], ◌++◌, replicate, vec_len, pos, neg_ℤ, ◌≤ℤ◌, ◌<ℤ◌, Ok, IfOk, OnOk};
 ghost use Rattle.std.specs.Int.{w32, to_le_bytes};
 ghost use Rattle.rv_inst.specs.Valid.{IsRegister, IsEven, IsValid};
 ghost use Rattle.rv_model.specs.Image.{image_start, image_room};
 ghost use Rattle.ce_text.specs.Names.{meanings_of};
 ghost use Rattle.rv_asm.specs.Sizes.{size_of};
-ghost use Rattle.rv_asm.specs.Sound.{IsSound};
+ghost use Rattle.rv_asm.specs.Sound.{IsSoundStatement};
 ghost use Rattle.rv_asm.specs.SecondPass.{Instruction, address_of, offset_to, parts_of, second_pass};
 ghost use Rattle.rv_asm.specs.Spelling.{HasAppended, AreGivenParts};
 ghost use Rattle.rv_asm.specs.declared.statement.Statement.TheVariants as statements;
@@ -17,14 +17,8 @@ use crate::name::Name;
 use crate::statement::{Statement, two_instructions};
 use crate::symbols::{Symbol, Symbols};
 use rv_inst::encode;
-use rv_model::{BranchOp, Inst, PRIVATE_START};
+use rv_model::{BRANCH_REACH, BranchOp, Inst, JUMP_REACH, PRIVATE_START};
 use std::alloc::{AllocError, Global};
-
-/// A jump goes less than so many bytes forward, and at most so many backward.
-const JUMP_REACH: u32 = 1 << 20;
-
-/// The same of a branch.
-const BRANCH_REACH: u32 = 1 << 12;
 
 /// The address of a label, and `UnknownName` where no line has it.
 #[tactic(auto, unfolding(crate::specs::SecondPass::address_of))]
@@ -40,7 +34,7 @@ fn address_of(symbols: &Symbols, label: &Name<'_>) -> Judged<u32>
 /// How far a target lies from an instruction, and `TooFar` where that is odd or not from -reach to reach - 1.
 #[tactic(auto, unfolding(crate::specs::SecondPass::offset_to))]
 fn offset_to(reach: u32, address: u32, target: u32) -> Judged<i32>
-    requires { reach ≤ 2 ^ 20 }
+    requires { reach ≤ JUMP_REACH }
     ensures value { result ≡ offset_to reach address target }
     ensures even { IfOk result IsEven }
     ensures least { IfOk result (λ offset. neg_ℤ (pos reach) ≤ℤ offset) }
@@ -84,7 +78,7 @@ fn put_statement(
     symbols: &Symbols,
     statement: &Statement<'_>,
 ) -> Result<(), Halt>
-    requires sound { IsSound statement.now }
+    requires sound { IsSoundStatement statement.now }
     requires room { vec_len out.old ≤ image_room }
     ensures parts { HasAppended result out.old.items out.new.items
         (parts_of (meanings_of symbols.now) (image_start + vec_len out.old) statement.now) }

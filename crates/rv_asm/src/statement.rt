@@ -2,12 +2,12 @@
 
 ghost use Rattle.std.specs.Prelude.{◌≡◌, ◌∷◌, [], map, IfOk, Ok};
 ghost use Rattle.rv_inst.specs.Valid.{IsRegister, IsTwelveBits, IsUpper, IsValid};
-ghost use Rattle.rv_asm.specs.Sound.{IsSoundMnemonic, IsSound, AreSound};
+ghost use Rattle.rv_asm.specs.Sound.{IsSoundMnemonic, IsSoundStatement, AreSound};
 ghost use Rattle.rv_asm.specs.Faults.{IsSeenAs, all_of, with_judged};
 ghost use Rattle.ce_text.specs.Names.{meanings_of};
 ghost use Rattle.rv_asm.specs.Statements.{low_part, high_part, two_instructions, load_word, word_value, byte_value, statements_of};
 ghost use Rattle.rv_asm.specs.Line.{pieces};
-ghost use Rattle.rv_asm.specs.Views.{datum_value, judged_of};
+ghost use Rattle.rv_asm.specs.Views.{datum_value, list_judgment};
 ghost use Rattle.rv_model.specs.declared.inst.Inst.TheVariants as insts;
 ghost use Rattle.rv_model.specs.declared.inst.ImmOp.TheVariants.{Addi};
 ghost use Rattle.rv_asm.specs.declared.statement.Statement.TheVariants as statements;
@@ -22,11 +22,18 @@ use crate::literal::literal_of;
 use crate::mnemonic::Mnemonic;
 use crate::name::{Name, is_name};
 use crate::operand::{
-    both, first_piece, name_piece, no_piece, number, one_piece, ranged, register, two_pieces,
+    first_piece, name_piece, no_piece, number, number_in_range, one_piece, pair, register,
+    two_pieces,
 };
 use crate::symbols::{Symbol, Symbols};
 use rv_model::{BranchOp, IMAGE_ROOM, ImmOp, Inst};
 use std::alloc::{AllocError, Global};
+
+/// The least number of a `.byte`.
+pub const LEAST_BYTE: i64 = -128;
+
+/// The greatest number of a `.byte`.
+pub const GREATEST_BYTE: i64 = 255;
 
 /// What is laid at one place. `.word a, b` is laid as `.word a` and `.word b`, and `li` as its instructions.
 #[derive(Debug, Drop)]
@@ -112,7 +119,7 @@ pub fn two_instructions(rd: u8, word: u32) -> (Inst, Inst)
 
 /// The list of one statement.
 fn one<'a>(alloc: Global, statement: Statement<'a>) -> Result<Vec<Statement<'a>>, Halt>
-    requires { IsSound statement }
+    requires { IsSoundStatement statement }
     ensures value { IsSeenAs (λ list. list.items) result (Ok (statement.entry ∷ [])) }
     ensures sound { IfOk result (λ list. AreSound list.items) }
 {
@@ -141,7 +148,7 @@ fn load_word<'a>(alloc: Global, rd: u8, word: u32) -> Result<Vec<Statement<'a>>,
 #[tactic(auto, unfolding(crate::specs::Statements::word_value))]
 fn word_value<'a>(symbols: &Symbols, piece: &'a [u8]) -> Judged<Statement<'a>>
     ensures value { result ≡ word_value (meanings_of symbols.now) piece.now }
-    ensures sound { IfOk result IsSound }
+    ensures sound { IfOk result IsSoundStatement }
 {
     if !is_token(piece) {
         return Err(AsmKind::Operands);
@@ -156,16 +163,16 @@ fn word_value<'a>(symbols: &Symbols, piece: &'a [u8]) -> Judged<Statement<'a>>
     }
 }
 
-/// An operand of `.word`, or one of `.byte`, which is from -128 to 255.
+/// An operand of `.word`, or one of `.byte`.
 #[tactic(auto, unfolding(crate::specs::Statements::byte_value))]
 fn datum_value<'a>(datum: Datum, symbols: &Symbols, piece: &'a [u8]) -> Judged<Statement<'a>>
     ensures value { result ≡ datum_value datum (meanings_of symbols.now) piece.now }
-    ensures sound { IfOk result IsSound }
+    ensures sound { IfOk result IsSoundStatement }
 {
     match datum {
         Datum::Word => word_value(symbols, piece),
         Datum::Byte => {
-            let number = ranged(-128, 255, number(symbols, piece))?;
+            let number = number_in_range(LEAST_BYTE, GREATEST_BYTE, number(symbols, piece))?;
             Ok(Statement::Byte(byte_of(number)))
         }
     }
@@ -173,14 +180,14 @@ fn datum_value<'a>(datum: Datum, symbols: &Symbols, piece: &'a [u8]) -> Judged<S
 
 /// One more judgment behind those of a line: the statement joins the list, or the fault is the one that is judged first.
 #[tactic(auto, unfolding(crate::specs::Faults::with_judged, crate::specs::Faults::both))]
-fn gathered<'a>(
+fn gather<'a>(
     list: &mut Vec<Statement<'a>>,
     fault: Option<AsmKind>,
     value: Judged<Statement<'a>>,
 ) -> Result<Option<AsmKind>, AllocError>
-    requires { IfOk value IsSound }
-    ensures more { IfOk result (λ next. judged_of next list.new.items
-        ≡ with_judged (judged_of fault list.old.items) value.entry) }
+    requires { IfOk value IsSoundStatement }
+    ensures more { IfOk result (λ next. list_judgment next list.new.items
+        ≡ with_judged (list_judgment fault list.old.items) value.entry) }
     ensures sound { IfOk result (λ next. AreSound list.old.items → AreSound list.new.items) }
 {
     match value {
@@ -212,7 +219,7 @@ fn data<'a>(
     while let Some(bytes) = rest {
         let (piece, after) = first_piece(bytes);
         let value = datum_value(datum, symbols, piece);
-        fault = gathered(&mut list, fault, value)?;
+        fault = gather(&mut list, fault, value)?;
         rest = after;
     }
     match fault {
@@ -270,7 +277,7 @@ pub fn statements_of<'a>(
         }
         Mnemonic::Mv => {
             let (rd, rs) = two_pieces(operands)?;
-            let (rd, rs) = both(register(rd), register(rs))?;
+            let (rd, rs) = pair(register(rd), register(rs))?;
             one(alloc, Statement::Inst(addi(rd, rs, 0)))
         }
         Mnemonic::Jal => {
@@ -301,12 +308,12 @@ pub fn statements_of<'a>(
         }
         Mnemonic::Zero => {
             let count = one_piece(operands)?;
-            let count = ranged(0, i64::from(IMAGE_ROOM), number(symbols, count))?;
+            let count = number_in_range(0, i64::from(IMAGE_ROOM), number(symbols, count))?;
             one(alloc, Statement::Zero(count as u32))
         }
         Mnemonic::Li => {
             let (rd, word) = two_pieces(operands)?;
-            let (rd, word) = both(register(rd), number(symbols, word))?;
+            let (rd, word) = pair(register(rd), number(symbols, word))?;
             load_word(alloc, rd, word_of(word))
         }
         Mnemonic::Word => data(alloc, Datum::Word, symbols, operands),

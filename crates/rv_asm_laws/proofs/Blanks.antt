@@ -13,12 +13,12 @@ use Rattle.rv_asm.specs.declared.fault.AsmKind.{AsmKind}
 use Rattle.rv_asm.specs.declared.fault.AsmKind.TheVariants.{BadByte, UnknownWord, Operands}
 use Rattle.rv_asm.specs.declared.mnemonic.Mnemonic.{Mnemonic}
 use Rattle.rv_asm.specs.declared.mnemonic.Mnemonic.TheVariants as words
-use Rattle.rv_asm.specs.Line.{is_colon, is_comma, is_opening, is_closing, pieces, pieces_behind}
+use Rattle.rv_asm.specs.Line.{is_colon, is_comma, is_opening, is_closing, pieces, comma_pieces}
 use Rattle.rv_asm.specs.Names.{Names}
-use Rattle.rv_asm.specs.Faults.{◌>>=◌, refuse, both}
+use Rattle.rv_asm.specs.Faults.{◌>>=◌, refusal, both}
 use Rattle.rv_asm.specs.Operand.{no_piece, one_piece, two_pieces, three_pieces, register, twelve_bits, memory, is_closed}
 use Rattle.rv_asm.specs.Statements.{register_upper, register_memory, registers_immediate, three_registers, two_registers, register_word, register_label, registers_label, one_label, zero_count, statements_of}
-use Rattle.rv_asm.specs.FirstPass.{LayoutSoFar, equ, lay, operands_of, statement, labelled_statement, line_laid}
+use Rattle.rv_asm.specs.FirstPass.{LayoutSoFar, layout_with_number, layout_with_statements, operands_of, statement, labelled_statement, line_laid}
 use Rattle.rv_asm.proofs.Pieces.{pieces_cut}
 use Rattle.ce_text.proofs.CutParts.{in_front, at_end, cut_later, cut_front, cut_none, cut_end, cut_mark}
 
@@ -135,7 +135,7 @@ by_end number laid blanks (front, Some rest) h = rw (trimmed_end rest blanks h) 
 
 -- what the code of a line means
 meant : ℕ → LayoutSoFar → Bool → List ℕ × Option (List ℕ) → Result LayoutSoFar AsmKind
-meant number laid plain parts = refuse (not plain) BadByte >>= λ ok. labelled_statement number laid parts.0 parts.1
+meant number laid plain parts = refusal (not plain) BadByte >>= λ ok. labelled_statement number laid parts.0 parts.1
 
 meant_line : (number : ℕ) (laid : LayoutSoFar) (line : List ℕ) → line_laid number laid line ≡ meant number laid (list_all is_plain (before_comment line)) (cut is_colon (before_comment line))
 unfolding line_laid meant
@@ -146,14 +146,14 @@ code_front : (number : ℕ) (laid : LayoutSoFar) (blanks code : List ℕ) → Ar
 unfolding meant
 code_front number laid blanks code h =
     rw (plain_front blanks code h, cut_front is_colon blanks code (no_mark is_colon blanks not_colon h))
-    (ap (λ (it : Result LayoutSoFar AsmKind). refuse (not (list_all is_plain code)) BadByte >>= λ ok. it) (by_front number laid blanks (cut is_colon code) h))
+    (ap (λ (it : Result LayoutSoFar AsmKind). refusal (not (list_all is_plain code)) BadByte >>= λ ok. it) (by_front number laid blanks (cut is_colon code) h))
 
 code_end : (number : ℕ) (laid : LayoutSoFar) (blanks code : List ℕ) → AreBlanks blanks
     → meant number laid (list_all is_plain (code ++ blanks)) (cut is_colon (code ++ blanks)) ≡ meant number laid (list_all is_plain code) (cut is_colon code)
 unfolding meant
 code_end number laid blanks code h =
     rw (plain_end code blanks h, cut_end is_colon code blanks (no_mark is_colon blanks not_colon h))
-    (ap (λ (it : Result LayoutSoFar AsmKind). refuse (not (list_all is_plain code)) BadByte >>= λ ok. it) (by_end number laid blanks (cut is_colon code) h))
+    (ap (λ (it : Result LayoutSoFar AsmKind). refusal (not (list_all is_plain code)) BadByte >>= λ ok. it) (by_end number laid blanks (cut is_colon code) h))
 
 front_goes_line : (number : ℕ) (laid : LayoutSoFar) (blanks line : List ℕ) → AreBlanks blanks → line_laid number laid (blanks ++ line) ≡ line_laid number laid line
 unfolding before_comment
@@ -228,7 +228,7 @@ colon_goes number laid label before after rest hash colon b a =
 -- what a statement with a word means
 said : ℕ → LayoutSoFar → Bool → List ℕ × Option (List ℕ) → Result LayoutSoFar AsmKind
 said number laid colon parts =
-    refuse colon UnknownWord >>= λ ok. cond (bytes_eq parts.0 (codes ".equ")) (equ laid (operands_of parts.1)) (lay number laid parts.0 (operands_of parts.1))
+    refusal colon UnknownWord >>= λ ok. cond (bytes_eq parts.0 (codes ".equ")) (layout_with_number laid (operands_of parts.1)) (layout_with_statements number laid parts.0 (operands_of parts.1))
 
 said_so : (number : ℕ) (laid : LayoutSoFar) (word : List ℕ) (mark : ℕ) (rest : List ℕ)
     → statement number laid (word ++ mark ∷ rest) ≡ said number laid (list_any is_colon (word ++ mark ∷ rest)) (cut is_blank (word ++ mark ∷ rest))
@@ -304,8 +304,8 @@ map_last blanks (part ∷ next ∷ parts) h = ap (λ (others : List (List ℕ)).
 pieces_front : (blanks operands : List ℕ) → AreBlanks blanks → pieces (blanks ++ operands) ≡ pieces operands
 pieces_front blanks operands h =
     pieces_cut (blanks ++ operands)
-    ∙ ap (λ (parts : List ℕ × Option (List ℕ)). without_outer_blanks parts.0 ∷ pieces_behind parts.1) (cut_front is_comma blanks operands (no_mark is_comma blanks not_comma h))
-    ∙ ap (λ (bytes : List ℕ). bytes ∷ pieces_behind (cut is_comma operands).1) (trimmed_front blanks (cut is_comma operands).0 h) ∙ sym (pieces_cut operands)
+    ∙ ap (λ (parts : List ℕ × Option (List ℕ)). without_outer_blanks parts.0 ∷ comma_pieces parts.1) (cut_front is_comma blanks operands (no_mark is_comma blanks not_comma h))
+    ∙ ap (λ (bytes : List ℕ). bytes ∷ comma_pieces (cut is_comma operands).1) (trimmed_front blanks (cut is_comma operands).0 h) ∙ sym (pieces_cut operands)
 
 pieces_end : (operands blanks : List ℕ) → AreBlanks blanks → pieces (operands ++ blanks) ≡ pieces operands
 unfolding pieces
@@ -354,7 +354,7 @@ comma_goes mnemonic names first before after second b a =
 
 -- `n(rs1)` from the number and what stands behind the opening bracket
 bracketed : Names → List ℕ → List ℕ × Option (List ℕ) → Result (ℤ × ℕ) AsmKind
-bracketed names number parts = refuse (not (is_closed parts.1)) Operands >>= λ ok. both (twelve_bits names number) (register (without_outer_blanks parts.0))
+bracketed names number parts = refusal (not (is_closed parts.1)) Operands >>= λ ok. both (twelve_bits names number) (register (without_outer_blanks parts.0))
 
 inner : (names : Names) (number blanks : List ℕ) (parts : List ℕ × Option (List ℕ)) → AreBlanks blanks → bracketed names number (in_front blanks parts) ≡ bracketed names number parts
 unfolding bracketed

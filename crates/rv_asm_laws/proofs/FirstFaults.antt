@@ -6,24 +6,24 @@ use Rattle.std.proofs.lemmas.Result.{IfOk-at_ok, IfErr-at_err}
 use Rattle.rv_asm.specs.declared.fault.AsmKind.{AsmKind}
 use Rattle.rv_asm.specs.declared.fault.AsmFault.{AsmFault}
 use Rattle.rv_asm.specs.Faults.{◌>>=◌}
-use Rattle.ce_text.specs.Line.{lines}
+use Rattle.ce_text.specs.Line.{line_texts}
 use Rattle.rv_asm.specs.FirstPass.{LayoutSoFar, nothing_laid, line_laid, at_line, lines_laid, first_pass}
-use Rattle.rv_asm_laws.specs.Before.{laid_or, laid_by, laid_before, judged_line, IsFirstFault, AreLaid}
+use Rattle.rv_asm_laws.specs.Before.{layout_or_given, layout_of_lines, layout_before, judged_line, IsFirstFault, AreLaid}
 
 -- the judgment of a line of those behind so many, once this is laid
 abbrev judged_at : ℕ → LayoutSoFar → List (List ℕ) → ℕ → Result LayoutSoFar AsmKind
-judged_at before laid these i = line_laid (before + i + 1) (laid_by before laid (take i these)) (get_or these i [])
+judged_at before laid these i = line_laid (before + i + 1) (layout_of_lines before laid (take i these)) (get_or these i [])
 
 -- the same, behind one more line
 judged_behind : (before : ℕ) (laid next : LayoutSoFar) (line : List ℕ) (these : List (List ℕ)) (i : ℕ) → line_laid (before + 1) laid line ≡ Ok next
     → judged_at before laid (line ∷ these) (suc i) ≡ judged_at (before + 1) next these i
-unfolding laid_by
+unfolding layout_of_lines
 judged_behind before laid next line these i e =
-    ap (λ (r : Result LayoutSoFar AsmKind). line_laid (before + suc i + 1) (laid_by (before + 1) (laid_or laid r) (take i these)) (get_or these i [])) e
-    ∙ ap (λ (n : ℕ). line_laid n (laid_by (before + 1) next (take i these)) (get_or these i [])) (omega arith)
+    ap (λ (r : Result LayoutSoFar AsmKind). line_laid (before + suc i + 1) (layout_of_lines (before + 1) (layout_or_given laid r) (take i these)) (get_or these i [])) e
+    ∙ ap (λ (n : ℕ). line_laid n (layout_of_lines (before + 1) next (take i these)) (get_or these i [])) (omega arith)
 
 judged_first : (before : ℕ) (laid : LayoutSoFar) (line : List ℕ) (these : List (List ℕ)) → judged_at before laid (line ∷ these) 0 ≡ line_laid (before + 1) laid line
-unfolding laid_by
+unfolding layout_of_lines
 judged_first before laid line these = ap (λ (n : ℕ). line_laid n laid line) (omega arith)
 
 record IsFirst (before : ℕ) (laid : LayoutSoFar) (these : List (List ℕ)) (fault : AsmFault) : Type 0 where
@@ -71,49 +71,49 @@ is_first before laid (line ∷ these) fault h =
     first_by before laid line these fault (line_laid (before + 1) laid line) refl (λ next. is_first (before + 1) next these fault) h
 
 judged_so : (these : List (List ℕ)) (i : ℕ) → judged_at 0 nothing_laid these i ≡ judged_line these i
-judged_so these i = ap (λ (n : ℕ). line_laid n (laid_before these i) (get_or these i [])) (omega arith)
+judged_so these i = ap (λ (n : ℕ). line_laid n (layout_before these i) (get_or these i [])) (omega arith)
 
-pub first_fault_of : (text : List ℕ) (fault : AsmFault) → first_pass text ≡ Err fault → IsFirstFault (lines text) fault
+pub first_fault_of : (text : List ℕ) (fault : AsmFault) → first_pass text ≡ Err fault → IsFirstFault (line_texts text) fault
 unfolding first_pass
 first_fault_of text fault h =
-    let first = is_first 0 nothing_laid (lines text) fault h in
+    let first = is_first 0 nothing_laid (line_texts text) fault h in
     record {
       place = first.place;
       number = omega (arith, first.number);
       within = first.within;
-      here = sym (judged_so (lines text) first.place) ∙ first.here;
-      before = λ i lt. subst (λ (r : Result LayoutSoFar AsmKind). IsOk r) (judged_so (lines text) i) (first.earlier i lt);
+      here = sym (judged_so (line_texts text) first.place) ∙ first.here;
+      before = λ i lt. subst (λ (r : Result LayoutSoFar AsmKind). IsOk r) (judged_so (line_texts text) i) (first.earlier i lt);
     }
 
 -- ---- no fault
 
 record AreAll (before : ℕ) (laid : LayoutSoFar) (these : List (List ℕ)) (out : LayoutSoFar) : Type 0 where
   each : (i : ℕ) → i < length these → IsOk (judged_at before laid these i)
-  last : laid_by before laid these ≡ out
+  last : layout_of_lines before laid these ≡ out
 
 all_by : (before : ℕ) (laid : LayoutSoFar) (line : List ℕ) (these : List (List ℕ)) (out : LayoutSoFar) (r : Result LayoutSoFar AsmKind) → line_laid (before + 1) laid line ≡ r
     → ((next : LayoutSoFar) → lines_laid (before + 1) next these ≡ Ok out → AreAll (before + 1) next these out)
     → (at_line (before + 1) r >>= λ one. lines_laid (before + 1) one these) ≡ Ok out → AreAll before laid (line ∷ these) out
-unfolding laid_by
+unfolding layout_of_lines
 all_by before laid line these out (Err kind) e others h = absurd cc
 all_by before laid line these out (Ok next) e others h =
     let rest = others next h in
     record {
       each = λ i lt. earlier_by before laid next line these (length these) e rest.each i (omega arith);
-      last = ap (λ (r : Result LayoutSoFar AsmKind). laid_by (before + 1) (laid_or laid r) these) e ∙ rest.last;
+      last = ap (λ (r : Result LayoutSoFar AsmKind). layout_of_lines (before + 1) (layout_or_given laid r) these) e ∙ rest.last;
     }
 
 are_all : (before : ℕ) (laid : LayoutSoFar) (these : List (List ℕ)) (out : LayoutSoFar) → lines_laid before laid these ≡ Ok out → AreAll before laid these out
-unfolding lines_laid laid_by
+unfolding lines_laid layout_of_lines
 are_all before laid [] out h = record { each = λ i lt. absurd (omega arith); last = IfOk-at_ok (λ (one : LayoutSoFar). laid ≡ one) h refl }
 are_all before laid (line ∷ these) out h =
     all_by before laid line these out (line_laid (before + 1) laid line) refl (λ next. are_all (before + 1) next these out) h
 
-pub are_laid : (text : List ℕ) (laid : LayoutSoFar) → first_pass text ≡ Ok laid → AreLaid (lines text) laid
+pub are_laid : (text : List ℕ) (laid : LayoutSoFar) → first_pass text ≡ Ok laid → AreLaid (line_texts text) laid
 unfolding first_pass
 are_laid text laid h =
-    let all = are_all 0 nothing_laid (lines text) laid h in
+    let all = are_all 0 nothing_laid (line_texts text) laid h in
     record {
-      each = λ i lt. subst (λ (r : Result LayoutSoFar AsmKind). IsOk r) (judged_so (lines text) i) (all.each i lt);
-      all = ap (laid_by 0 nothing_laid) (take_all (length (lines text)) (lines text) (omega arith)) ∙ all.last;
+      each = λ i lt. subst (λ (r : Result LayoutSoFar AsmKind). IsOk r) (judged_so (line_texts text) i) (all.each i lt);
+      all = ap (layout_of_lines 0 nothing_laid) (take_all (length (line_texts text)) (line_texts text) (omega arith)) ∙ all.last;
     }

@@ -2,14 +2,14 @@
 use Rattle.std.proofs.Common.{◌≡◌, Bool, true, false, Option, Some, None, refl}
 use Rattle.std.specs.Prelude.{◌||◌}
 use Rattle.rv_asm.specs.declared.fault.AsmKind.{AsmKind}
-use Rattle.rv_asm.specs.Faults.{earlier}
+use Rattle.rv_asm.specs.Faults.{earlier_kind}
 use Rattle.rv_asm_laws.specs.Forms.{first_kind}
 
 -- the fault that is judged first, of two judgments of one line
 abbrev pub earliest : Option AsmKind → Option AsmKind → Option AsmKind
 earliest None second = second
 earliest (Some first) None = Some first
-earliest (Some first) (Some second) = Some (earlier first second)
+earliest (Some first) (Some second) = Some (earlier_kind first second)
 
 -- the kinds of two judgments are those of either, and the earlier of their first ones is the first
 pub first_kind-joined : (malformed register number name malformed' register' number' name' : Bool)

@@ -8,11 +8,11 @@ use Rattle.rv_asm.specs.declared.fault.AsmKind.{AsmKind}
 use Rattle.rv_asm.specs.declared.symbols.Symbol.{Symbol}
 use Rattle.rv_asm.specs.declared.symbols.Symbol.TheVariants.{Label, Number}
 use Rattle.rv_asm.specs.Faults.{◌>>=◌}
-use Rattle.ce_text.specs.Line.{without_outer_blanks, lines}
+use Rattle.ce_text.specs.Line.{without_outer_blanks, line_texts}
 use Rattle.rv_asm.specs.Names.{Names, is_taken}
-use Rattle.rv_asm.specs.FirstPass.{LayoutSoFar, nothing_laid, define, statement, labelled_statement, line_laid, at_line, lines_laid, first_pass}
+use Rattle.rv_asm.specs.FirstPass.{LayoutSoFar, nothing_laid, layout_with_name, statement, labelled_statement, line_laid, at_line, lines_laid, first_pass}
 use Rattle.rv_asm.specs.Assembly.{label_or_start, entry_of}
-use Rattle.rv_asm_laws.specs.Before.{label_before, label_of, laid_or, laid_by, laid_before}
+use Rattle.rv_asm_laws.specs.Before.{label_part, label_of, layout_or_given, layout_of_lines, layout_before}
 use Rattle.rv_asm_laws.proofs.Leading.{HasLed, IsKept, led_here, led_next, led_then, led_further, led_at_line, define_led, statement_led, line_led}
 
 -- ---- names that are defined stay so
@@ -52,11 +52,11 @@ same_bytes name = (bytes_decides name name).1 refl
 named_so : (names : Names) (name : List ℕ) (address : ℕ) (same : Bool) → same ≡ true → cond same (Some (Label address)) (names name) ≡ Some (Label address)
 named_so names name address same e = rw e refl
 
-define_means : (laid : LayoutSoFar) (name : List ℕ) (address : ℕ) → HasLed (HasLabel name address) (define laid name (Label address))
+define_means : (laid : LayoutSoFar) (name : List ℕ) (address : ℕ) → HasLed (HasLabel name address) (layout_with_name laid name (Label address))
 define_means laid name address =
     define_led (HasLabel name address) laid name (Label address) (λ free. named_so laid.names name address (bytes_eq name name) (same_bytes name))
 
-labelled_means : (line : ℕ) (laid : LayoutSoFar) (front : List ℕ) (rest : Option (List ℕ)) (name : List ℕ) → label_before (front, rest) ≡ Some name
+labelled_means : (line : ℕ) (laid : LayoutSoFar) (front : List ℕ) (rest : Option (List ℕ)) (name : List ℕ) → label_part (front, rest) ≡ Some name
     → HasLed (HasLabel name (image_start + laid.size)) (labelled_statement line laid front rest)
 labelled_means line laid front None name e = absurd cc
 labelled_means line laid front (Some rest) name e =
@@ -95,8 +95,8 @@ unfolding lines_laid
 first_laid before laid out line these h = first_by before laid out line these (line_laid (before + 1) laid line) refl h
 
 labels_meant : (before : ℕ) (laid out : LayoutSoFar) (these : List (List ℕ)) (i : ℕ) (name : List ℕ) → lines_laid before laid these ≡ Ok out → i < length these → label_of (get_or these i []) ≡ Some name
-    → out.names name ≡ Some (Label (image_start + (laid_by before laid (take i these)).size))
-unfolding laid_by
+    → out.names name ≡ Some (Label (image_start + (layout_of_lines before laid (take i these)).size))
+unfolding layout_of_lines
 labels_meant before laid out [] i name h lt e = absurd (omega arith)
 labels_meant before laid out (line ∷ these) zero name h lt e =
     let first = first_laid before laid out line these h in
@@ -105,12 +105,12 @@ labels_meant before laid out (line ∷ these) zero name h lt e =
 labels_meant before laid out (line ∷ these) (suc i) name h lt e =
     let first = first_laid before laid out line these h in
     labels_meant (before + 1) first.next out these i name first.rest (omega arith) e
-    ∙ ap (λ (r : Result LayoutSoFar AsmKind). Some (Label (image_start + (laid_by (before + 1) (laid_or laid r) (take i these)).size))) (sym first.here)
+    ∙ ap (λ (r : Result LayoutSoFar AsmKind). Some (Label (image_start + (layout_of_lines (before + 1) (layout_or_given laid r) (take i these)).size))) (sym first.here)
 
-pub label_addresses : (text : List ℕ) (laid : LayoutSoFar) (i : ℕ) (name : List ℕ) → first_pass text ≡ Ok laid → i < length (lines text) → label_of (get_or (lines text) i []) ≡ Some name
-    → laid.names name ≡ Some (Label (image_start + (laid_before (lines text) i).size))
+pub label_addresses : (text : List ℕ) (laid : LayoutSoFar) (i : ℕ) (name : List ℕ) → first_pass text ≡ Ok laid → i < length (line_texts text) → label_of (get_or (line_texts text) i []) ≡ Some name
+    → laid.names name ≡ Some (Label (image_start + (layout_before (line_texts text) i).size))
 unfolding first_pass
-label_addresses text laid i name h lt e = labels_meant 0 nothing_laid laid (lines text) i name h lt e
+label_addresses text laid i name h lt e = labels_meant 0 nothing_laid laid (line_texts text) i name h lt e
 
 -- ---- a label comes from its line
 
@@ -146,7 +146,7 @@ unfolding address_in
 label_by names name other here address true e h = inr (ap (λ (n : List ℕ). Some n) ((bytes_decides name other).0 e), sym (ap address_in h))
 label_by names name other here address false e h = inl h
 
-define_comes : (laid : LayoutSoFar) (name : List ℕ) → HasLed (HasLabelsFrom laid (Some name)) (define laid name (Label (image_start + laid.size)))
+define_comes : (laid : LayoutSoFar) (name : List ℕ) → HasLed (HasLabelsFrom laid (Some name)) (layout_with_name laid name (Label (image_start + laid.size)))
 define_comes laid name =
     define_led (HasLabelsFrom laid (Some name)) laid name (Label (image_start + laid.size))
     (λ free other address meant. label_by laid.names name other (image_start + laid.size) address (bytes_eq name other) refl meant)
@@ -154,7 +154,7 @@ define_comes laid name =
 statement_comes : (line : ℕ) (laid : LayoutSoFar) (bytes : List ℕ) → HasLed (HasLabelsOf laid) (statement line laid bytes)
 statement_comes line laid bytes = statement_led HasLabelsOf labels_kept line laid bytes
 
-labelled_comes : (line : ℕ) (laid : LayoutSoFar) (front : List ℕ) (rest : Option (List ℕ)) → HasLed (HasLabelsFrom laid (label_before (front, rest))) (labelled_statement line laid front rest)
+labelled_comes : (line : ℕ) (laid : LayoutSoFar) (front : List ℕ) (rest : Option (List ℕ)) → HasLed (HasLabelsFrom laid (label_part (front, rest))) (labelled_statement line laid front rest)
 labelled_comes line laid front None = record { led = λ next so name address meant. inl ((statement_comes line laid (without_outer_blanks front)).led next so name address meant) }
 labelled_comes line laid front (Some rest) =
     let P : LayoutSoFar → Type 0 = HasLabelsFrom laid (Some (without_outer_blanks front)) in
@@ -170,22 +170,22 @@ record IsLabelled (before : ℕ) (laid : LayoutSoFar) (these : List (List ℕ)) 
   place : ℕ
   within : place < length these
   labelled : label_of (get_or these place []) ≡ Some name
-  address_is : address ≡ image_start + (laid_by before laid (take place these)).size
+  address_is : address ≡ image_start + (layout_of_lines before laid (take place these)).size
 
 behind_first : (before : ℕ) (laid next : LayoutSoFar) (line : List ℕ) (these : List (List ℕ)) (name : List ℕ) (address : ℕ) → line_laid (before + 1) laid line ≡ Ok next
     → IsLabelled (before + 1) next these name address → IsLabelled before laid (line ∷ these) name address
-unfolding laid_by
+unfolding layout_of_lines
 behind_first before laid next line these name address e h = record {
   place = suc h.place;
   within = omega (arith, h.within);
   labelled = h.labelled;
   address_is =
-      h.address_is ∙ ap (λ (r : Result LayoutSoFar AsmKind). image_start + (laid_by (before + 1) (laid_or laid r) (take h.place these)).size) (sym e);
+      h.address_is ∙ ap (λ (r : Result LayoutSoFar AsmKind). image_start + (layout_of_lines (before + 1) (layout_or_given laid r) (take h.place these)).size) (sym e);
 }
 
 at_first : (before : ℕ) (laid : LayoutSoFar) (line : List ℕ) (these : List (List ℕ)) (name : List ℕ) (address : ℕ) → label_of line ≡ Some name → address ≡ image_start + laid.size
     → IsLabelled before laid (line ∷ these) name address
-unfolding laid_by
+unfolding layout_of_lines
 at_first before laid line these name address e same = record { place = 0; within = omega arith; labelled = e; address_is = same }
 
 comes_by : (before : ℕ) (laid next : LayoutSoFar) (line : List ℕ) (these : List (List ℕ)) (name : List ℕ) (address : ℕ) → line_laid (before + 1) laid line ≡ Ok next
@@ -209,19 +209,19 @@ labels_come before laid out (line ∷ these) name address h meant =
 -- ---- the entry
 
 no_label_by : (text : List ℕ) (laid : LayoutSoFar) (name : List ℕ) (meaning : Option Symbol) → laid.names name ≡ meaning → first_pass text ≡ Ok laid
-    → ((i : ℕ) → i < length (lines text) → label_of (get_or (lines text) i []) ≡ Some name → ⊥) → label_or_start meaning ≡ image_start
+    → ((i : ℕ) → i < length (line_texts text) → label_of (get_or (line_texts text) i []) ≡ Some name → ⊥) → label_or_start meaning ≡ image_start
 unfolding first_pass
 no_label_by text laid name (Some (Label address)) e h none =
-    elim (labels_come 0 nothing_laid laid (lines text) name address h e) [
+    elim (labels_come 0 nothing_laid laid (line_texts text) name address h e) [
       | inl old ↦ absurd cc
       | inr from ↦ absurd (none from.place from.within from.labelled)
     ]
 no_label_by text laid name (Some (Number n)) e h none = refl
 no_label_by text laid name None e h none = refl
 
-pub entry_without_start : (text : List ℕ) (laid : LayoutSoFar) → first_pass text ≡ Ok laid → ((i : ℕ) → i < length (lines text) → label_of (get_or (lines text) i []) ≡ Some (codes "start") → ⊥) → entry_of laid.names ≡ image_start
+pub entry_without_start : (text : List ℕ) (laid : LayoutSoFar) → first_pass text ≡ Ok laid → ((i : ℕ) → i < length (line_texts text) → label_of (get_or (line_texts text) i []) ≡ Some (codes "start") → ⊥) → entry_of laid.names ≡ image_start
 entry_without_start text laid h none = no_label_by text laid (codes "start") (laid.names (codes "start")) refl h none
 
-pub entry_at_start : (text : List ℕ) (laid : LayoutSoFar) (i : ℕ) → first_pass text ≡ Ok laid → i < length (lines text) → label_of (get_or (lines text) i []) ≡ Some (codes "start")
-    → entry_of laid.names ≡ image_start + (laid_before (lines text) i).size
+pub entry_at_start : (text : List ℕ) (laid : LayoutSoFar) (i : ℕ) → first_pass text ≡ Ok laid → i < length (line_texts text) → label_of (get_or (line_texts text) i []) ≡ Some (codes "start")
+    → entry_of laid.names ≡ image_start + (layout_before (line_texts text) i).size
 entry_at_start text laid i h lt e = ap label_or_start (label_addresses text laid i (codes "start") h lt e)

@@ -3,6 +3,7 @@ use Rattle.std.proofs.Common.{◌≡◌, ℕ, zero, suc, ◌+◌, ◌<◌, Bool,
 use Rattle.std.specs.Prelude.{ℤ, pos, ◌-ℤ◌, sum_by, slice_get}
 use Rattle.std.proofs.lemmas.List.Sums.{sum_by-cons}
 use Rattle.std.specs.Result.{result_err}
+use Rattle.rv_model.specs.declared.limits.TheConstants.{BRANCH_REACH, JUMP_REACH}
 use Rattle.rv_asm.specs.declared.fault.AsmKind.{AsmKind}
 use Rattle.rv_asm.specs.declared.fault.AsmKind.TheVariants.{UnknownName, TooFar}
 use Rattle.rv_asm.specs.declared.symbols.Symbol.{Symbol}
@@ -11,19 +12,19 @@ use Rattle.rv_asm.specs.declared.fault.AsmFault.{AsmFault}
 use Rattle.rv_asm.specs.declared.statement.PlacedStatement.{PlacedStatement}
 use Rattle.rv_asm.specs.declared.statement.Statement.{Statement}
 use Rattle.rv_asm.specs.declared.statement.Statement.TheVariants as statements
-use Rattle.rv_asm.specs.Faults.{◌>>=◌, refuse}
+use Rattle.rv_asm.specs.Faults.{◌>>=◌, refusal}
 use Rattle.rv_asm.specs.Names.{Names}
 use Rattle.rv_asm.specs.Sizes.{size_of}
 use Rattle.rv_asm.specs.FirstPass.{at_line}
-use Rattle.rv_asm.specs.SecondPass.{Part, is_reached, jump_reach, branch_reach, address_meant, address_of, offset_to, parts_of, second_pass}
-use Rattle.rv_asm_laws.specs.LabelFaults.{is_no_label, is_far, label_fault, label_fault_at, IsFirstLabelFault, HasLabels}
+use Rattle.rv_asm.specs.SecondPass.{Part, is_reached, address_meant, address_of, offset_to, parts_of, second_pass}
+use Rattle.rv_asm_laws.specs.LabelFaults.{is_no_label, is_far, label_fault, numbered_label_fault, IsFirstLabelFault, HasLabels}
 
 plain_label : {A : Type 0} (meant : Option Symbol) (make : ℕ → A) → result_err (address_meant meant >>= λ target. Ok (make target)) ≡ cond (is_no_label meant) (Some UnknownName) None
 plain_label None make = refl
 plain_label (Some (Label address)) make = refl
 plain_label (Some (Number n)) make = refl
 
-reached_by : {A : Type 0} (reached : Bool) (offset : ℤ) (make : ℤ → A) → result_err ((refuse (not reached) TooFar >>= λ near. Ok offset) >>= λ it. Ok (make it)) ≡ cond (not reached) (Some TooFar) None
+reached_by : {A : Type 0} (reached : Bool) (offset : ℤ) (make : ℤ → A) → result_err ((refusal (not reached) TooFar >>= λ near. Ok offset) >>= λ it. Ok (make it)) ≡ cond (not reached) (Some TooFar) None
 reached_by true offset make = refl
 reached_by false offset make = refl
 
@@ -37,8 +38,8 @@ far_label reach address (Some (Label target)) make = reached_by (is_reached reac
 pub labels_judged : (names : Names) (address : ℕ) (statement : Statement) → result_err (parts_of names address statement) ≡ label_fault names address statement
 unfolding parts_of address_of
 labels_judged names address (statements.Inst inst) = refl
-labels_judged names address (statements.Jal rd label) = far_label jump_reach address (names label) _
-labels_judged names address (statements.Branch op rs1 rs2 label) = far_label branch_reach address (names label) _
+labels_judged names address (statements.Jal rd label) = far_label JUMP_REACH address (names label) _
+labels_judged names address (statements.Branch op rs1 rs2 label) = far_label BRANCH_REACH address (names label) _
 labels_judged names address (statements.La rd label) = plain_label (names label) _
 labels_judged names address (statements.Word word) = refl
 labels_judged names address (statements.Address label) = plain_label (names label) _
@@ -48,23 +49,23 @@ labels_judged names address (statements.Zero count) = refl
 -- ---- the first one
 
 -- the same statement, behind one more
-behind : (names : Names) (address : ℕ) (first : PlacedStatement) (others : List PlacedStatement) (i : ℕ) (it : PlacedStatement) → label_fault_at names address (first ∷ others) (suc i) it ≡ label_fault_at names (address + size_of first.statement) others i it
+behind : (names : Names) (address : ℕ) (first : PlacedStatement) (others : List PlacedStatement) (i : ℕ) (it : PlacedStatement) → numbered_label_fault names address (first ∷ others) (suc i) it ≡ numbered_label_fault names (address + size_of first.statement) others i it
 behind names address first others i it =
     let split : sum_by (λ (one : PlacedStatement). size_of one.statement) (first ∷ take i others) ≡ size_of first.statement + sum_by (λ (one : PlacedStatement). size_of one.statement) (take i others) = sum_by-cons (λ (one : PlacedStatement). size_of one.statement) first (take i others) in
     let same : address + sum_by (λ (one : PlacedStatement). size_of one.statement) (first ∷ take i others) ≡ address + size_of first.statement + sum_by (λ (one : PlacedStatement). size_of one.statement) (take i others) = omega (arith, split) in
     ap (λ (n : ℕ). label_fault names n it.statement) same
 
-alone : (names : Names) (address : ℕ) (first : PlacedStatement) (others : List PlacedStatement) → label_fault_at names address (first ∷ others) 0 first ≡ label_fault names address first.statement
+alone : (names : Names) (address : ℕ) (first : PlacedStatement) (others : List PlacedStatement) → numbered_label_fault names address (first ∷ others) 0 first ≡ label_fault names address first.statement
 alone names address first others = ap (λ (n : ℕ). label_fault names n first.statement) (omega arith)
 
 the_first : (first it : PlacedStatement) → Some first ≡ Some it → first ≡ it
 the_first first it e = ap (λ (found : Option PlacedStatement). elim found as (λ _. PlacedStatement) [ None ↦ first | Some one ↦ one ]) e
 
 none_before : (names : Names) (address : ℕ) (first : PlacedStatement) (others : List PlacedStatement) (place : ℕ) → label_fault names address first.statement ≡ None
-    → ((i : ℕ) (other : PlacedStatement) → i < place → slice_get others i ≡ Some other → label_fault_at names (address + size_of first.statement) others i other ≡ None)
-    → (i : ℕ) (other : PlacedStatement) → i < suc place → slice_get (first ∷ others) i ≡ Some other → label_fault_at names address (first ∷ others) i other ≡ None
+    → ((i : ℕ) (other : PlacedStatement) → i < place → slice_get others i ≡ Some other → numbered_label_fault names (address + size_of first.statement) others i other ≡ None)
+    → (i : ℕ) (other : PlacedStatement) → i < suc place → slice_get (first ∷ others) i ≡ Some other → numbered_label_fault names address (first ∷ others) i other ≡ None
 none_before names address first others place none h zero other lt e =
-    subst (λ (it : PlacedStatement). label_fault_at names address (first ∷ others) 0 it ≡ None) (the_first first other e) (alone names address first others ∙ none)
+    subst (λ (it : PlacedStatement). numbered_label_fault names address (first ∷ others) 0 it ≡ None) (the_first first other e) (alone names address first others ∙ none)
 none_before names address first others place none h (suc i) other lt e = behind names address first others i other ∙ h i other (omega arith) e
 
 fault_in : AsmFault → Result (List Part) AsmFault → AsmFault

@@ -8,11 +8,11 @@ use Rattle.rv_asm.specs.declared.symbols.Symbol.{Symbol}
 use Rattle.rv_asm.specs.declared.symbols.Symbol.TheVariants.{Label, Number}
 use Rattle.rv_asm.specs.declared.statement.Statement.{Statement}
 use Rattle.rv_asm.specs.declared.statement.PlacedStatement.{PlacedStatement}
-use Rattle.rv_asm.specs.Faults.{◌>>=◌, refuse}
+use Rattle.rv_asm.specs.Faults.{◌>>=◌, refusal}
 use Rattle.ce_text.specs.Line.{without_outer_blanks}
 use Rattle.rv_asm.specs.Names.{with_name, is_taken}
 use Rattle.rv_asm.specs.Sizes.{size_of}
-use Rattle.rv_asm.specs.FirstPass.{LayoutSoFar, laid_of, place, place_all, define, equ, lay, statement, labelled_statement, line_laid, at_line}
+use Rattle.rv_asm.specs.FirstPass.{LayoutSoFar, layout_of, layout_with_statement, layout_with_all, layout_with_name, layout_with_number, layout_with_statements, statement, labelled_statement, line_laid, at_line}
 
 -- what is laid by a judgment, if it is no fault, has the property
 pub record HasLed {E : Type 0} (P : LayoutSoFar → Type 0) (r : Result LayoutSoFar E) : Type 0 where
@@ -42,11 +42,11 @@ led_at_line P number (Err kind) h = led_nowhere P _
 
 -- a name is defined only where it is free
 pub define_led : (P : LayoutSoFar → Type 0) (laid : LayoutSoFar) (name : List ℕ) (symbol : Symbol)
-    → (is_taken laid.names name ≡ false → P (laid_of (with_name laid.names name symbol) laid.statements laid.size)) → HasLed P (define laid name symbol)
-unfolding define
+    → (is_taken laid.names name ≡ false → P (layout_of (with_name laid.names name symbol) laid.statements laid.size)) → HasLed P (layout_with_name laid name symbol)
+unfolding layout_with_name
 define_led P laid name symbol h = by (is_taken laid.names name) refl
   where
-    by : (taken : Bool) → is_taken laid.names name ≡ taken → HasLed P (refuse taken NameTaken >>= λ free. Ok (laid_of (with_name laid.names name symbol) laid.statements laid.size))
+    by : (taken : Bool) → is_taken laid.names name ≡ taken → HasLed P (refusal taken NameTaken >>= λ free. Ok (layout_of (with_name laid.names name symbol) laid.statements laid.size))
     by true e = led_nowhere P NameTaken
     by false e = led_here P _ (h e)
 
@@ -54,34 +54,34 @@ define_led P laid name symbol h = by (is_taken laid.names name) refl
 pub record IsKept (R : LayoutSoFar → LayoutSoFar → Type 0) : Type 0 where
   pub same : (laid : LayoutSoFar) → R laid laid
   pub further : (first second third : LayoutSoFar) → R first second → R second third → R first third
-  pub placed : (laid : LayoutSoFar) (one : PlacedStatement) → R laid (laid_of laid.names (laid.statements ++ one ∷ []) (laid.size + size_of one.statement))
-  pub numbered : (laid : LayoutSoFar) (name : List ℕ) (n : ℤ) → is_taken laid.names name ≡ false → R laid (laid_of (with_name laid.names name (Number n)) laid.statements laid.size)
+  pub placed : (laid : LayoutSoFar) (one : PlacedStatement) → R laid (layout_of laid.names (laid.statements ++ one ∷ []) (laid.size + size_of one.statement))
+  pub numbered : (laid : LayoutSoFar) (name : List ℕ) (n : ℤ) → is_taken laid.names name ≡ false → R laid (layout_of (with_name laid.names name (Number n)) laid.statements laid.size)
 
 module _ (R : LayoutSoFar → LayoutSoFar → Type 0) (kept : IsKept R) where
   pub led_further : {E : Type 0} (laid : LayoutSoFar) (r : Result LayoutSoFar E) (next : LayoutSoFar → Result LayoutSoFar E) → HasLed (R laid) r → ((one : LayoutSoFar) → HasLed (R one) (next one)) → HasLed (R laid) (r >>= next)
   led_further laid r next first h = led_then (R laid) (R laid) r next first (λ one so. record { led = λ last e. kept.further laid one last so ((h one).led last e) })
 
-  placed_led : (line : ℕ) (laid : LayoutSoFar) (it : Statement) → HasLed {E = AsmKind} (R laid) (Ok (laid_of laid.names (laid.statements ++ record { line = line; statement = it } ∷ []) (laid.size + size_of it)))
+  placed_led : (line : ℕ) (laid : LayoutSoFar) (it : Statement) → HasLed {E = AsmKind} (R laid) (Ok (layout_of laid.names (laid.statements ++ record { line = line; statement = it } ∷ []) (laid.size + size_of it)))
   placed_led line laid it = led_here (R laid) _ (kept.placed laid (record { line = line; statement = it }))
 
-  place_led : (line : ℕ) (laid : LayoutSoFar) (it : Statement) → HasLed (R laid) (place line laid it)
-  unfolding place
+  place_led : (line : ℕ) (laid : LayoutSoFar) (it : Statement) → HasLed (R laid) (layout_with_statement line laid it)
+  unfolding layout_with_statement
   place_led line laid it = search (led_next, placed_led)
 
-  place_all_led : (line : ℕ) (laid : LayoutSoFar) (these : List Statement) → HasLed (R laid) (place_all line laid these)
-  unfolding place_all
+  place_all_led : (line : ℕ) (laid : LayoutSoFar) (these : List Statement) → HasLed (R laid) (layout_with_all line laid these)
+  unfolding layout_with_all
   place_all_led line laid [] = led_here (R laid) laid (kept.same laid)
-  place_all_led line laid (it ∷ these) = led_further laid (place line laid it) _ (place_led line laid it) (λ one. place_all_led line one these)
+  place_all_led line laid (it ∷ these) = led_further laid (layout_with_statement line laid it) _ (place_led line laid it) (λ one. place_all_led line one these)
 
-  number_led : (laid : LayoutSoFar) (name : List ℕ) (n : ℤ) → HasLed (R laid) (define laid name (Number n))
+  number_led : (laid : LayoutSoFar) (name : List ℕ) (n : ℤ) → HasLed (R laid) (layout_with_name laid name (Number n))
   number_led laid name n = define_led (R laid) laid name (Number n) (kept.numbered laid name n)
 
-  equ_led : (laid : LayoutSoFar) (operands : List ℕ) → HasLed (R laid) (equ laid operands)
-  unfolding equ
+  equ_led : (laid : LayoutSoFar) (operands : List ℕ) → HasLed (R laid) (layout_with_number laid operands)
+  unfolding layout_with_number
   equ_led laid operands = search (led_next, number_led)
 
-  lay_led : (line : ℕ) (laid : LayoutSoFar) (word operands : List ℕ) → HasLed (R laid) (lay line laid word operands)
-  unfolding lay
+  lay_led : (line : ℕ) (laid : LayoutSoFar) (word operands : List ℕ) → HasLed (R laid) (layout_with_statements line laid word operands)
+  unfolding layout_with_statements
   lay_led line laid word operands = search (led_next, place_all_led)
 
   pub statement_led : (line : ℕ) (laid : LayoutSoFar) (bytes : List ℕ) → HasLed (R laid) (statement line laid bytes)
@@ -90,8 +90,8 @@ module _ (R : LayoutSoFar → LayoutSoFar → Type 0) (kept : IsKept R) where
   statement_led line laid (byte ∷ bytes) = search (led_next, led_either, equ_led, lay_led)
 
   -- the same of a whole line, where a label keeps it too
-  module _ (named : (laid : LayoutSoFar) (name : List ℕ) (address : ℕ) → is_taken laid.names name ≡ false → R laid (laid_of (with_name laid.names name (Label address)) laid.statements laid.size)) where
-    label_led : (laid : LayoutSoFar) (name : List ℕ) (address : ℕ) → HasLed (R laid) (define laid name (Label address))
+  module _ (named : (laid : LayoutSoFar) (name : List ℕ) (address : ℕ) → is_taken laid.names name ≡ false → R laid (layout_of (with_name laid.names name (Label address)) laid.statements laid.size)) where
+    label_led : (laid : LayoutSoFar) (name : List ℕ) (address : ℕ) → HasLed (R laid) (layout_with_name laid name (Label address))
     label_led laid name address = define_led (R laid) laid name (Label address) (named laid name address)
 
     labelled_led : (line : ℕ) (laid : LayoutSoFar) (front : List ℕ) (rest : Option (List ℕ)) → HasLed (R laid) (labelled_statement line laid front rest)

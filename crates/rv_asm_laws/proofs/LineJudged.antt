@@ -1,11 +1,12 @@
 -- The fault of a line, as the tests tell it.
 use Rattle.std.proofs.Common.{◌≡◌, ℕ, ◌+◌, ◌%◌, ◌<◌, ◌≤◌, Bool, true, false, cond, not, List, [], ◌∷◌, ◌++◌, length, map, Option, Some, None, Result, Ok, Err, refl, sym, ap, subst, ◌∙◌, arith}
-use Rattle.std.specs.Prelude.{◌||◌, ◌&&◌, ◌==◌, is_none, fold, sum_by, nat_lt, ℤ, pos, negsuc}
+use Rattle.std.specs.Prelude.{◌||◌, ◌&&◌, ◌==◌, is_none, fold, sum_by, nat_lt, ℤ, pos}
 use Rattle.std.specs.List.{list_all}
 use Rattle.std.specs.Result.{result_err}
 use Rattle.std.proofs.lemmas.Bool.{not-false, eqb-true, eq-eqb, ne_eqb, ltb-true, ltb-false, lt-ltb, le-ltb}
 use Rattle.std.proofs.lemmas.List.{length-append}
 use Rattle.std.proofs.lemmas.List.Sums.{sum_by-cons}
+use Rattle.rv_asm.specs.declared.statement.TheConstants.{GREATEST_BYTE, LEAST_BYTE}
 use Rattle.rv_model.specs.declared.inst.Inst.TheVariants as insts
 use Rattle.rv_model.specs.declared.inst.ImmOp.TheVariants.{Addi}
 use Rattle.rv_model.specs.Image.{image_start, image_room}
@@ -19,19 +20,19 @@ use Rattle.rv_asm.specs.declared.statement.Statement.{Statement}
 use Rattle.rv_asm.specs.declared.statement.Statement.TheVariants as statements
 use Rattle.ce_text.specs.Bytes.{is_plain}
 use Rattle.ce_text.specs.Line.{cut, without_outer_blanks, before_comment}
-use Rattle.rv_asm.specs.Line.{pieces, pieces_behind, is_colon, is_comma, is_token}
+use Rattle.rv_asm.specs.Line.{pieces, comma_pieces, is_colon, is_comma, is_token}
 use Rattle.rv_asm.specs.Literal.{literal_of}
 use Rattle.rv_asm.specs.Name.{is_name}
 use Rattle.rv_asm.specs.Names.{Names, with_name, is_taken}
-use Rattle.rv_asm.specs.Faults.{◌>>=◌, refuse, or_fault, both, with_judged, all_of}
-use Rattle.rv_asm.specs.Operand.{two_of, two_pieces, name_piece, number, number_in_range, no_piece, word_of, byte_of}
+use Rattle.rv_asm.specs.Faults.{◌>>=◌, refusal, or_fault, both, with_judged, all_of}
+use Rattle.rv_asm.specs.Operand.{two_of, two_pieces, name_piece, number, number_in_range, no_piece, wrapped_word, byte_of}
 use Rattle.rv_asm.specs.Sizes.{size_of, lays_words}
 use Rattle.rv_asm.specs.Words.{mnemonic_of}
 use Rattle.rv_asm.specs.Statements.{is_short, low_part, two_instructions, load_word, value_named, word_value, byte_value, register_upper, register_memory, registers_immediate, three_registers, two_registers, register_word, register_label, registers_label, one_label, zero_count, statements_of}
 use Rattle.rv_asm_laws.specs.Forms.{a_name, any_number, operands_fault, operand_texts}
-use Rattle.rv_asm.specs.FirstPass.{LayoutSoFar, laid_of, place, place_all, define, equ, lay, statement, labelled_statement, line_laid}
-use Rattle.rv_asm_laws.specs.Before.{label_before, label_of}
-use Rattle.rv_asm_laws.specs.LineFaults.{statement_behind, word_in, operands_in, is_equ, names_with, laid_list, is_of_words, takes_name, is_strange, operand_kind, room_kind, place_kind, or_then, statement_kind, has_colon, fault_behind, line_fault}
+use Rattle.rv_asm.specs.FirstPass.{LayoutSoFar, layout_of, layout_with_statement, layout_with_all, layout_with_name, layout_with_number, layout_with_statements, statement, labelled_statement, line_laid}
+use Rattle.rv_asm_laws.specs.Before.{label_part, label_of}
+use Rattle.rv_asm_laws.specs.LineFaults.{statement_part, word_in, operands_in, is_equ, names_with, statements_or_none, is_of_words, takes_name, is_strange, operand_kind, room_kind, place_kind, or_then, statement_kind, has_colon, fault_behind, line_fault}
 use Rattle.rv_asm.proofs.Pieces.{pieces_cut}
 use Rattle.rv_asm_laws.proofs.OperandFaults.{wrong, err_both, joined_two, name_fault, number_fault, written_two, some_pieces, operands_judged}
 
@@ -42,34 +43,34 @@ err_total (Err kind) next h = refl
 
 -- ---- `.equ`
 
-define_free : (laid : LayoutSoFar) (name : List ℕ) (symbol : Symbol) → is_taken laid.names name ≡ false → result_err (define laid name symbol) ≡ None
-unfolding define
+define_free : (laid : LayoutSoFar) (name : List ℕ) (symbol : Symbol) → is_taken laid.names name ≡ false → result_err (layout_with_name laid name symbol) ≡ None
+unfolding layout_with_name
 define_free laid name symbol e = rw e refl
 
 equ_pieces : (laid : LayoutSoFar) (first : List ℕ) (others : List (List ℕ)) → is_taken laid.names first ≡ false
-    → result_err (two_of (first ∷ others) >>= λ parts. both (name_piece parts.0) (number laid.names parts.1) >>= λ values. define laid parts.0 (Number values.1))
+    → result_err (two_of (first ∷ others) >>= λ parts. both (name_piece parts.0) (number laid.names parts.1) >>= λ values. layout_with_name laid parts.0 (Number values.1))
     ≡ operands_fault laid.names (a_name ∷ any_number ∷ []) (first ∷ others)
 equ_pieces laid first [] e = wrong laid.names (a_name ∷ any_number ∷ []) (first ∷ []) refl
 equ_pieces laid first (second ∷ []) e =
-    err_total (both (name_piece first) (number laid.names second)) (λ values. define laid first (Number values.1)) (λ values. define_free laid first (Number values.1) e)
+    err_total (both (name_piece first) (number laid.names second)) (λ values. layout_with_name laid first (Number values.1)) (λ values. define_free laid first (Number values.1) e)
     ∙ err_both (name_piece first) (number laid.names second)
     ∙ rw (name_fault laid.names first, number_fault laid.names second) (joined_two laid.names a_name any_number first second)
 equ_pieces laid first (second ∷ third ∷ others) e = wrong laid.names (a_name ∷ any_number ∷ []) (first ∷ second ∷ third ∷ others) (ne_eqb _ _ (λ h. absurd (omega arith)))
 
 equ_by : (laid : LayoutSoFar) (operands : List ℕ) (taken : Bool) → is_taken laid.names (without_outer_blanks (cut is_comma operands).0) ≡ taken
-    → result_err (refuse taken NameTaken >>= λ free. two_pieces operands >>= λ parts. both (name_piece parts.0) (number laid.names parts.1) >>= λ values. define laid parts.0 (Number values.1))
+    → result_err (refusal taken NameTaken >>= λ free. two_pieces operands >>= λ parts. both (name_piece parts.0) (number laid.names parts.1) >>= λ values. layout_with_name laid parts.0 (Number values.1))
     ≡ cond taken (Some NameTaken) (operands_fault laid.names (a_name ∷ any_number ∷ []) (operand_texts operands))
 unfolding two_pieces
 equ_by laid operands true e = refl
 equ_by laid operands false e =
-    ap (λ (texts : List (List ℕ)). result_err (two_of texts >>= λ parts. both (name_piece parts.0) (number laid.names parts.1) >>= λ values. define laid parts.0 (Number values.1))) (pieces_cut operands)
-    ∙ equ_pieces laid (without_outer_blanks (cut is_comma operands).0) (pieces_behind (cut is_comma operands).1) e
+    ap (λ (texts : List (List ℕ)). result_err (two_of texts >>= λ parts. both (name_piece parts.0) (number laid.names parts.1) >>= λ values. layout_with_name laid parts.0 (Number values.1))) (pieces_cut operands)
+    ∙ equ_pieces laid (without_outer_blanks (cut is_comma operands).0) (comma_pieces (cut is_comma operands).1) e
     ∙ ap (operands_fault laid.names (a_name ∷ any_number ∷ [])) (sym (pieces_cut operands))
     ∙ written_two laid.names a_name any_number operands
 
-equ_fault : (laid : LayoutSoFar) (operands : List ℕ) → result_err (equ laid operands)
+equ_fault : (laid : LayoutSoFar) (operands : List ℕ) → result_err (layout_with_number laid operands)
     ≡ cond (is_taken laid.names (without_outer_blanks (cut is_comma operands).0)) (Some NameTaken) (operands_fault laid.names (a_name ∷ any_number ∷ []) (operand_texts operands))
-unfolding equ
+unfolding layout_with_number
 equ_fault laid operands = equ_by laid operands (is_taken laid.names (without_outer_blanks (cut is_comma operands).0)) refl
 
 -- ---- room
@@ -85,8 +86,8 @@ AreOf of_words (it ∷ these) = IsOf of_words it × AreOf of_words these
 
 -- more statements behind some that fit, at an aligned place
 more_by : (line : ℕ) (laid : LayoutSoFar) (it : Statement) (these : List Statement) (of_words unaligned large : Bool) → IsOf of_words it → of_words && not (laid.size % 4 == 0) ≡ unaligned → nat_lt image_room (laid.size + size_of it) ≡ large
-    → ((next : LayoutSoFar) → next.size ≡ laid.size + size_of it → next.size ≤ image_room → (of_words ≡ true → next.size % 4 ≡ 0) → result_err (place_all line next these) ≡ cond (nat_lt image_room (next.size + sum_by size_of these)) (Some TooLarge) None)
-    → result_err ((refuse unaligned Unaligned >>= λ aligned. refuse large TooLarge >>= λ fits. Ok (laid_of laid.names (laid.statements ++ record { line = line; statement = it } ∷ []) (laid.size + size_of it))) >>= λ one. place_all line one these)
+    → ((next : LayoutSoFar) → next.size ≡ laid.size + size_of it → next.size ≤ image_room → (of_words ≡ true → next.size % 4 ≡ 0) → result_err (layout_with_all line next these) ≡ cond (nat_lt image_room (next.size + sum_by size_of these)) (Some TooLarge) None)
+    → result_err ((refusal unaligned Unaligned >>= λ aligned. refusal large TooLarge >>= λ fits. Ok (layout_of laid.names (laid.statements ++ record { line = line; statement = it } ∷ []) (laid.size + size_of it))) >>= λ one. layout_with_all line one these)
     ≡ cond unaligned (Some Unaligned) (cond (nat_lt image_room (laid.size + sum_by size_of (it ∷ these))) (Some TooLarge) None)
 more_by line laid it these of_words true large of e f others = refl
 more_by line laid it these of_words false true of e f others =
@@ -95,7 +96,7 @@ more_by line laid it these of_words false true of e f others =
     let more : nat_lt image_room (laid.size + sum_by size_of (it ∷ these)) ≡ true = lt-ltb _ _ (omega (arith, split)) in
     rw more refl
 more_by line laid it these of_words false false of e f others =
-    let next = laid_of laid.names (laid.statements ++ record { line = line; statement = it } ∷ []) (laid.size + size_of it) in
+    let next = layout_of laid.names (laid.statements ++ record { line = line; statement = it } ∷ []) (laid.size + size_of it) in
     let split : sum_by size_of (it ∷ these) ≡ size_of it + sum_by size_of these = sum_by-cons size_of it these in
     let total : next.size + sum_by size_of these ≡ laid.size + sum_by size_of (it ∷ these) = omega (arith, split) in
     others next refl (ltb-false _ _ f) (λ w. aligned of_words (laid.size) (size_of it) w e (of.whole w))
@@ -110,25 +111,25 @@ even false size h = refl
 even true size h = let e : (size % 4 == 0) ≡ true = eq-eqb _ _ (h refl) in rw e refl
 
 rest_placed : (line : ℕ) (of_words : Bool) (these : List Statement) (laid : LayoutSoFar) → AreOf of_words these → laid.size ≤ image_room → (of_words ≡ true → laid.size % 4 ≡ 0)
-    → result_err (place_all line laid these) ≡ cond (nat_lt image_room (laid.size + sum_by size_of these)) (Some TooLarge) None
-unfolding place_all place
+    → result_err (layout_with_all line laid these) ≡ cond (nat_lt image_room (laid.size + sum_by size_of these)) (Some TooLarge) None
+unfolding layout_with_all layout_with_statement
 rest_placed line of_words [] laid are le h = let e : nat_lt image_room (laid.size + 0) ≡ false = le-ltb _ _ (omega arith) in rw e refl
 rest_placed line of_words (it ∷ these) laid are le h =
-    ap (λ (w : Bool). result_err ((refuse (w && not (laid.size % 4 == 0)) Unaligned >>= λ aligned. refuse (nat_lt image_room (laid.size + size_of it)) TooLarge >>= λ fits. Ok (laid_of laid.names (laid.statements ++ record { line = line; statement = it } ∷ []) (laid.size + size_of it))) >>= λ one. place_all line one these)) are.0.lays
+    ap (λ (w : Bool). result_err ((refusal (w && not (laid.size % 4 == 0)) Unaligned >>= λ aligned. refusal (nat_lt image_room (laid.size + size_of it)) TooLarge >>= λ fits. Ok (layout_of laid.names (laid.statements ++ record { line = line; statement = it } ∷ []) (laid.size + size_of it))) >>= λ one. layout_with_all line one these)) are.0.lays
     ∙ more_by line laid it these of_words (of_words && not (laid.size % 4 == 0)) (nat_lt image_room (laid.size + size_of it)) are.0 refl refl (λ next e small w. rest_placed line of_words these next are.1 small w)
     ∙ ap (λ (b : Bool). cond b (Some Unaligned) (cond (nat_lt image_room (laid.size + sum_by size_of (it ∷ these))) (Some TooLarge) None)) (even of_words laid.size h)
 
 all_placed : (line : ℕ) (of_words : Bool) (it : Statement) (these : List Statement) (laid : LayoutSoFar) → AreOf of_words (it ∷ these)
-    → result_err (place_all line laid (it ∷ these)) ≡ room_kind laid.size of_words (sum_by size_of (it ∷ these))
-unfolding place_all place
+    → result_err (layout_with_all line laid (it ∷ these)) ≡ room_kind laid.size of_words (sum_by size_of (it ∷ these))
+unfolding layout_with_all layout_with_statement
 all_placed line of_words it these laid are =
-    ap (λ (w : Bool). result_err ((refuse (w && not (laid.size % 4 == 0)) Unaligned >>= λ aligned. refuse (nat_lt image_room (laid.size + size_of it)) TooLarge >>= λ fits. Ok (laid_of laid.names (laid.statements ++ record { line = line; statement = it } ∷ []) (laid.size + size_of it))) >>= λ one. place_all line one these)) are.0.lays
+    ap (λ (w : Bool). result_err ((refusal (w && not (laid.size % 4 == 0)) Unaligned >>= λ aligned. refusal (nat_lt image_room (laid.size + size_of it)) TooLarge >>= λ fits. Ok (layout_of laid.names (laid.statements ++ record { line = line; statement = it } ∷ []) (laid.size + size_of it))) >>= λ one. layout_with_all line one these)) are.0.lays
     ∙ more_by line laid it these of_words (of_words && not (laid.size % 4 == 0)) (nat_lt image_room (laid.size + size_of it)) are.0 refl refl (λ next e small w. rest_placed line of_words these next are.1 small w)
 
 -- ---- what a statement lays is of one kind
 
 from_ok : {A : Type 0} (P : List Statement → Type 0) (r : Result A AsmKind) (make : A → List Statement) (these : List Statement) → ((x : A) → P (make x)) → (r >>= λ x. Ok (make x)) ≡ Ok these → P these
-from_ok P (Ok x) make these h e = subst P (ap laid_list e) (h x)
+from_ok P (Ok x) make these h e = subst P (ap statements_or_none e) (h x)
 from_ok P (Err kind) make these h e = absurd cc
 
 word_is : (it : Statement) → lays_words it ≡ true → size_of it ≡ 4 → IsOf true it
@@ -192,18 +193,18 @@ in_one P (Ok x) make it h e = subst P (ap (λ (r : Result Statement AsmKind). st
 in_one P (Err kind) make it h e = absurd cc
 
 word_item_by : (whole named : Bool) (text : List ℕ) (meant : Option Symbol) (found : Option ℤ) (make : ℤ → ℕ) (it : Statement)
-    → (refuse (not whole) Operands >>= λ so. cond named (Ok (value_named text meant)) (or_fault found BadNumber >>= λ n. Ok (statements.Word (make n)))) ≡ Ok it → IsOf true it
+    → (refusal (not whole) Operands >>= λ so. cond named (Ok (value_named text meant)) (or_fault found BadNumber >>= λ n. Ok (statements.Word (make n)))) ≡ Ok it → IsOf true it
 word_item_by false named text meant found make it e = absurd cc
-word_item_by true true text meant found make it e = in_one (IsOf true) (refuse false Operands) (λ x. value_named text meant) it (λ x. value_named_is text meant) e
+word_item_by true true text meant found make it e = in_one (IsOf true) (refusal false Operands) (λ x. value_named text meant) it (λ x. value_named_is text meant) e
 word_item_by true false text meant found make it e = in_one (IsOf true) (or_fault found BadNumber) (λ n. statements.Word (make n)) it (λ n. word_is _ refl refl) e
 
 word_item : (names : Names) (text : List ℕ) (it : Statement) → word_value names text ≡ Ok it → IsOf true it
 unfolding word_value
-word_item names text it e = word_item_by (is_token text) (is_name text) text (names text) (literal_of text) word_of it e
+word_item names text it e = word_item_by (is_token text) (is_name text) text (names text) (literal_of text) wrapped_word it e
 
 byte_item : (names : Names) (text : List ℕ) (it : Statement) → byte_value names text ≡ Ok it → IsOf false it
 unfolding byte_value
-byte_item names text it e = in_one (IsOf false) (number_in_range (negsuc 127) (pos 255) (number names text)) (λ n. statements.Byte (byte_of n)) it (λ n. byte_is _ refl) e
+byte_item names text it e = in_one (IsOf false) (number_in_range LEAST_BYTE GREATEST_BYTE (number names text)) (λ n. statements.Byte (byte_of n)) it (λ n. byte_is _ refl) e
 
 module _ (names : Names) (operands : List ℕ) (these : List Statement) where
   statements_are : (mnemonic : Mnemonic) → statements_of mnemonic names operands ≡ Ok these → AreAllOf (is_of_words mnemonic) these
@@ -228,22 +229,22 @@ module _ (names : Names) (operands : List ℕ) (these : List Statement) where
 
 -- ---- a statement
 
-placed_so : (line : ℕ) (laid : LayoutSoFar) (of_words : Bool) (these : List Statement) → AreAllOf of_words these → result_err (place_all line laid these) ≡ room_kind laid.size of_words (sum_by size_of these)
+placed_so : (line : ℕ) (laid : LayoutSoFar) (of_words : Bool) (these : List Statement) → AreAllOf of_words these → result_err (layout_with_all line laid these) ≡ room_kind laid.size of_words (sum_by size_of these)
 placed_so line laid of_words [] are = absurd (omega (arith, are.some))
 placed_so line laid of_words (it ∷ these) are = all_placed line of_words it these laid are.each
 
 lay_room : (line : ℕ) (laid : LayoutSoFar) (mnemonic : Mnemonic) (operands : List ℕ) (r : Result (List Statement) AsmKind) → statements_of mnemonic laid.names operands ≡ r
-    → result_err (r >>= λ these. place_all line laid these) ≡ or_then (result_err r) (room_kind laid.size (is_of_words mnemonic) (sum_by size_of (laid_list r)))
+    → result_err (r >>= λ these. layout_with_all line laid these) ≡ or_then (result_err r) (room_kind laid.size (is_of_words mnemonic) (sum_by size_of (statements_or_none r)))
 lay_room line laid mnemonic operands (Err kind) e = refl
 lay_room line laid mnemonic operands (Ok these) e = placed_so line laid (is_of_words mnemonic) these (statements_are laid.names operands these mnemonic e)
 
 lay_by : (line : ℕ) (laid : LayoutSoFar) (found : Option Mnemonic) (operands : List ℕ)
-    → result_err (or_fault found UnknownWord >>= λ mnemonic. statements_of mnemonic laid.names operands >>= λ these. place_all line laid these)
+    → result_err (or_fault found UnknownWord >>= λ mnemonic. statements_of mnemonic laid.names operands >>= λ these. layout_with_all line laid these)
     ≡ cond (is_none found) (Some UnknownWord) (or_then (operand_kind laid.names false found operands) (place_kind laid.names laid.size false found operands))
 lay_by line laid None operands = refl
 lay_by line laid (Some mnemonic) operands =
     lay_room line laid mnemonic operands (statements_of mnemonic laid.names operands) refl
-    ∙ ap (λ (kind : Option AsmKind). or_then kind (room_kind laid.size (is_of_words mnemonic) (sum_by size_of (laid_list (statements_of mnemonic laid.names operands))))) (operands_judged mnemonic laid.names operands)
+    ∙ ap (λ (kind : Option AsmKind). or_then kind (room_kind laid.size (is_of_words mnemonic) (sum_by size_of (statements_or_none (statements_of mnemonic laid.names operands))))) (operands_judged mnemonic laid.names operands)
 
 or_then_none : (kind : Option AsmKind) → kind ≡ or_then kind None
 or_then_none None = refl
@@ -255,10 +256,10 @@ equ_then false kind = or_then_none kind
 
 module _ (line : ℕ) (laid : LayoutSoFar) (word operands : List ℕ) where
   statement_by : (colon equ_word : Bool)
-      → result_err (refuse colon UnknownWord >>= λ so. cond equ_word (equ laid operands) (lay line laid word operands))
+      → result_err (refusal colon UnknownWord >>= λ so. cond equ_word (layout_with_number laid operands) (layout_with_statements line laid word operands))
       ≡ cond colon (Some UnknownWord) (cond (equ_word && is_taken laid.names (without_outer_blanks (cut is_comma operands).0)) (Some NameTaken) (cond (not equ_word && is_none (mnemonic_of word)) (Some UnknownWord)
       (or_then (operand_kind laid.names equ_word (mnemonic_of word) operands) (place_kind laid.names laid.size equ_word (mnemonic_of word) operands))))
-  unfolding lay
+  unfolding layout_with_statements
   statement_by true equ_word = refl
   statement_by false true =
       equ_fault laid operands ∙ equ_then (is_taken laid.names (without_outer_blanks (cut is_comma operands).0)) (operands_fault laid.names (a_name ∷ any_number ∷ []) (operand_texts operands))
@@ -294,26 +295,26 @@ statement_in_order line laid it = statement_judged line laid it ∙ in_order (ha
 
 module _ (line : ℕ) (laid : LayoutSoFar) (label it : List ℕ) where
   labelled_by : (named taken : Bool) → is_taken laid.names label ≡ taken
-      → result_err (refuse (not named) UnknownWord >>= λ so. refuse taken NameTaken >>= λ free. statement line (laid_of (with_name laid.names label (Label (image_start + laid.size))) laid.statements laid.size) it)
+      → result_err (refusal (not named) UnknownWord >>= λ so. refusal taken NameTaken >>= λ free. statement line (layout_of (with_name laid.names label (Label (image_start + laid.size))) laid.statements laid.size) it)
       ≡ cond (not (not named) && (taken || (not (has_colon it) && takes_name (names_with laid (Some label)) it))) (Some NameTaken)
       (cond (not named || (has_colon it || is_strange it)) (Some UnknownWord) (statement_kind (names_with laid (Some label)) laid.size it))
   labelled_by false taken e = refl
   labelled_by true true e = refl
-  labelled_by true false e = statement_in_order line (laid_of (with_name laid.names label (Label (image_start + laid.size))) laid.statements laid.size) it
+  labelled_by true false e = statement_in_order line (layout_of (with_name laid.names label (Label (image_start + laid.size))) laid.statements laid.size) it
 
-  flat : (taken : Bool) → ((refuse taken NameTaken >>= λ free. Ok (laid_of (with_name laid.names label (Label (image_start + laid.size))) laid.statements laid.size)) >>= λ defined. statement line defined it)
-      ≡ (refuse taken NameTaken >>= λ free. statement line (laid_of (with_name laid.names label (Label (image_start + laid.size))) laid.statements laid.size) it)
+  flat : (taken : Bool) → ((refusal taken NameTaken >>= λ free. Ok (layout_of (with_name laid.names label (Label (image_start + laid.size))) laid.statements laid.size)) >>= λ defined. statement line defined it)
+      ≡ (refusal taken NameTaken >>= λ free. statement line (layout_of (with_name laid.names label (Label (image_start + laid.size))) laid.statements laid.size) it)
   flat true = refl
   flat false = refl
 
-labelled_judged : (line : ℕ) (laid : LayoutSoFar) (parts : List ℕ × Option (List ℕ)) → result_err (labelled_statement line laid parts.0 parts.1) ≡ fault_behind laid (label_before parts) (statement_behind parts)
-unfolding define
+labelled_judged : (line : ℕ) (laid : LayoutSoFar) (parts : List ℕ × Option (List ℕ)) → result_err (labelled_statement line laid parts.0 parts.1) ≡ fault_behind laid (label_part parts) (statement_part parts)
+unfolding layout_with_name
 labelled_judged line laid (front, None) = statement_in_order line laid (without_outer_blanks front)
 labelled_judged line laid (front, Some rest) =
-    ap (λ (r : Result LayoutSoFar AsmKind). result_err (refuse (not (is_name (without_outer_blanks front))) UnknownWord >>= λ so. r)) (flat line laid (without_outer_blanks front) (without_outer_blanks rest) (is_taken laid.names (without_outer_blanks front)))
+    ap (λ (r : Result LayoutSoFar AsmKind). result_err (refusal (not (is_name (without_outer_blanks front))) UnknownWord >>= λ so. r)) (flat line laid (without_outer_blanks front) (without_outer_blanks rest) (is_taken laid.names (without_outer_blanks front)))
     ∙ labelled_by line laid (without_outer_blanks front) (without_outer_blanks rest) (is_name (without_outer_blanks front)) (is_taken laid.names (without_outer_blanks front)) refl
 
-plain_by : (plain : Bool) (r : Result LayoutSoFar AsmKind) → result_err (refuse (not plain) BadByte >>= λ so. r) ≡ cond (not plain) (Some BadByte) (result_err r)
+plain_by : (plain : Bool) (r : Result LayoutSoFar AsmKind) → result_err (refusal (not plain) BadByte >>= λ so. r) ≡ cond (not plain) (Some BadByte) (result_err r)
 plain_by true r = refl
 plain_by false r = refl
 

@@ -1,11 +1,12 @@
 -- A listing of instructions assembles to them.
-use Rattle.std.proofs.Common.{◌≡◌, ℕ, suc, ◌+◌, ◌*◌, ◌<◌, ◌≤◌, ◌%◌, Bool, true, false, T, cond, List, [], ◌∷◌, ◌++◌, length, map, Option, Some, None, Result, Ok, refl, sym, ap, ◌∙◌, subst, arith, inl, inr, append_assoc, ℤ, pos, negsuc, ◌≤ℤ◌}
+use Rattle.std.proofs.Common.{◌≡◌, ℕ, suc, ◌+◌, ◌*◌, ◌<◌, ◌≤◌, ◌%◌, Bool, true, false, T, cond, List, [], ◌∷◌, ◌++◌, length, map, Option, Some, None, Result, Ok, refl, sym, ap, ◌∙◌, subst, arith, inl, inr, append_assoc, ℤ, pos, ◌≤ℤ◌}
 use Rattle.std.specs.Prelude.{◌&&◌, bytes_eq, ◌^◌, codes, int_le, nat_lt}
 use Rattle.std.specs.List.{list_all, list_any, position_or_len, before_first, after_first}
 use Rattle.std.specs.Cmp.Lexicographic.{bytes_decides}
 use Rattle.std.proofs.lemmas.Bool.{and_parts, or_parts, ltb-false, le-ltb, le-leb}
 use Rattle.std.proofs.lemmas.List.{take_all, append-nil}
 use Rattle.std.proofs.lemmas.Int.{ints}
+use Rattle.rv_model.specs.declared.limits.TheConstants.{GREATEST_IMMEDIATE, GREATEST_UPPER, LEAST_IMMEDIATE}
 use Rattle.rv_model.specs.Image.{image_start, image_room}
 use Rattle.rv_model.specs.declared.inst.Inst.{Inst}
 use Rattle.rv_model.specs.declared.inst.Inst.TheVariants as insts
@@ -14,7 +15,7 @@ use Rattle.rv_model.specs.declared.inst.ImmOp.TheVariants.{Addi, Slti, Sltiu, Xo
 use Rattle.rv_inst.specs.Valid.{IsValid, IsUpper, IsTwelveBits, IsImmediateOf}
 use Rattle.rv_image.specs.Fault.{is_entry}
 use Rattle.ce_text.specs.Bytes.{is_blank, is_plain}
-use Rattle.ce_text.specs.Line.{cut, without_outer_blanks, lines, before_comment, onto_trimmed, without_front_blanks, without_end_blanks}
+use Rattle.ce_text.specs.Line.{cut, without_outer_blanks, line_texts, before_comment, onto_trimmed, without_front_blanks, without_end_blanks}
 use Rattle.rv_asm.specs.declared.fault.AsmKind.{AsmKind}
 use Rattle.rv_asm.specs.declared.mnemonic.Mnemonic.{Mnemonic}
 use Rattle.rv_asm.specs.declared.statement.Statement.{Statement}
@@ -23,17 +24,17 @@ use Rattle.rv_asm.specs.declared.statement.PlacedStatement.{PlacedStatement}
 use Rattle.rv_asm.specs.Line.{is_colon, is_token, is_opening, is_closing, pieces}
 use Rattle.rv_asm.specs.Names.{Names, no_names}
 use Rattle.ce_text.specs.Table.{look_up}
-use Rattle.rv_asm.specs.Register.{register_names, register_of}
+use Rattle.rv_asm.specs.Register.{register_names, named_register}
 use Rattle.rv_asm.specs.Words.{mnemonics, mnemonic_of}
 use Rattle.rv_asm.specs.Faults.{◌>>=◌, both}
 use Rattle.rv_asm.specs.Operand.{no_piece, two_pieces, three_pieces, register, number, number_in_range, twelve_bits, memory, in_brackets}
 use Rattle.rv_asm.specs.Sizes.{size_of}
 use Rattle.rv_asm.specs.Statements.{register_upper, register_memory, immediate, registers_immediate, three_registers, statements_of}
-use Rattle.rv_asm.specs.FirstPass.{LayoutSoFar, laid_of, nothing_laid, place, place_all, lay, statement, labelled_statement, line_laid, at_line, lines_laid, first_pass}
+use Rattle.rv_asm.specs.FirstPass.{LayoutSoFar, layout_of, nothing_laid, layout_with_statement, layout_with_all, layout_with_statements, statement, labelled_statement, line_laid, at_line, lines_laid, first_pass}
 use Rattle.rv_asm.specs.SecondPass.{Instruction, parts_of, second_pass}
 use Rattle.rv_asm.specs.Assembly.{assembly_of}
-use Rattle.rv_asm_laws.specs.Before.{label_before, label_of}
-use Rattle.rv_asm_laws.specs.LineFaults.{statement_behind, statement_in, word_in, operands_in}
+use Rattle.rv_asm_laws.specs.Before.{label_part, label_of}
+use Rattle.rv_asm_laws.specs.LineFaults.{statement_part, statement_text, word_in, operands_in}
 use Rattle.rv_asm_laws.specs.Forms.{is_bracketed, base_behind, operand_texts}
 use Rattle.rv_asm_laws.specs.Listing.{IsRegisterText, IsNumberText, IsUpperText, IsMemoryText, AreTwo, AreThree, AreOperandsOf, mnemonic_for, IsWrittenAs, IsEmptyLine, IsListing}
 use Rattle.rv_asm.proofs.Pieces.{pieces_cut}
@@ -58,7 +59,7 @@ token_found (row ∷ rows) text n all h =
     token_by row.0 text (bytes_eq row.0 text) n row.1 (look_up rows text) refl parts.0 (token_found rows text n parts.1) h
 
 register_token : (n : ℕ) (text : List ℕ) → IsRegisterText n text → is_token text ≡ true
-unfolding register_of register_names all_tokens is_token
+unfolding named_register register_names all_tokens is_token
 register_token n text h = token_found register_names text n refl h
 
 reads_register : (n : ℕ) (text : List ℕ) → IsRegisterText n text → register text ≡ Ok n
@@ -85,7 +86,7 @@ memory_by : (names : Names) (n : ℤ) (rs1 : ℕ) → IsTwelveBits n → (front 
 unfolding twelve_bits both
 memory_by names n rs1 small front None e offset base = absurd cc
 memory_by names n rs1 small front (Some behind) e offset base =
-    rw (e, reads_ranged names (negsuc 2047) (pos 2047) n (without_outer_blanks front) small.0 small.1 offset, reads_register rs1 (without_outer_blanks (cut is_closing behind).0) base) refl
+    rw (e, reads_ranged names LEAST_IMMEDIATE GREATEST_IMMEDIATE n (without_outer_blanks front) small.0 small.1 offset, reads_register rs1 (without_outer_blanks (cut is_closing behind).0) base) refl
 
 reads_memory : (names : Names) (n : ℤ) (rs1 : ℕ) (text : List ℕ) → IsTwelveBits n → IsMemoryText n rs1 text → memory names text ≡ Ok (n, rs1)
 unfolding memory
@@ -118,7 +119,7 @@ nothing_of (byte ∷ bytes) e =
     let some = pieces_cut (byte ∷ bytes) in
     absurd cc
 
-upper_small : (n word : ℕ) → word ≡ n * 4096 → word < 2 ^ 32 → pos n ≤ℤ pos 1048575
+upper_small : (n word : ℕ) → word ≡ n * 4096 → word < 2 ^ 32 → pos n ≤ℤ GREATEST_UPPER
 upper_small n word e lt = omega (arith, ints, e, lt)
 
 not_negative : (n : ℕ) → pos 0 ≤ℤ pos n
@@ -130,7 +131,7 @@ module _ (names : Names) (operands : List ℕ) where
   reads_upper rd imm upper h =
       let t = two_texts (IsRegisterText rd) (IsUpperText imm) (operand_texts operands) h in
       let w = t.4 in
-      rw (pieces_of operands t.0 (t.1 ∷ []) t.2, reads_register rd t.0 t.3, reads_ranged names (pos 0) (pos 1048575) (pos w.0) t.1 (not_negative w.0) (upper_small w.0 imm w.1 upper.0) w.2)
+      rw (pieces_of operands t.0 (t.1 ∷ []) t.2, reads_register rd t.0 t.3, reads_ranged names (pos 0) GREATEST_UPPER (pos w.0) t.1 (not_negative w.0) (upper_small w.0 imm w.1 upper.0) w.2)
       (ap (λ (n : ℕ). Ok (rd, n)) (sym w.1))
 
   reads_place : (rd rs1 : ℕ) (imm : ℤ) → IsTwelveBits imm → AreTwo (IsRegisterText rd) (IsMemoryText imm rs1) (operand_texts operands) → register_memory names operands ≡ Ok (rd, imm, rs1)
@@ -195,7 +196,7 @@ none_found : (test : ℕ → Bool) (bytes : List ℕ) → length bytes ≤ posit
 none_found test [] le = refl
 none_found test (byte ∷ bytes) le = found_by test byte bytes (test byte) refl (none_found test bytes) le
 
-outside : (front behind : List ℕ) (within : Bool) → label_before (front, cond within (Some behind) None) ≡ None → within ≡ false
+outside : (front behind : List ℕ) (within : Bool) → label_part (front, cond within (Some behind) None) ≡ None → within ≡ false
 outside front behind true e = absurd cc
 outside front behind false e = refl
 
@@ -229,7 +230,7 @@ record IsUnlabelled (code : List ℕ) : Type 0 where
   none : (cut is_colon code).1 ≡ None
   no_colon : list_any is_colon (without_outer_blanks (cut is_colon code).0) ≡ false
 
-unlabelled_by : (code : List ℕ) (within : Bool) → nat_lt (position_or_len is_colon code) (length code) ≡ within → label_before (cut is_colon code) ≡ None → IsUnlabelled code
+unlabelled_by : (code : List ℕ) (within : Bool) → nat_lt (position_or_len is_colon code) (length code) ≡ within → label_part (cut is_colon code) ≡ None → IsUnlabelled code
 unfolding cut
 unlabelled_by code true lt e =
     let gone = outside (before_first is_colon code) (after_first is_colon code) true (rw lt at e) in
@@ -245,7 +246,7 @@ unlabelled : (line : List ℕ) → label_of line ≡ None → IsUnlabelled (befo
 unfolding label_of
 unlabelled line e = unlabelled_by (before_comment line) (nat_lt (position_or_len is_colon (before_comment line)) (length (before_comment line))) refl e
 
-behind_by : (front : List ℕ) (rest : Option (List ℕ)) → rest ≡ None → statement_behind (front, rest) ≡ without_outer_blanks front
+behind_by : (front : List ℕ) (rest : Option (List ℕ)) → rest ≡ None → statement_part (front, rest) ≡ without_outer_blanks front
 behind_by front None e = refl
 behind_by front (Some rest) e = absurd cc
 
@@ -255,12 +256,12 @@ labelled_by number laid front (Some rest) e = absurd cc
 
 -- a line without a label is its statement
 line_is : (number : ℕ) (laid : LayoutSoFar) (line : List ℕ) → list_all is_plain (before_comment line) ≡ true → label_of line ≡ None
-    → (list_any is_colon (statement_in line) ≡ false) × (line_laid number laid line ≡ statement number laid (statement_in line))
+    → (list_any is_colon (statement_text line) ≡ false) × (line_laid number laid line ≡ statement number laid (statement_text line))
 unfolding line_laid
 line_is number laid line plain none =
     let code = before_comment line in
     let u = unlabelled line none in
-    let same : statement_in line ≡ without_outer_blanks (cut is_colon code).0 = behind_by (cut is_colon code).0 (cut is_colon code).1 u.none in
+    let same : statement_text line ≡ without_outer_blanks (cut is_colon code).0 = behind_by (cut is_colon code).0 (cut is_colon code).1 u.none in
     (ap (list_any is_colon) same ∙ u.no_colon, rw plain (labelled_by number laid (cut is_colon code).0 (cut is_colon code).1 u.none ∙ ap (statement number laid) (sym same)))
 
 no_equ : (word : List ℕ) (mnemonic : Mnemonic) (same : Bool) → bytes_eq word (codes ".equ") ≡ same → mnemonic_of word ≡ Some mnemonic → same ≡ false
@@ -272,8 +273,8 @@ no_equ word mnemonic false e h = refl
 
 -- what a statement with a known mnemonic lays
 statement_by : (number : ℕ) (laid : LayoutSoFar) (bytes : List ℕ) (mnemonic : Mnemonic) (these : List Statement) → list_any is_colon bytes ≡ false → mnemonic_of (word_in bytes) ≡ Some mnemonic
-    → statements_of mnemonic laid.names (operands_in bytes) ≡ Ok these → statement number laid bytes ≡ place_all number laid these
-unfolding statement lay mnemonic_of mnemonics cut
+    → statements_of mnemonic laid.names (operands_in bytes) ≡ Ok these → statement number laid bytes ≡ layout_with_all number laid these
+unfolding statement layout_with_statements mnemonic_of mnemonics cut
 statement_by number laid [] mnemonic these colon known e = absurd cc
 statement_by number laid (byte ∷ bytes) mnemonic these colon known e =
     let other : bytes_eq (word_in (byte ∷ bytes)) (codes ".equ") ≡ false = no_equ (word_in (byte ∷ bytes)) mnemonic _ refl known in
@@ -283,15 +284,15 @@ statement_by number laid (byte ∷ bytes) mnemonic these colon known e =
 
 -- one more instruction
 with_instruction : ℕ → LayoutSoFar → Inst → LayoutSoFar
-with_instruction number laid inst = laid_of laid.names (laid.statements ++ record { line = number; statement = statements.Inst inst } ∷ []) (laid.size + 4)
+with_instruction number laid inst = layout_of laid.names (laid.statements ++ record { line = number; statement = statements.Inst inst } ∷ []) (laid.size + 4)
 
 -- there is room for so many words
 record HasRoom (laid : LayoutSoFar) (count : ℕ) : Type 0 where
   aligned : laid.size % 4 ≡ 0
   fits : laid.size + 4 * count ≤ image_room
 
-placed_so : (number : ℕ) (laid : LayoutSoFar) (inst : Inst) (count : ℕ) → HasRoom laid (suc count) → place_all number laid (statements.Inst inst ∷ []) ≡ Ok (with_instruction number laid inst)
-unfolding place_all place with_instruction
+placed_so : (number : ℕ) (laid : LayoutSoFar) (inst : Inst) (count : ℕ) → HasRoom laid (suc count) → layout_with_all number laid (statements.Inst inst ∷ []) ≡ Ok (with_instruction number laid inst)
+unfolding layout_with_all layout_with_statement with_instruction
 placed_so number laid inst count room =
     let fits : nat_lt image_room (laid.size + 4) ≡ false = le-ltb _ _ (omega (arith, room.fits)) in
     rw (room.aligned, fits) refl
@@ -300,7 +301,7 @@ line_written : (number : ℕ) (laid : LayoutSoFar) (line : List ℕ) (inst : Ins
 line_written number laid line inst count room w =
     let is = line_is number laid line w.plain w.unlabelled in
     is.1
-    ∙ statement_by number laid (statement_in line) (mnemonic_for inst) (statements.Inst inst ∷ []) is.0 w.mnemonic (reads laid.names (operands_in (statement_in line)) inst w.valid w.operands)
+    ∙ statement_by number laid (statement_text line) (mnemonic_for inst) (statements.Inst inst ∷ []) is.0 w.mnemonic (reads laid.names (operands_in (statement_text line)) inst w.valid w.operands)
     ∙ placed_so number laid inst count room
 
 line_empty : (number : ℕ) (laid : LayoutSoFar) (line : List ℕ) → IsEmptyLine line → line_laid number laid line ≡ Ok laid
@@ -316,14 +317,14 @@ ArePlaced (it ∷ placed) (inst ∷ insts) = (it.statement ≡ statements.Inst i
 
 record AreWritten (before : ℕ) (laid : LayoutSoFar) (these : List (List ℕ)) (insts : List Inst) : Type 0 where
   placed : List PlacedStatement
-  laid_are : lines_laid before laid these ≡ Ok (laid_of laid.names (laid.statements ++ placed) (laid.size + 4 * length insts))
+  laid_are : lines_laid before laid these ≡ Ok (layout_of laid.names (laid.statements ++ placed) (laid.size + 4 * length insts))
   are : ArePlaced placed insts
 
 are_none : (before : ℕ) (laid : LayoutSoFar) → AreWritten before laid [] []
 unfolding lines_laid ArePlaced
 are_none before laid = record {
   placed = [];
-  laid_are = ap (λ (placed : List PlacedStatement). Ok (laid_of laid.names placed laid.size)) (sym (append-nil laid.statements)) ∙ ap (λ (n : ℕ). Ok (laid_of laid.names (laid.statements ++ []) n)) (omega arith);
+  laid_are = ap (λ (placed : List PlacedStatement). Ok (layout_of laid.names placed laid.size)) (sym (append-nil laid.statements)) ∙ ap (λ (n : ℕ). Ok (layout_of laid.names (laid.statements ++ []) n)) (omega arith);
   are = tt;
 }
 
@@ -345,8 +346,8 @@ are_behind before laid line these inst insts room w rest =
       laid_are =
           ap (λ (r : Result LayoutSoFar AsmKind). at_line (before + 1) r >>= λ next. lines_laid (before + 1) next these) (line_written (before + 1) laid line inst (length insts) room w)
           ∙ rest.laid_are
-          ∙ ap (λ (placed : List PlacedStatement). Ok (laid_of laid.names placed (laid.size + 4 + 4 * length insts))) (append_assoc laid.statements (one ∷ []) rest.placed)
-          ∙ ap (λ (n : ℕ). Ok (laid_of laid.names (laid.statements ++ one ∷ rest.placed) n)) (omega arith);
+          ∙ ap (λ (placed : List PlacedStatement). Ok (layout_of laid.names placed (laid.size + 4 + 4 * length insts))) (append_assoc laid.statements (one ∷ []) rest.placed)
+          ∙ ap (λ (n : ℕ). Ok (layout_of laid.names (laid.statements ++ one ∷ rest.placed) n)) (omega arith);
       are = (refl, rest.are);
     }
 
@@ -373,11 +374,11 @@ parts_so names address (it ∷ placed) (inst ∷ insts) h =
     ap (λ (statement : Statement). at_line it.line (parts_of names address statement) >>= λ here. second_pass names (address + size_of statement) placed >>= λ there. Ok (here ++ there)) h.0
     ∙ rw (parts_so names (address + 4) placed insts h.1) refl
 
-pub listing_assembles : (text : List ℕ) (insts : List Inst) → IsListing (lines text) insts → 0 < length insts → 4 * length insts ≤ image_room
+pub listing_assembles : (text : List ℕ) (insts : List Inst) → IsListing (line_texts text) insts → 0 < length insts → 4 * length insts ≤ image_room
     → assembly_of text ≡ Ok (record { entry = image_start; parts = map Instruction insts })
 unfolding first_pass
 listing_assembles text insts h some fits =
-    let all = are_written 0 nothing_laid (lines text) insts (record { aligned = refl; fits = omega (arith, fits) }) h in
-    let laid = laid_of no_names all.placed (0 + 4 * length insts) in
+    let all = are_written 0 nothing_laid (line_texts text) insts (record { aligned = refl; fits = omega (arith, fits) }) h in
+    let laid = layout_of no_names all.placed (0 + 4 * length insts) in
     let begins : is_entry image_start (0 + 4 * length insts) ≡ true = le-leb _ _ (omega (arith, some)) in
     described text laid (map Instruction insts) all.laid_are (parts_so no_names image_start all.placed insts all.are) begins

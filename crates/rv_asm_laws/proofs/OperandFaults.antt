@@ -1,12 +1,15 @@
 -- The faults of operands, as the tests tell them.
 use Rattle.std.proofs.Common.{◌≡◌, ℕ, ◌<◌, Bool, true, false, cond, not, eqb, List, [], ◌∷◌, length, map, replicate, Option, Some, None, Result, Ok, Err, refl, sym, ap, ◌∙◌, arith}
-use Rattle.std.specs.Prelude.{◌||◌, ◌&&◌, is_none, max, fold, ℤ, pos, negsuc, int_le}
+use Rattle.std.specs.Prelude.{◌||◌, ◌&&◌, is_none, max, fold, ℤ, pos, int_le}
 use Rattle.std.specs.Result.{result_err}
 use Rattle.std.specs.List.{slice_split}
 use Rattle.std.proofs.lemmas.Bool.{ne_eqb, eq-eqb}
 use Rattle.std.proofs.lemmas.List.{length-map, length-replicate}
 use Rattle.std.proofs.lemmas.List.Splits.{length-slice_split}
+use Rattle.rv_model.specs.declared.limits.TheConstants.{GREATEST_IMMEDIATE, GREATEST_UPPER, LEAST_IMMEDIATE}
+use Rattle.rv_asm.specs.declared.statement.TheConstants.{GREATEST_BYTE, LEAST_BYTE}
 use Rattle.rv_model.specs.declared.inst.ImmOp.{ImmOp}
+use Rattle.rv_model.specs.Image.{image_room}
 use Rattle.rv_asm.specs.declared.fault.AsmKind.{AsmKind}
 use Rattle.rv_asm.specs.declared.fault.AsmKind.TheVariants.{Operands, BadRegister, BadNumber}
 use Rattle.rv_asm.specs.declared.symbols.Symbol.{Symbol}
@@ -18,10 +21,10 @@ use Rattle.ce_text.specs.Line.{cut, without_front_blanks, without_end_blanks, wi
 use Rattle.rv_asm.specs.Line.{pieces, is_comma, is_token, is_opening, is_closing}
 use Rattle.ce_text.specs.Name as text
 use Rattle.rv_asm.specs.Name.{is_name}
-use Rattle.rv_asm.specs.Register.{register_of}
+use Rattle.rv_asm.specs.Register.{named_register}
 use Rattle.rv_asm.specs.Literal.{literal_of}
 use Rattle.rv_asm.specs.Names.{Names}
-use Rattle.rv_asm.specs.Faults.{◌>>=◌, refuse, or_fault, both, with_judged, all_of}
+use Rattle.rv_asm.specs.Faults.{◌>>=◌, refusal, or_fault, both, with_judged, all_of}
 use Rattle.rv_asm.specs.Operand.{one_of, two_of, three_of, one_piece, two_pieces, three_pieces, no_piece, register, number, number_named, number_in_range, name_piece, twelve_bits, is_closed, in_brackets, memory, least_immediate, greatest_immediate}
 use Rattle.rv_asm.specs.Statements.{register_upper, register_memory, immediate, registers_immediate, three_registers, two_registers, register_word, register_label, registers_label, one_label, value_named, word_value, byte_value, zero_count, statements_of}
 use Rattle.rv_asm_laws.specs.Forms.{Form, a_register, any_number, a_number, a_memory, a_name, a_value, number_meant, number_given, is_no_number, is_unknown, is_outside, is_bracketed, base_behind, is_malformed, lacks_register, lacks_number, lacks_name, first_kind, any_operand, operands_fault, operand_texts, statement_fault}
@@ -33,17 +36,17 @@ use Rattle.rv_asm_laws.proofs.FirstKinds.{earliest, first_kind-joined, or_assoc,
 unfoldable pub operand_fault : Names → Form → List ℕ → Option AsmKind
 operand_fault names form text = first_kind (is_malformed form text) (lacks_register form text) (lacks_number names form text) (lacks_name names form text)
 
-register_by : (whole : Bool) (found : Option ℕ) → result_err (refuse (not whole) Operands >>= λ it. or_fault found BadRegister) ≡ first_kind (not whole) (is_none found) false false
+register_by : (whole : Bool) (found : Option ℕ) → result_err (refusal (not whole) Operands >>= λ it. or_fault found BadRegister) ≡ first_kind (not whole) (is_none found) false false
 register_by true None = refl
 register_by true (Some n) = refl
 register_by false found = refl
 
 register_fault : (names : Names) (text : List ℕ) → result_err (register text) ≡ operand_fault names a_register text
 unfolding register operand_fault is_malformed lacks_register lacks_number lacks_name
-register_fault names text = register_by (is_token text) (register_of text)
+register_fault names text = register_by (is_token text) (named_register text)
 
 number_by : (whole named : Bool) (meant : Option Symbol) (written : Option ℤ)
-    → result_err (refuse (not whole) Operands >>= λ it. cond named (number_named meant) (or_fault written BadNumber))
+    → result_err (refusal (not whole) Operands >>= λ it. cond named (number_named meant) (or_fault written BadNumber))
     ≡ first_kind (not whole) false (not named && is_none written) (named && is_none (number_meant meant))
 number_by false named meant written = refl
 number_by true true None written = refl
@@ -61,7 +64,7 @@ inside_by true n = refl
 inside_by false n = refl
 
 ranged_by : (least greatest : ℤ) (whole named : Bool) (meant : Option Symbol) (written : Option ℤ)
-    → result_err ((refuse (not whole) Operands >>= λ it. cond named (number_named meant) (or_fault written BadNumber)) >>= λ n. cond (int_le least n && int_le n greatest) (Ok n) (Err BadNumber))
+    → result_err ((refusal (not whole) Operands >>= λ it. cond named (number_named meant) (or_fault written BadNumber)) >>= λ n. cond (int_le least n && int_le n greatest) (Ok n) (Err BadNumber))
     ≡ first_kind (not whole) false ((not named && is_none written) || is_outside least greatest (cond named (number_meant meant) written)) (named && is_none (number_meant meant))
 ranged_by least greatest false named meant written = refl
 ranged_by least greatest true true None written = refl
@@ -80,7 +83,7 @@ ranged_fault : (names : Names) (least greatest : ℤ) (text : List ℕ) → resu
 unfolding operand_fault is_malformed lacks_register lacks_number lacks_name
 ranged_fault names least greatest text = in_range names least greatest text
 
-name_by : (named : Bool) → result_err (refuse (not named) Operands) ≡ first_kind (not named) false false false
+name_by : (named : Bool) → result_err (refusal (not named) Operands) ≡ first_kind (not named) false false false
 name_by true = refl
 name_by false = refl
 
@@ -89,7 +92,7 @@ unfolding name_piece operand_fault is_malformed lacks_register lacks_number lack
 name_fault names text = name_by (is_name text)
 
 value_by : (whole named : Bool) (text : List ℕ) (meant : Option Symbol) (written : Option ℤ) (make : ℤ → Statement)
-    → result_err (refuse (not whole) Operands >>= λ it. cond named (Ok (value_named text meant)) (or_fault written BadNumber >>= λ n. Ok (make n)))
+    → result_err (refusal (not whole) Operands >>= λ it. cond named (Ok (value_named text meant)) (or_fault written BadNumber >>= λ n. Ok (make n)))
     ≡ first_kind (not whole) false (not named && is_none written) false
 value_by false named text meant written make = refl
 value_by true true text meant written make = refl
@@ -114,9 +117,9 @@ err_both (Ok first) (Err kind) = refl
 err_both (Err kind) (Ok second) = refl
 err_both (Err first) (Err second) = refl
 
-byte_fault : (names : Names) (text : List ℕ) → result_err (byte_value names text) ≡ operand_fault names (a_number (negsuc 127) (pos 255)) text
+byte_fault : (names : Names) (text : List ℕ) → result_err (byte_value names text) ≡ operand_fault names (a_number LEAST_BYTE GREATEST_BYTE) text
 unfolding byte_value
-byte_fault names text = err_ok (number_in_range (negsuc 127) (pos 255) (number names text)) _ ∙ ranged_fault names (negsuc 127) (pos 255) text
+byte_fault names text = err_ok (number_in_range LEAST_BYTE GREATEST_BYTE (number names text)) _ ∙ ranged_fault names LEAST_BYTE GREATEST_BYTE text
 
 -- ---- `n(rs1)`
 
@@ -130,18 +133,18 @@ bools offset base none number name =
     first_kind-joined (not offset) false number name (not base) none false false ∙ rw (not_both offset base, or_false number, or_false name) refl
 
 brackets_by : (closes : Bool) (names : Names) (offset base : List ℕ)
-    → result_err (refuse (not closes) Operands >>= λ it. both (twelve_bits names offset) (register base))
-    ≡ first_kind (not (closes && is_token offset && is_token base)) (is_none (register_of base)) (is_no_number offset || is_outside (negsuc 2047) (pos 2047) (number_given names offset)) (is_unknown names offset)
+    → result_err (refusal (not closes) Operands >>= λ it. both (twelve_bits names offset) (register base))
+    ≡ first_kind (not (closes && is_token offset && is_token base)) (is_none (named_register base)) (is_no_number offset || is_outside LEAST_IMMEDIATE GREATEST_IMMEDIATE (number_given names offset)) (is_unknown names offset)
 unfolding twelve_bits register
 brackets_by false names offset base = refl
 brackets_by true names offset base =
-    err_both (number_in_range (negsuc 2047) (pos 2047) (number names offset)) (refuse (not (is_token base)) Operands >>= λ it. or_fault (register_of base) BadRegister)
-    ∙ rw (in_range names (negsuc 2047) (pos 2047) offset, register_by (is_token base) (register_of base))
-    (bools (is_token offset) (is_token base) (is_none (register_of base)) (is_no_number offset || is_outside (negsuc 2047) (pos 2047) (number_given names offset)) (is_unknown names offset))
+    err_both (number_in_range LEAST_IMMEDIATE GREATEST_IMMEDIATE (number names offset)) (refusal (not (is_token base)) Operands >>= λ it. or_fault (named_register base) BadRegister)
+    ∙ rw (in_range names LEAST_IMMEDIATE GREATEST_IMMEDIATE offset, register_by (is_token base) (named_register base))
+    (bools (is_token offset) (is_token base) (is_none (named_register base)) (is_no_number offset || is_outside LEAST_IMMEDIATE GREATEST_IMMEDIATE (number_given names offset)) (is_unknown names offset))
 
 memory_by : (names : Names) (front : List ℕ) (rest : Option (List ℕ)) → result_err (in_brackets names front rest)
-    ≡ first_kind (not (is_bracketed rest && is_token (without_outer_blanks front) && is_token (base_behind rest))) (is_none (register_of (base_behind rest)))
-    (is_no_number (without_outer_blanks front) || is_outside (negsuc 2047) (pos 2047) (number_given names (without_outer_blanks front))) (is_unknown names (without_outer_blanks front))
+    ≡ first_kind (not (is_bracketed rest && is_token (without_outer_blanks front) && is_token (base_behind rest))) (is_none (named_register (base_behind rest)))
+    (is_no_number (without_outer_blanks front) || is_outside LEAST_IMMEDIATE GREATEST_IMMEDIATE (number_given names (without_outer_blanks front))) (is_unknown names (without_outer_blanks front))
 memory_by names front None = refl
 memory_by names front (Some behind) = brackets_by (is_closed (cut is_closing behind).1) names (without_outer_blanks front) (without_outer_blanks (cut is_closing behind).0)
 
@@ -320,9 +323,9 @@ none_taken names [] make = refl
 none_taken names (byte ∷ bytes) make = wrong names [] (pieces (byte ∷ bytes)) (ne_eqb _ _ (λ e. absurd (omega (arith, some_pieces (byte ∷ bytes)))))
 
 module _ (names : Names) (operands : List ℕ) where
-  upper_fault : result_err (register_upper names operands) ≡ operands_fault names (a_register ∷ a_number (pos 0) (pos 1048575) ∷ []) (operand_texts operands)
+  upper_fault : result_err (register_upper names operands) ≡ operands_fault names (a_register ∷ a_number (pos 0) GREATEST_UPPER ∷ []) (operand_texts operands)
   unfolding register_upper two_pieces
-  upper_fault = two_fault names a_register (a_number (pos 0) (pos 1048575)) register (λ t. number_in_range (pos 0) (pos 1048575) (number names t)) _ (register_fault names) (ranged_fault names (pos 0) (pos 1048575)) (pieces operands) ∙ written_two names _ _ operands
+  upper_fault = two_fault names a_register (a_number (pos 0) GREATEST_UPPER) register (λ t. number_in_range (pos 0) GREATEST_UPPER (number names t)) _ (register_fault names) (ranged_fault names (pos 0) GREATEST_UPPER) (pieces operands) ∙ written_two names _ _ operands
 
   place_fault : result_err (register_memory names operands) ≡ operands_fault names (a_register ∷ a_memory ∷ []) (operand_texts operands)
   unfolding register_memory two_pieces
@@ -356,9 +359,9 @@ module _ (names : Names) (operands : List ℕ) where
   unfolding one_label one_piece
   jump_fault = one_fault names a_name name_piece (λ text value. text) (name_fault names) (pieces operands) ∙ written_one names a_name operands malformed_name
 
-  zeros_fault : result_err (zero_count names operands) ≡ operands_fault names (a_number (pos 0) (pos 122880) ∷ []) (operand_texts operands)
+  zeros_fault : result_err (zero_count names operands) ≡ operands_fault names (a_number (pos 0) (pos image_room) ∷ []) (operand_texts operands)
   unfolding zero_count one_piece
-  zeros_fault = one_fault names (a_number (pos 0) (pos 122880)) (λ t. number_in_range (pos 0) (pos 122880) (number names t)) _ (ranged_fault names (pos 0) (pos 122880)) (pieces operands) ∙ written_one names _ operands (malformed_number (pos 0) (pos 122880))
+  zeros_fault = one_fault names (a_number (pos 0) (pos image_room)) (λ t. number_in_range (pos 0) (pos image_room) (number names t)) _ (ranged_fault names (pos 0) (pos image_room)) (pieces operands) ∙ written_one names _ operands (malformed_number (pos 0) (pos image_room))
 
 pub operands_judged : (mnemonic : Mnemonic) (names : Names) (operands : List ℕ) → result_err (statements_of mnemonic names operands) ≡ statement_fault names mnemonic operands
 unfolding statements_of
@@ -377,5 +380,5 @@ operands_judged words.Jal names operands = err_ok (register_label operands) _ �
 operands_judged (words.Jump rd) names operands = err_ok (one_label operands) _ ∙ jump_fault names operands
 operands_judged (words.Branch op) names operands = err_ok (registers_label operands) _ ∙ branch_fault names operands
 operands_judged words.Word names operands = listed names a_value (word_value names) (value_fault names) malformed_value operands
-operands_judged words.Byte names operands = listed names (a_number (negsuc 127) (pos 255)) (byte_value names) (byte_fault names) (malformed_number (negsuc 127) (pos 255)) operands
+operands_judged words.Byte names operands = listed names (a_number LEAST_BYTE GREATEST_BYTE) (byte_value names) (byte_fault names) (malformed_number LEAST_BYTE GREATEST_BYTE) operands
 operands_judged words.Zero names operands = err_ok (zero_count names operands) _ ∙ zeros_fault names operands

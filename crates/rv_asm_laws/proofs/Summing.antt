@@ -5,7 +5,7 @@ use Rattle.rv_model.specs.Image.{image_start}
 use Rattle.rv_asm.specs.declared.fault.AsmKind.{AsmKind}
 use Rattle.rv_asm.specs.Sizes.{size_of, statements_size}
 use Rattle.rv_asm.specs.FirstPass.{LayoutSoFar, nothing_laid, line_laid}
-use Rattle.rv_asm_laws.specs.Before.{laid_or, laid_by, laid_before}
+use Rattle.rv_asm_laws.specs.Before.{layout_or_given, layout_of_lines, layout_before}
 use Rattle.rv_asm_laws.proofs.Leading.{HasLed, IsKept, line_led}
 
 -- the size that is counted is the sum of the sizes
@@ -26,19 +26,19 @@ summed_kept = record {
 line_sums : (number : ℕ) (laid : LayoutSoFar) (line : List ℕ) → HasLed (IsSummedFrom laid) (line_laid number laid line)
 line_sums number laid line = line_led IsSummedFrom summed_kept (λ laid name address free h. record { sum = h.sum }) number laid line
 
-or_summed : (laid : LayoutSoFar) (r : Result LayoutSoFar AsmKind) → IsSummed laid → HasLed (IsSummedFrom laid) r → IsSummed (laid_or laid r)
+or_summed : (laid : LayoutSoFar) (r : Result LayoutSoFar AsmKind) → IsSummed laid → HasLed (IsSummedFrom laid) r → IsSummed (layout_or_given laid r)
 or_summed laid (Ok next) h s = s.led next refl h
 or_summed laid (Err kind) h s = h
 
-by_summed : (before : ℕ) (laid : LayoutSoFar) (these : List (List ℕ)) → IsSummed laid → IsSummed (laid_by before laid these)
-unfolding laid_by
+by_summed : (before : ℕ) (laid : LayoutSoFar) (these : List (List ℕ)) → IsSummed laid → IsSummed (layout_of_lines before laid these)
+unfolding layout_of_lines
 by_summed before laid [] h = h
 by_summed before laid (line ∷ these) h =
-    by_summed (before + 1) (laid_or laid (line_laid (before + 1) laid line)) these
+    by_summed (before + 1) (layout_or_given laid (line_laid (before + 1) laid line)) these
     (or_summed laid (line_laid (before + 1) laid line) h (line_sums (before + 1) laid line))
 
-before_summed : (these : List (List ℕ)) (i : ℕ) → IsSummed (laid_before these i)
+before_summed : (these : List (List ℕ)) (i : ℕ) → IsSummed (layout_before these i)
 before_summed these i = by_summed 0 nothing_laid (take i these) (record { sum = refl })
 
-pub address_behind : (these : List (List ℕ)) (i : ℕ) → image_start + (laid_before these i).size ≡ image_start + statements_size (laid_before these i).statements
+pub address_behind : (these : List (List ℕ)) (i : ℕ) → image_start + (layout_before these i).size ≡ image_start + statements_size (layout_before these i).statements
 address_behind these i = ap (λ (n : ℕ). image_start + n) (before_summed these i).sum

@@ -2,31 +2,31 @@
 use Rattle.std.specs.Prelude.{◌≡◌, ℕ, ◌+◌, suc, zero, List, [], ◌∷◌, length, Some, Ok}
 use Rattle.rv_model.specs.declared.inst.Inst.{Inst}
 use Rattle.rv_model.specs.Words.{dec}
-use Rattle.rv_model.specs.Exec.{Access, Outcome, went, called, stopped, exec, next_pc}
+use Rattle.rv_model.specs.Exec.{Access, Outcome, next_state, call_state, stop_state, exec, next_pc}
 use Rattle.rv_asm.specs.SecondPass.{Part, Instruction, Plain}
 
 -- from an address on, the memory has words that are decoded to these instructions
 abbrev pub HasInstructions : Access (List ℕ) → List ℕ → ℕ → List Inst → Type 0
 HasInstructions A m pc [] = Unit {0}
 HasInstructions A m pc (inst ∷ insts) =
-    (word : ℕ) × (A.fetched m pc ≡ Ok word) × (dec word ≡ Some inst) × HasInstructions A m (next_pc pc) insts
+    (word : ℕ) × (A.fetch m pc ≡ Ok word) × (dec word ≡ Some inst) × HasInstructions A m (next_pc pc) insts
 
 -- the same of the parts of an image
 abbrev pub HasParts : Access (List ℕ) → List ℕ → ℕ → List Part → Type 0
 HasParts A m pc [] = Unit {0}
 HasParts A m pc (Instruction inst ∷ parts) =
-    (word : ℕ) × (A.fetched m pc ≡ Ok word) × (dec word ≡ Some inst) × HasParts A m (next_pc pc) parts
+    (word : ℕ) × (A.fetch m pc ≡ Ok word) × (dec word ≡ Some inst) × HasParts A m (next_pc pc) parts
 HasParts A m pc (Plain bytes ∷ parts) = HasParts A m (pc + length bytes) parts
 
 -- what comes after a step: so many more, if it went
 abbrev pub then_steps : (List ℕ → ℕ → List ℕ → Outcome (List ℕ)) → Outcome (List ℕ) → Outcome (List ℕ)
-then_steps next (went x pc m) = next x pc m
-then_steps next (called x pc m) = called x pc m
-then_steps next (stopped cause) = stopped cause
+then_steps next (next_state x pc m) = next x pc m
+then_steps next (call_state x pc m) = call_state x pc m
+then_steps next (stop_state cause) = stop_state cause
 
 -- so many steps, one after the other
 abbrev pub steps : ℕ → Access (List ℕ) → List ℕ → ℕ → List ℕ → Outcome (List ℕ)
-steps zero A x pc m = went x pc m
+steps zero A x pc m = next_state x pc m
 steps (suc n) A x pc m = then_steps (steps n A) (exec A x pc m)
 
 -- the address behind so many instructions

@@ -1,6 +1,9 @@
 -- What belongs in the places of a statement's operands, and how operands are faulty there: each kind of fault is a test of
 -- its own on an operand and on what names mean before its line.
-use Rattle.std.specs.Prelude.{ℕ, Bool, false, not, ◌&&◌, ◌||◌, ◌==◌, if◌then◌else◌, max, List, [], ◌∷◌, replicate, Option, Some, None, is_none, length, ℤ, pos, negsuc, int_le}
+use Rattle.std.specs.Prelude.{ℕ, Bool, false, not, ◌&&◌, ◌||◌, ◌==◌, if◌then◌else◌, max, List, [], ◌∷◌, replicate, Option, Some, None, is_none, length, ℤ, pos, int_le}
+use Rattle.rv_model.specs.declared.limits.TheConstants.{GREATEST_IMMEDIATE, GREATEST_UPPER, LEAST_IMMEDIATE}
+use Rattle.rv_model.specs.Image.{image_room}
+use Rattle.rv_asm.specs.declared.statement.TheConstants.{GREATEST_BYTE, LEAST_BYTE}
 use Rattle.rv_asm.specs.declared.fault.AsmKind.{AsmKind}
 use Rattle.rv_asm.specs.declared.fault.AsmKind.TheVariants.{Operands, BadRegister, BadNumber, UnknownName}
 use Rattle.rv_asm.specs.declared.symbols.Symbol.{Symbol}
@@ -10,7 +13,7 @@ use Rattle.rv_asm.specs.declared.mnemonic.Mnemonic.TheVariants as words
 use Rattle.ce_text.specs.Line.{cut, without_outer_blanks}
 use Rattle.rv_asm.specs.Line.{pieces, is_token, is_opening, is_closing}
 use Rattle.rv_asm.specs.Name.{is_name}
-use Rattle.rv_asm.specs.Register.{register_of}
+use Rattle.rv_asm.specs.Register.{named_register}
 use Rattle.rv_asm.specs.Literal.{literal_of}
 use Rattle.rv_asm.specs.Names.{Names}
 use Rattle.rv_asm.specs.Operand.{is_closed, least_immediate, greatest_immediate}
@@ -79,8 +82,8 @@ is_malformed form text = not (is_token text)
 
 -- where a register belongs, there is none
 unfoldable pub lacks_register : Form → List ℕ → Bool
-lacks_register a_register text = is_none (register_of text)
-lacks_register a_memory text = is_none (register_of (base_text text))
+lacks_register a_register text = is_none (named_register text)
+lacks_register a_memory text = is_none (named_register (base_text text))
 lacks_register form text = false
 
 -- where a number belongs, there is none, or one that is out of range
@@ -88,7 +91,7 @@ unfoldable pub lacks_number : Names → Form → List ℕ → Bool
 lacks_number names any_number text = is_no_number text
 lacks_number names a_value text = is_no_number text
 lacks_number names (a_number least greatest) text = is_no_number text || is_outside least greatest (number_given names text)
-lacks_number names a_memory text = is_no_number (offset_text text) || is_outside (negsuc 2047) (pos 2047) (number_given names (offset_text text))
+lacks_number names a_memory text = is_no_number (offset_text text) || is_outside LEAST_IMMEDIATE GREATEST_IMMEDIATE (number_given names (offset_text text))
 lacks_number names form text = false
 
 -- where a number belongs, there is a name that no earlier `.equ` gave
@@ -127,8 +130,8 @@ operand_texts (byte ∷ bytes) = pieces (byte ∷ bytes)
 -- what belongs in the places of so many operands; `.word` and `.byte` have any number of them but none
 abbrev pub forms_of : Mnemonic → ℕ → List Form
 forms_of (words.Plain inst) count = []
-forms_of words.Lui count = a_register ∷ a_number (pos 0) (pos 1048575) ∷ []
-forms_of words.Auipc count = a_register ∷ a_number (pos 0) (pos 1048575) ∷ []
+forms_of words.Lui count = a_register ∷ a_number (pos 0) GREATEST_UPPER ∷ []
+forms_of words.Auipc count = a_register ∷ a_number (pos 0) GREATEST_UPPER ∷ []
 forms_of words.Jalr count = a_register ∷ a_memory ∷ []
 forms_of (words.Load op) count = a_register ∷ a_memory ∷ []
 forms_of (words.Store op) count = a_register ∷ a_memory ∷ []
@@ -141,8 +144,8 @@ forms_of words.Jal count = a_register ∷ a_name ∷ []
 forms_of (words.Jump rd) count = a_name ∷ []
 forms_of (words.Branch op) count = a_register ∷ a_register ∷ a_name ∷ []
 forms_of words.Word count = replicate (max 1 count) a_value
-forms_of words.Byte count = replicate (max 1 count) (a_number (negsuc 127) (pos 255))
-forms_of words.Zero count = a_number (pos 0) (pos 122880) ∷ []
+forms_of words.Byte count = replicate (max 1 count) (a_number LEAST_BYTE GREATEST_BYTE)
+forms_of words.Zero count = a_number (pos 0) (pos image_room) ∷ []
 
 -- the fault of a statement's operands
 abbrev pub statement_fault : Names → Mnemonic → List ℕ → Option AsmKind

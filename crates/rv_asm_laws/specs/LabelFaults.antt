@@ -1,5 +1,6 @@
 -- The faults of labels: each kind is a test of its own on a statement, its address and what names mean in the whole text.
 use Rattle.std.specs.Prelude.{◌≡◌, ℕ, ◌+◌, ◌<◌, Bool, false, true, not, if◌then◌else◌, List, slice_get, take, sum_by, Option, Some, None, pos, ◌-ℤ◌}
+use Rattle.rv_model.specs.declared.limits.TheConstants.{BRANCH_REACH, JUMP_REACH}
 use Rattle.rv_asm.specs.declared.fault.AsmKind.{AsmKind}
 use Rattle.rv_asm.specs.declared.fault.AsmKind.TheVariants.{UnknownName, TooFar}
 use Rattle.rv_asm.specs.declared.fault.AsmFault.{AsmFault}
@@ -10,7 +11,7 @@ use Rattle.rv_asm.specs.declared.statement.Statement.TheVariants as statements
 use Rattle.rv_asm.specs.declared.statement.PlacedStatement.{PlacedStatement}
 use Rattle.rv_asm.specs.Names.{Names}
 use Rattle.rv_asm.specs.Sizes.{size_of}
-use Rattle.rv_asm.specs.SecondPass.{is_reached, jump_reach, branch_reach}
+use Rattle.rv_asm.specs.SecondPass.{is_reached}
 
 -- no line has the label
 abbrev pub is_no_label : Option Symbol → Bool
@@ -34,8 +35,8 @@ is_far reach address None = false
 
 -- a jump or a branch does not reach its label
 abbrev pub goes_too_far : Names → ℕ → Statement → Bool
-goes_too_far names address (statements.Jal rd label) = is_far jump_reach address (names label)
-goes_too_far names address (statements.Branch op rs1 rs2 label) = is_far branch_reach address (names label)
+goes_too_far names address (statements.Jal rd label) = is_far JUMP_REACH address (names label)
+goes_too_far names address (statements.Branch op rs1 rs2 label) = is_far BRANCH_REACH address (names label)
 goes_too_far names address statement = false
 
 -- the fault of a statement's label
@@ -48,8 +49,8 @@ abbrev pub statement_address : ℕ → List PlacedStatement → ℕ → ℕ
 statement_address address placed i = address + sum_by (λ it. size_of it.statement) (take i placed)
 
 -- the fault of a statement among those, counted from 0
-abbrev pub label_fault_at : Names → ℕ → List PlacedStatement → ℕ → PlacedStatement → Option AsmKind
-label_fault_at names address placed i it = label_fault names (statement_address address placed i) it.statement
+abbrev pub numbered_label_fault : Names → ℕ → List PlacedStatement → ℕ → PlacedStatement → Option AsmKind
+numbered_label_fault names address placed i it = label_fault names (statement_address address placed i) it.statement
 
 -- The line and kind of a fault are those of the first statement whose label has one.
 pub record IsFirstLabelFault (names : Names) (address : ℕ) (placed : List PlacedStatement) (fault : AsmFault) : Type 0 where
@@ -57,10 +58,10 @@ pub record IsFirstLabelFault (names : Names) (address : ℕ) (placed : List Plac
   pub it : PlacedStatement
   pub here : slice_get placed place ≡ Some it
   pub line : fault.line ≡ it.line
-  pub kind : label_fault_at names address placed place it ≡ Some fault.kind
-  pub before : (i : ℕ) (other : PlacedStatement) → i < place → slice_get placed i ≡ Some other → label_fault_at names address placed i other ≡ None
+  pub kind : numbered_label_fault names address placed place it ≡ Some fault.kind
+  pub before : (i : ℕ) (other : PlacedStatement) → i < place → slice_get placed i ≡ Some other → numbered_label_fault names address placed i other ≡ None
 
 -- no statement's label has a fault
 abbrev pub HasLabels : Names → ℕ → List PlacedStatement → Type 0
 HasLabels names address placed =
-    (i : ℕ) (it : PlacedStatement) → slice_get placed i ≡ Some it → label_fault_at names address placed i it ≡ None
+    (i : ℕ) (it : PlacedStatement) → slice_get placed i ≡ Some it → numbered_label_fault names address placed i it ≡ None

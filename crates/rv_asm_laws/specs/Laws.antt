@@ -1,6 +1,6 @@
 -- What holds of the assembler, a law at a time.
 use Rattle.std.specs.Prelude.{◌≡◌, ◌<◌, ◌≤◌, ◌+◌, ◌*◌, ◌^◌, map, ℕ, List, length, Some, Ok, IsTrue, Err, ◌≢◌, codes, ◌++◌, ◌∷◌, [], true, false}
-use Rattle.rv_model.specs.Exec.{Access, went, with_reg, reg, exec, jump_outcome, is_taken, next_pc}
+use Rattle.rv_model.specs.Exec.{Access, next_state, with_reg, reg, exec, jump_outcome, is_taken, next_pc}
 use Rattle.rv_model.specs.declared.inst.BranchOp.{BranchOp}
 use Rattle.rv_inst.specs.Valid.{IsRegister}
 use Rattle.rv_asm_laws.specs.Effects.{HasInstructions, HasParts, steps, pc_behind}
@@ -9,9 +9,9 @@ use Rattle.rv_asm.specs.Assembly.{assembly_of, entry_of}
 use Rattle.rv_asm_laws.specs.Listing.{IsListing}
 use Rattle.rv_asm.specs.Sizes.{statements_size}
 use Rattle.rv_model.specs.declared.inst.Inst.{Inst}
-use Rattle.ce_text.specs.Line.{lines}
+use Rattle.ce_text.specs.Line.{line_texts}
 use Rattle.rv_asm.specs.FirstPass.{LayoutSoFar, statement, line_laid, first_pass}
-use Rattle.rv_asm_laws.specs.Before.{label_of, line_at, address_at, laid_before, IsFirstFault, AreLaid}
+use Rattle.rv_asm_laws.specs.Before.{label_of, line_at, address_at, layout_before, IsFirstFault, AreLaid}
 use Rattle.rv_asm.specs.Line.{is_colon, is_opening, is_closing}
 use Rattle.rv_asm.specs.Operand.{memory}
 use Rattle.rv_asm.specs.Names.{Names}
@@ -35,7 +35,7 @@ abbrev pub LiLoads : Type 0
 LiLoads = (A : Access (List ℕ)) (x m : List ℕ) (pc rd word : ℕ)
     → length x ≡ 32 → IsRegister rd → word < 2 ^ 32 → HasInstructions A m pc (load_word rd word)
     → let count = length (load_word rd word) in
-    steps count A x pc m ≡ went (with_reg x rd word) (pc_behind count pc) m
+    steps count A x pc m ≡ next_state (with_reg x rd word) (pc_behind count pc) m
 
 -- those of `la rd, label` leave the label's address in rd
 abbrev pub LaLoads : Type 0
@@ -43,7 +43,7 @@ LaLoads = (A : Access (List ℕ)) (names : Names) (x m label : List ℕ)
     (pc rd address : ℕ) (parts : List Part)
     → length x ≡ 32 → IsRegister rd → address < 2 ^ 32 → names label ≡ Some (Label address)
     → parts_of names pc (statements.La rd label) ≡ Ok parts → HasParts A m pc parts
-    → steps 2 A x pc m ≡ went (with_reg x rd address) (pc_behind 2 pc) m
+    → steps 2 A x pc m ≡ next_state (with_reg x rd address) (pc_behind 2 pc) m
 
 -- a jump goes to the address of its label
 abbrev pub JumpsReach : Type 0
@@ -64,36 +64,36 @@ BranchesReach = (A : Access (List ℕ)) (names : Names) (x m label : List ℕ)
 -- the address of a line is the start of the image and the sizes of all that is laid before it
 abbrev pub AddressesAreSizes : Type 0
 AddressesAreSizes = (text : List (List ℕ)) (i : ℕ)
-    → address_at text i ≡ image_start + statements_size (laid_before text i).statements
+    → address_at text i ≡ image_start + statements_size (layout_before text i).statements
 
 -- a label's address is that of its line
 abbrev pub LabelsHaveAddresses : Type 0
 LabelsHaveAddresses = (text name : List ℕ) (laid : LayoutSoFar) (i : ℕ) → first_pass text ≡ Ok laid
-    → i < length (lines text) → label_of (line_at (lines text) i) ≡ Some name
-    → laid.names name ≡ Some (Label (address_at (lines text) i))
+    → i < length (line_texts text) → label_of (line_at (line_texts text) i) ≡ Some name
+    → laid.names name ≡ Some (Label (address_at (line_texts text) i))
 
 -- the entry is the address of the line with the label `start`
 abbrev pub EntriesAreLabelled : Type 0
 EntriesAreLabelled = (text : List ℕ) (laid : LayoutSoFar) (i : ℕ) → first_pass text ≡ Ok laid
-    → i < length (lines text) → label_of (line_at (lines text) i) ≡ Some (codes "start")
-    → entry_of laid.names ≡ address_at (lines text) i
+    → i < length (line_texts text) → label_of (line_at (line_texts text) i) ≡ Some (codes "start")
+    → entry_of laid.names ≡ address_at (line_texts text) i
 
 -- the entry is the start of the image where no line has this label
-abbrev pub EntriesWithoutLabel : Type 0
-EntriesWithoutLabel = (text : List ℕ) (laid : LayoutSoFar) → first_pass text ≡ Ok laid
-    → ((i : ℕ) → i < length (lines text)
-    → label_of (line_at (lines text) i) ≢ Some (codes "start"))
+abbrev pub UnlabelledEntriesAreStarts : Type 0
+UnlabelledEntriesAreStarts = (text : List ℕ) (laid : LayoutSoFar) → first_pass text ≡ Ok laid
+    → ((i : ℕ) → i < length (line_texts text)
+    → label_of (line_at (line_texts text) i) ≢ Some (codes "start"))
     → entry_of laid.names ≡ image_start
 
 -- the first pass answers the first line that has a fault
 abbrev pub FirstFaultsAreAnswered : Type 0
 FirstFaultsAreAnswered = (text : List ℕ) (fault : AsmFault) → first_pass text ≡ Err fault
-    → IsFirstFault (lines text) fault
+    → IsFirstFault (line_texts text) fault
 
 -- and what the lines lay, where none has one
 abbrev pub AllLinesAreLaid : Type 0
 AllLinesAreLaid = (text : List ℕ) (laid : LayoutSoFar) → first_pass text ≡ Ok laid
-    → AreLaid (lines text) laid
+    → AreLaid (line_texts text) laid
 
 -- the fault of operands is the first kind that some operand has
 abbrev pub OperandFaultsAreInOrder : Type 0
@@ -124,7 +124,7 @@ AllLabelsAreThere = (names : Names) (address : ℕ) (placed : List PlacedStateme
 
 -- a listing assembles to its instructions, and is entered at the first
 abbrev pub ListingsAreAssembled : Type 0
-ListingsAreAssembled = (text : List ℕ) (insts : List Inst) → IsListing (lines text) insts
+ListingsAreAssembled = (text : List ℕ) (insts : List Inst) → IsListing (line_texts text) insts
     → 0 < length insts → 4 * length insts ≤ image_room
     → assembly_of text ≡ Ok (record { entry = image_start; parts = map Instruction insts })
 

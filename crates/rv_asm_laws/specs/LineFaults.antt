@@ -23,13 +23,13 @@ use Rattle.rv_asm_laws.specs.Before.{label_of}
 
 -- ---- the parts of a line
 
-abbrev pub statement_behind : List ℕ × Option (List ℕ) → List ℕ
-statement_behind (front, None) = without_outer_blanks front
-statement_behind (front, Some rest) = without_outer_blanks rest
+abbrev pub statement_part : List ℕ × Option (List ℕ) → List ℕ
+statement_part (front, None) = without_outer_blanks front
+statement_part (front, Some rest) = without_outer_blanks rest
 
 -- what a line has behind its label
-abbrev pub statement_in : List ℕ → List ℕ
-statement_in line = statement_behind (cut is_colon (before_comment line))
+abbrev pub statement_text : List ℕ → List ℕ
+statement_text line = statement_part (cut is_colon (before_comment line))
 
 -- the word of a statement
 abbrev pub word_in : List ℕ → List ℕ
@@ -48,9 +48,9 @@ names_with laid None = laid.names
 names_with laid (Some label) = with_name laid.names label (Label (image_start + laid.size))
 
 -- what a statement other than `.equ` lays
-abbrev pub laid_list : Result (List Statement) AsmKind → List Statement
-laid_list (Ok statements) = statements
-laid_list (Err kind) = []
+abbrev pub statements_or_none : Result (List Statement) AsmKind → List Statement
+statements_or_none (Ok statements) = statements
+statements_or_none (Err kind) = []
 
 -- `.byte` and `.zero` lay bytes, and the others words
 abbrev pub is_of_words : Mnemonic → Bool
@@ -83,7 +83,7 @@ room_kind size of_words more =
 abbrev pub place_kind : Names → ℕ → Bool → Option Mnemonic → List ℕ → Option AsmKind
 place_kind names size true mnemonic operands = None
 place_kind names size false None operands = None
-place_kind names size false (Some mnemonic) operands = room_kind size (is_of_words mnemonic) (sum_by size_of (laid_list (statements_of mnemonic names operands)))
+place_kind names size false (Some mnemonic) operands = room_kind size (is_of_words mnemonic) (sum_by size_of (statements_or_none (statements_of mnemonic names operands)))
 
 -- the first of two kinds that is there
 abbrev pub or_then : Option AsmKind → Option AsmKind → Option AsmKind
@@ -122,4 +122,4 @@ fault_behind laid label statement =
 -- the fault of a line, once this is laid
 unfoldable pub line_fault : LayoutSoFar → List ℕ → Option AsmKind
 line_fault laid line =
-    if not (list_all is_plain (before_comment line)) then Some BadByte else fault_behind laid (label_of line) (statement_in line)
+    if not (list_all is_plain (before_comment line)) then Some BadByte else fault_behind laid (label_of line) (statement_text line)

@@ -11,16 +11,16 @@ use Rattle.rv_asm.specs.declared.mnemonic.Mnemonic.{Mnemonic}
 use Rattle.rv_asm.specs.declared.mnemonic.Mnemonic.TheVariants as words
 use Rattle.rv_asm.specs.Line.{is_token, is_opening}
 use Rattle.rv_asm.specs.Name.{is_name}
-use Rattle.rv_asm.specs.Register.{register_of}
+use Rattle.rv_asm.specs.Register.{named_register}
 use Rattle.rv_asm.specs.Literal.{literal_of}
 use Rattle.rv_asm.specs.Words.{mnemonic_of}
 use Rattle.rv_asm_laws.specs.Forms.{is_bracketed, offset_text, base_text, operand_texts}
 use Rattle.rv_asm_laws.specs.Before.{label_of}
-use Rattle.rv_asm_laws.specs.LineFaults.{statement_in, word_in, operands_in}
+use Rattle.rv_asm_laws.specs.LineFaults.{statement_text, word_in, operands_in}
 
 -- a name of the register
 abbrev pub IsRegisterText : ℕ → List ℕ → Type 0
-IsRegisterText n text = register_of text ≡ Some n
+IsRegisterText n text = named_register text ≡ Some n
 
 -- a token that is no name and writes the number
 pub record IsNumberText (n : ℤ) (text : List ℕ) : Type 0 where
@@ -81,14 +81,14 @@ pub record IsWrittenAs (inst : Inst) (line : List ℕ) : Type 0 where
   pub valid : IsValid inst
   pub plain : list_all is_plain (before_comment line) ≡ true
   pub unlabelled : label_of line ≡ None
-  pub mnemonic : mnemonic_of (word_in (statement_in line)) ≡ Some (mnemonic_for inst)
-  pub operands : AreOperandsOf inst (operand_texts (operands_in (statement_in line)))
+  pub mnemonic : mnemonic_of (word_in (statement_text line)) ≡ Some (mnemonic_for inst)
+  pub operands : AreOperandsOf inst (operand_texts (operands_in (statement_text line)))
 
 -- a line of blanks, or of a comment
 pub record IsEmptyLine (line : List ℕ) : Type 0 where
   pub plain : list_all is_plain (before_comment line) ≡ true
   pub unlabelled : label_of line ≡ None
-  pub nothing : statement_in line ≡ []
+  pub nothing : statement_text line ≡ []
 
 -- the lines write these instructions, one after the other; empty lines may stand between them
 abbrev pub IsListing : List (List ℕ) → List Inst → Type 0

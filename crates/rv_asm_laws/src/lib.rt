@@ -1,15 +1,15 @@
 //! Laws of the assembler, each the contract of a function that does nothing.
 #![tactic(auto)]
 
-ghost use Rattle.rv_asm.specs.Law.{InstructionsDecode, OneSpelling};
-ghost use Rattle.rv_asm_laws.specs.Laws.{LiLoads, LaLoads, JumpsReach, BranchesReach, AddressesAreSizes, LabelsHaveAddresses, EntriesAreLabelled, EntriesWithoutLabel, FirstFaultsAreAnswered, AllLinesAreLaid, OperandFaultsAreInOrder, LineFaultsAreInOrder, LabelFaultsAreInOrder, FirstLabelFaultsAreAnswered, AllLabelsAreThere, ListingsAreAssembled, EndBlanksGo, ColonBlanksGo, WordBlanksGo, CommaBlanksGo, OpeningBlanksGo, ClosingBlanksGo, CommentsGo};
+ghost use Rattle.rv_asm.specs.Law.{InstructionsDecode, PartsHaveOneSpelling};
+ghost use Rattle.rv_asm_laws.specs.Laws.{LiLoads, LaLoads, JumpsReach, BranchesReach, AddressesAreSizes, LabelsHaveAddresses, EntriesAreLabelled, UnlabelledEntriesAreStarts, FirstFaultsAreAnswered, AllLinesAreLaid, OperandFaultsAreInOrder, LineFaultsAreInOrder, LabelFaultsAreInOrder, FirstLabelFaultsAreAnswered, AllLabelsAreThere, ListingsAreAssembled, EndBlanksGo, ColonBlanksGo, WordBlanksGo, CommaBlanksGo, OpeningBlanksGo, ClosingBlanksGo, CommentsGo};
 
 /// In the bytes that lay out an assembly, the word at the place of each instruction is decoded to that
 /// instruction; and the bytes are the only ones that lay it out.
 #[tactic(auto, using(rv_asm::proofs::Spelled::decodes, rv_asm::proofs::Spelled::one_spelling))]
 pub fn assembly_law()
     ensures decoded { InstructionsDecode }
-    ensures one { OneSpelling }
+    ensures one { PartsHaveOneSpelling }
 {}
 
 /// What the instructions of `li rd, n` and `la rd, label` do when they run: `li` leaves n modulo 2^32 in rd, `la` the
@@ -40,7 +40,7 @@ pub fn labels_have_addresses()
 #[tactic(auto, using(crate::proofs::Labelling::entry_at_start, crate::proofs::Labelling::entry_without_start))]
 pub fn entries_are_labelled()
     ensures labelled { EntriesAreLabelled }
-    ensures without { EntriesWithoutLabel }
+    ensures without { UnlabelledEntriesAreStarts }
 {}
 
 /// The first pass answers the first line that has a fault, with its kind: each line is judged by what the lines before it

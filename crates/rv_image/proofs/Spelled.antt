@@ -12,8 +12,9 @@ use Rattle.rv_model.specs.declared.memory.NoMemory.{NoMemory}
 use Rattle.rv_image.specs.declared.fault.ImageFault.{ImageFault}
 use Rattle.rv_image.specs.declared.fault.ImageFault.TheVariants.{Short, Magic, TooLarge, Length, Entry, Memory}
 use Rattle.rv_model.specs.Image.{ImageParts, IsImage, image_room}
+use Rattle.rv_model.specs.LittleEndian.{bytes_number, number_at}
 use Rattle.rv_image.specs.Fault.{first_fault, is_too_large, is_entry, named_cause}
-use Rattle.rv_image.specs.Rki1.{magic_bytes, spelling, IsRki1, number_at, entry_field, loaded_field, zero_field, fields_of, fault_of}
+use Rattle.rv_image.specs.Rki1.{magic_bytes, spelling, IsRki1, entry_field, loaded_field, zero_field, fields_of, fault_of}
 
 -- ---- the table of refusals
 
@@ -62,20 +63,33 @@ named_fault bytes (Memory cause) e =
 
 -- ---- what is spelled is read
 
-number_again : (n : ℕ) → n < 2 ^ 32 → from_le_bytes w32 (to_le_bytes w32 n) ≡ n
-number_again n lt = from_le_bytes-to_le_bytes_4 n lt
+-- the number of four bytes, as the standard library reads it
+number_by : (bytes : List ℕ) → length bytes ≡ 4 → bytes_number bytes ≡ from_le_bytes w32 bytes
+number_by [] l = absurd (omega arith)
+number_by (a ∷ []) l = absurd (omega arith)
+number_by (a ∷ b ∷ []) l = absurd (omega arith)
+number_by (a ∷ b ∷ c ∷ []) l = absurd (omega arith)
+number_by (a ∷ b ∷ c ∷ d ∷ []) l = omega arith
+number_by (a ∷ b ∷ c ∷ d ∷ e ∷ bytes) l = absurd (omega arith)
+
+number_again : (n : ℕ) → n < 2 ^ 32 → bytes_number (to_le_bytes w32 n) ≡ n
+number_again n lt = number_by (to_le_bytes w32 n) refl ∙ from_le_bytes-to_le_bytes_4 n lt
 
 fields-spelling : (image : ImageParts) → IsImage image → fields_of (spelling image) ≡ image
+unfolding number_at
 fields-spelling image valid =
     rw (number_again image.entry (omega (arith, valid.before_end, valid.fits)), number_again image.zero (omega (arith, valid.fits))) refl
 
 entry_field-spelling : (image : ImageParts) → IsImage image → entry_field (spelling image) ≡ image.entry
+unfolding number_at
 entry_field-spelling image valid = number_again image.entry (omega (arith, valid.before_end, valid.fits))
 
 loaded_field-spelling : (image : ImageParts) → IsImage image → loaded_field (spelling image) ≡ length image.loaded
+unfolding number_at
 loaded_field-spelling image valid = number_again (length image.loaded) (omega (arith, valid.fits))
 
 zero_field-spelling : (image : ImageParts) → IsImage image → zero_field (spelling image) ≡ image.zero
+unfolding number_at
 zero_field-spelling image valid = number_again image.zero (omega (arith, valid.fits))
 
 is_entry-valid : (image : ImageParts) → IsImage image → is_entry image.entry (length image.loaded) ≡ true
@@ -112,9 +126,11 @@ IsBytes-piece place bytes h i =
     ]
 
 -- a number that was read is spelled by the bytes it was read from
-number_back : (place : ℕ) (bytes : List ℕ) → IsBytes bytes → place + 4 ≤ length bytes → to_le_bytes w32 (number_at place bytes) ≡ take 4 (drop place bytes)
+number_back : (place : ℕ) (bytes : List ℕ) → IsBytes bytes → place + 4 ≤ length bytes → to_le_bytes w32 (number_at bytes place 4) ≡ take 4 (drop place bytes)
+unfolding number_at
 number_back place bytes fits long =
-    le_bytes_4 (take 4 (drop place bytes)) (number_at place bytes) (omega (arith, length-take 4 (drop place bytes), length-drop place bytes)) (IsBytes-piece place bytes fits) refl
+    let four : length (take 4 (drop place bytes)) ≡ 4 = omega (arith, length-take 4 (drop place bytes), length-drop place bytes) in
+    le_bytes_4 (take 4 (drop place bytes)) (number_at bytes place 4) four (IsBytes-piece place bytes fits) (number_by (take 4 (drop place bytes)) four)
 
 piece : (place : ℕ) (bytes : List ℕ) → take 4 (drop place bytes) ++ drop (place + 4) bytes ≡ drop place bytes
 piece place bytes = ap (λ (rest : List ℕ). take 4 (drop place bytes) ++ rest) (sym (drop-drop 4 place bytes)) ∙ take-append-drop 4 (drop place bytes)

@@ -1,10 +1,11 @@
 -- RKI1, the format in which images are kept.
-use Rattle.std.specs.Prelude.{◌≡◌, ℕ, ◌+◌, not, ◌==◌, nat_eq, nat_lt, List, [], ◌∷◌, ◌++◌, length, take, drop, Option}
+use Rattle.std.specs.Prelude.{◌≡◌, ℕ, ◌+◌, not, ◌==◌, nat_eq, nat_lt, List, [], ◌∷◌, ◌++◌, length, drop, Option}
 use Rattle.std.specs.List.{starts_with}
-use Rattle.std.specs.Int.{w32, to_le_bytes, from_le_bytes}
+use Rattle.std.specs.Int.{w32, to_le_bytes}
 use Rattle.rv_image.specs.declared.fault.ImageFault.{ImageFault}
 use Rattle.rv_image.specs.declared.fault.ImageFault.TheVariants.{Short, Magic, TooLarge, Length, Entry}
 use Rattle.rv_model.specs.Image.{ImageParts, IsImage, image_parts}
+use Rattle.rv_model.specs.LittleEndian.{number_at}
 use Rattle.rv_image.specs.Fault.{first_fault, is_too_large, is_entry}
 
 -- `RKI1`
@@ -22,18 +23,14 @@ pub record IsRki1 (bytes : List ℕ) (image : ImageParts) : Type 0 where
   pub valid : IsImage image
   pub spelled : bytes ≡ spelling image
 
--- the little-endian number in the four bytes from this place on
-abbrev pub number_at : ℕ → List ℕ → ℕ
-number_at place bytes = from_le_bytes w32 (take 4 (drop place bytes))
-
 abbrev pub entry_field : List ℕ → ℕ
-entry_field bytes = number_at 4 bytes
+entry_field bytes = number_at bytes 4 4
 
 abbrev pub loaded_field : List ℕ → ℕ
-loaded_field bytes = number_at 8 bytes
+loaded_field bytes = number_at bytes 8 4
 
 abbrev pub zero_field : List ℕ → ℕ
-zero_field bytes = number_at 12 bytes
+zero_field bytes = number_at bytes 12 4
 
 -- what the header says, and the bytes behind it
 abbrev pub fields_of : List ℕ → ImageParts

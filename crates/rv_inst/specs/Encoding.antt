@@ -3,6 +3,7 @@
 -- instruction, this gives the word back (`back` in `proofs/Joined.antt`).
 use Rattle.std.specs.Prelude.{ℕ, ◌+◌, ◌*◌, ◌%◌, ◌^◌, ℤ, unsigned_abs}
 use Rattle.std.specs.Int.{w32, cast_unsigned}
+use Rattle.rv_model.specs.declared.opcodes.TheConstants.{LUI, AUIPC, JAL, JALR, BRANCH, LOAD, STORE, OP_IMM, OP, ECALL_WORD, EBREAK_WORD}
 use Rattle.rv_model.specs.declared.inst.Inst.{Inst}
 use Rattle.rv_model.specs.declared.inst.Inst.TheVariants.{Lui, Auipc, Jal, Jalr, Branch, Load, Store, OpImm, Op, Fence, Ecall, Ebreak}
 use Rattle.rv_model.specs.declared.inst.BranchOp.{BranchOp}
@@ -15,7 +16,7 @@ use Rattle.rv_model.specs.declared.inst.ImmOp.{ImmOp}
 use Rattle.rv_model.specs.declared.inst.ImmOp.TheVariants.{Addi, Slti, Sltiu, Xori, Ori, Andi, Slli, Srli, Srai}
 use Rattle.rv_model.specs.declared.inst.RegOp.{RegOp}
 use Rattle.rv_model.specs.declared.inst.RegOp.TheVariants.{Add, Sll, Slt, Sltu, Xor, Srl, Or, And, Sub, Sra}
-use Rattle.rv_model.specs.Words.{cut}
+use Rattle.rv_model.specs.Words.{bits_of}
 
 -- ---- formats: the first bits are those of the immediate, the second those of the word
 
@@ -33,14 +34,14 @@ i_word opcode funct3 rd rs1 imm =
 abbrev pub s_word : (opcode funct3 rs1 rs2 : ℕ) → ℤ → ℕ
 s_word opcode funct3 rs1 rs2 imm =
     let n = cast_unsigned w32 imm in
-    cut 5 7 n * 2 ^ 25 + rs2 * 2 ^ 20 + rs1 * 2 ^ 15 + funct3 * 2 ^ 12 + cut 0 5 n * 2 ^ 7 + opcode
+    bits_of 5 7 n * 2 ^ 25 + rs2 * 2 ^ 20 + rs1 * 2 ^ 15 + funct3 * 2 ^ 12 + bits_of 0 5 n * 2 ^ 7 + opcode
 
 -- B: bit 12 is bit 31, bits 10..5 are bits 30..25, bits 4..1 are bits 11..8, and bit 11 is bit 7
 abbrev pub b_word : (opcode funct3 rs1 rs2 : ℕ) → ℤ → ℕ
 b_word opcode funct3 rs1 rs2 offset =
     let n = cast_unsigned w32 offset in
-    cut 12 1 n * 2 ^ 31 + cut 5 6 n * 2 ^ 25 + rs2 * 2 ^ 20 + rs1 * 2 ^ 15 + funct3 * 2 ^ 12
-    + cut 1 4 n * 2 ^ 8 + cut 11 1 n * 2 ^ 7 + opcode
+    bits_of 12 1 n * 2 ^ 31 + bits_of 5 6 n * 2 ^ 25 + rs2 * 2 ^ 20 + rs1 * 2 ^ 15 + funct3 * 2 ^ 12
+    + bits_of 1 4 n * 2 ^ 8 + bits_of 11 1 n * 2 ^ 7 + opcode
 
 -- U: bits 31..12 stay where they are
 abbrev pub u_word : (opcode rd imm : ℕ) → ℕ
@@ -50,7 +51,7 @@ u_word opcode rd imm = imm + rd * 2 ^ 7 + opcode
 abbrev pub j_word : (opcode rd : ℕ) → ℤ → ℕ
 j_word opcode rd offset =
     let n = cast_unsigned w32 offset in
-    cut 20 1 n * 2 ^ 31 + cut 1 10 n * 2 ^ 21 + cut 11 1 n * 2 ^ 20 + cut 12 8 n * 2 ^ 12
+    bits_of 20 1 n * 2 ^ 31 + bits_of 1 10 n * 2 ^ 21 + bits_of 11 1 n * 2 ^ 20 + bits_of 12 8 n * 2 ^ 12
     + rd * 2 ^ 7 + opcode
 
 -- ---- instructions
@@ -80,40 +81,40 @@ store_funct3 Sw = 0b010
 
 -- the word of an operation on a register and a number; the amount of a shift stands where rs2 does
 abbrev pub imm_word : ImmOp → ℕ → ℕ → ℤ → ℕ
-imm_word Addi rd rs1 imm = i_word 0b0010011 0b000 rd rs1 imm
-imm_word Slti rd rs1 imm = i_word 0b0010011 0b010 rd rs1 imm
-imm_word Sltiu rd rs1 imm = i_word 0b0010011 0b011 rd rs1 imm
-imm_word Xori rd rs1 imm = i_word 0b0010011 0b100 rd rs1 imm
-imm_word Ori rd rs1 imm = i_word 0b0010011 0b110 rd rs1 imm
-imm_word Andi rd rs1 imm = i_word 0b0010011 0b111 rd rs1 imm
-imm_word Slli rd rs1 imm = r_word 0b0010011 0b001 0b0000000 rd rs1 (unsigned_abs imm)
-imm_word Srli rd rs1 imm = r_word 0b0010011 0b101 0b0000000 rd rs1 (unsigned_abs imm)
-imm_word Srai rd rs1 imm = r_word 0b0010011 0b101 0b0100000 rd rs1 (unsigned_abs imm)
+imm_word Addi rd rs1 imm = i_word OP_IMM 0b000 rd rs1 imm
+imm_word Slti rd rs1 imm = i_word OP_IMM 0b010 rd rs1 imm
+imm_word Sltiu rd rs1 imm = i_word OP_IMM 0b011 rd rs1 imm
+imm_word Xori rd rs1 imm = i_word OP_IMM 0b100 rd rs1 imm
+imm_word Ori rd rs1 imm = i_word OP_IMM 0b110 rd rs1 imm
+imm_word Andi rd rs1 imm = i_word OP_IMM 0b111 rd rs1 imm
+imm_word Slli rd rs1 imm = r_word OP_IMM 0b001 0b0000000 rd rs1 (unsigned_abs imm)
+imm_word Srli rd rs1 imm = r_word OP_IMM 0b101 0b0000000 rd rs1 (unsigned_abs imm)
+imm_word Srai rd rs1 imm = r_word OP_IMM 0b101 0b0100000 rd rs1 (unsigned_abs imm)
 
 -- the word of an operation on two registers
 abbrev pub op_word : RegOp → ℕ → ℕ → ℕ → ℕ
-op_word Add rd rs1 rs2 = r_word 0b0110011 0b000 0b0000000 rd rs1 rs2
-op_word Sll rd rs1 rs2 = r_word 0b0110011 0b001 0b0000000 rd rs1 rs2
-op_word Slt rd rs1 rs2 = r_word 0b0110011 0b010 0b0000000 rd rs1 rs2
-op_word Sltu rd rs1 rs2 = r_word 0b0110011 0b011 0b0000000 rd rs1 rs2
-op_word Xor rd rs1 rs2 = r_word 0b0110011 0b100 0b0000000 rd rs1 rs2
-op_word Srl rd rs1 rs2 = r_word 0b0110011 0b101 0b0000000 rd rs1 rs2
-op_word Or rd rs1 rs2 = r_word 0b0110011 0b110 0b0000000 rd rs1 rs2
-op_word And rd rs1 rs2 = r_word 0b0110011 0b111 0b0000000 rd rs1 rs2
-op_word Sub rd rs1 rs2 = r_word 0b0110011 0b000 0b0100000 rd rs1 rs2
-op_word Sra rd rs1 rs2 = r_word 0b0110011 0b101 0b0100000 rd rs1 rs2
+op_word Add rd rs1 rs2 = r_word OP 0b000 0b0000000 rd rs1 rs2
+op_word Sll rd rs1 rs2 = r_word OP 0b001 0b0000000 rd rs1 rs2
+op_word Slt rd rs1 rs2 = r_word OP 0b010 0b0000000 rd rs1 rs2
+op_word Sltu rd rs1 rs2 = r_word OP 0b011 0b0000000 rd rs1 rs2
+op_word Xor rd rs1 rs2 = r_word OP 0b100 0b0000000 rd rs1 rs2
+op_word Srl rd rs1 rs2 = r_word OP 0b101 0b0000000 rd rs1 rs2
+op_word Or rd rs1 rs2 = r_word OP 0b110 0b0000000 rd rs1 rs2
+op_word And rd rs1 rs2 = r_word OP 0b111 0b0000000 rd rs1 rs2
+op_word Sub rd rs1 rs2 = r_word OP 0b000 0b0100000 rd rs1 rs2
+op_word Sra rd rs1 rs2 = r_word OP 0b101 0b0100000 rd rs1 rs2
 
 -- the word of a valid instruction; of others this says nothing
 unfoldable pub word_of : Inst → ℕ
-word_of (Lui rd imm) = u_word 0b0110111 rd imm
-word_of (Auipc rd imm) = u_word 0b0010111 rd imm
-word_of (Jal rd offset) = j_word 0b1101111 rd offset
-word_of (Jalr rd rs1 imm) = i_word 0b1100111 0b000 rd rs1 imm
-word_of (Branch op rs1 rs2 offset) = b_word 0b1100011 (branch_funct3 op) rs1 rs2 offset
-word_of (Load op rd rs1 imm) = i_word 0b0000011 (load_funct3 op) rd rs1 imm
-word_of (Store op rs1 rs2 imm) = s_word 0b0100011 (store_funct3 op) rs1 rs2 imm
+word_of (Lui rd imm) = u_word LUI rd imm
+word_of (Auipc rd imm) = u_word AUIPC rd imm
+word_of (Jal rd offset) = j_word JAL rd offset
+word_of (Jalr rd rs1 imm) = i_word JALR 0b000 rd rs1 imm
+word_of (Branch op rs1 rs2 offset) = b_word BRANCH (branch_funct3 op) rs1 rs2 offset
+word_of (Load op rd rs1 imm) = i_word LOAD (load_funct3 op) rd rs1 imm
+word_of (Store op rs1 rs2 imm) = s_word STORE (store_funct3 op) rs1 rs2 imm
 word_of (OpImm op rd rs1 imm) = imm_word op rd rs1 imm
 word_of (Op op rd rs1 rs2) = op_word op rd rs1 rs2
 word_of (Fence word) = word
-word_of Ecall = 0x0000_0073
-word_of Ebreak = 0x0010_0073
+word_of Ecall = ECALL_WORD
+word_of Ebreak = EBREAK_WORD

@@ -8,7 +8,10 @@ use crate::fields::{
     b_immediate, funct3, funct7, i_immediate, j_immediate, opcode, rd, rs1, rs2, s_immediate,
     u_immediate,
 };
-use crate::opcodes::{AUIPC, BRANCH, JAL, JALR, LOAD, LUI, MISC_MEM, OP, OP_IMM, STORE, SYSTEM};
+use rv_model::opcodes::{
+    AUIPC, BRANCH, EBREAK_WORD, ECALL_WORD, JAL, JALR, LOAD, LUI, MISC_MEM, OP, OP_IMM, STORE,
+    SYSTEM,
+};
 use rv_model::{BranchOp, ImmOp, Inst, LoadOp, RegOp, StoreOp};
 
 /// The instruction that a word is, by the standard's table of RV32I (RISC-V unprivileged specification, "RV32I Base
@@ -254,8 +257,8 @@ fn system(word: u32) -> Option<Inst>
     ensures valid { IfSome result IsValid }
 {
     match word {
-        0x0000_0073 => Some(Inst::Ecall),
-        0x0010_0073 => Some(Inst::Ebreak),
+        ECALL_WORD => Some(Inst::Ecall),
+        EBREAK_WORD => Some(Inst::Ebreak),
         _ => None,
     }
 }

@@ -5,7 +5,9 @@ ghost use Rattle.rv_inst.specs.Valid.{IsRegister, IsShiftAmount, IsValid};
 ghost use Rattle.rv_model.specs.declared.inst.Inst.TheVariants.{Branch, Load, Store, OpImm, Op};
 
 use crate::layout::{b_word, i_word, j_word, r_word, s_word, u_word};
-use crate::opcodes::{AUIPC, BRANCH, JAL, JALR, LOAD, LUI, OP, OP_IMM, STORE};
+use rv_model::opcodes::{
+    AUIPC, BRANCH, EBREAK_WORD, ECALL_WORD, JAL, JALR, LOAD, LUI, OP, OP_IMM, STORE,
+};
 use rv_model::{BranchOp, ImmOp, Inst, LoadOp, RegOp, StoreOp};
 
 /// The word of a valid instruction: the only one that is decoded to the instruction (RISC-V unprivileged specification,
@@ -44,8 +46,8 @@ fn word_of(inst: Inst) -> u32
             r_word(OP, funct3, funct7, rd, rs1, rs2)
         }
         Inst::Fence { word } => word,
-        Inst::Ecall => 0x0000_0073,
-        Inst::Ebreak => 0x0010_0073,
+        Inst::Ecall => ECALL_WORD,
+        Inst::Ebreak => EBREAK_WORD,
     }
 }
 

@@ -1,7 +1,7 @@
 //! The fields of an instruction word, and the immediates that lie in it (RISC-V unprivileged specification, "Base
 //! Instruction Formats" and "Immediate Encoding Variants").
 ghost use Rattle.std.specs.Prelude.{◌≡◌, ◌<◌};
-ghost use Rattle.rv_model.specs.Words.{cut, opcode_of, rd_of, funct3_of, rs1_of, rs2_of, funct7_of, i_immediate, s_immediate, b_immediate, u_immediate, j_immediate};
+ghost use Rattle.rv_model.specs.Words.{bits_of, opcode_of, rd_of, funct3_of, rs1_of, rs2_of, funct7_of, i_immediate, s_immediate, b_immediate, u_immediate, j_immediate};
 
 /// The `width` bits of a word from bit `low` up.
 #[tactic(auto, using(crate::proofs::Masks::masked))]
@@ -9,7 +9,7 @@ ghost use Rattle.rv_model.specs.Words.{cut, opcode_of, rd_of, funct3_of, rs1_of,
 pub fn bits(word: u32, low: u32, width: u32) -> u32
     requires low { low < 32 }
     requires width { width < 32 }
-    ensures { result ≡ cut low width word }
+    ensures { result ≡ bits_of low width word }
 {
     word >> low & (1 << width) - 1
 }

@@ -1,21 +1,22 @@
 //! Laws of the table of instructions, each the contract of a function that does nothing.
 ghost use Rattle.std.specs.Prelude.{◌≡◌, ◌<◌, ◌≤◌, ◌^◌, ℕ, length, filter, All, IfSome, IsTrue};
-ghost use Rattle.rv_model.specs.Words.{matches, table, dec};
+ghost use Rattle.rv_model.specs.Words.{has_fixed_fields, table, dec};
 ghost use Rattle.rv_inst.specs.Valid.{IsValid};
 ghost use Rattle.rv_model.specs.declared.inst.Inst.{Inst};
 
 /// The table is unambiguous: a word matches at most one row.
 #[tactic(auto, using(crate::proofs::Unambiguous::table_at_most_one))]
 pub fn table_is_unambiguous()
-    ensures { (word : ℕ) → length (filter (matches word) table) ≤ 1 }
+    ensures { (word : ℕ) → length (filter (has_fixed_fields word) table) ≤ 1 }
 {}
 
 /// A word that matches a row is that row's instruction, and a word that matches none is no instruction.
 #[tactic(auto, using(crate::proofs::Unambiguous::decided))]
 pub fn table_decides()
     ensures matched { (word : ℕ)
-        → All (λ row. IsTrue (matches word row) → dec word ≡ Some (row.meaning word)) table }
-    ensures unmatched { (word : ℕ) → All (λ row. ¬ IsTrue (matches word row)) table
+        → All (λ row. IsTrue (has_fixed_fields word row)
+        → dec word ≡ Some (row.meaning word)) table }
+    ensures unmatched { (word : ℕ) → All (λ row. ¬ IsTrue (has_fixed_fields word row)) table
         → dec word ≡ None }
 {}
 

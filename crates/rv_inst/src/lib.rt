@@ -7,7 +7,6 @@ mod encoding;
 mod fields;
 mod laws;
 mod layout;
-mod opcodes;
 mod validity;
 
 pub use decoding::decode;

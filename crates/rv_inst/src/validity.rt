@@ -1,15 +1,19 @@
 //! Which instructions a word can hold.
-ghost use Rattle.std.specs.Prelude.{◌≡◌, ◌<◌, ◌↔◌, IsTrue};
-ghost use Rattle.rv_inst.specs.Valid.{IsRegister, IsUpper, IsTwelveBits, IsBranchOffset, IsJumpOffset, IsImmediateOf, IsValid};
+ghost use Rattle.std.specs.Prelude.{◌≡◌, ◌<◌, ◌≤◌, ◌↔◌, IsTrue};
+ghost use Rattle.rv_inst.specs.Valid.{IsRegister, IsUpper, IsTwelveBits, IsOffsetWithin, IsBranchOffset, IsJumpOffset, IsImmediateOf, IsValid};
 
 use crate::fields::{funct3, opcode};
-use crate::opcodes::MISC_MEM;
-use rv_model::{ImmOp, Inst};
+use rv_model::opcodes::MISC_MEM;
+use rv_model::{
+    BRANCH_REACH, GREATEST_IMMEDIATE, GREATEST_SHIFT, ImmOp, Inst, JUMP_REACH, LEAST_IMMEDIATE,
+    REGISTER_COUNT,
+};
 
-/// Whether a word can hold the instruction: registers are below 32, the immediates of `Lui` and `Auipc` are multiples of
-/// 4,096, the offset of a jump is even and from -1,048,576 to 1,048,574, that of a branch is even and from -4,096 to
-/// 4,094, any other immediate is from -2,048 to 2,047, but from 0 to 31 in a shift, and a fence has the opcode and the
-/// minor opcode of one (RISC-V unprivileged specification, "Immediate Encoding Variants").
+/// Whether a word can hold the instruction: registers are below `REGISTER_COUNT`, the immediates of `Lui` and `Auipc` are
+/// multiples of 4,096, the offset of a jump is even and from -`JUMP_REACH` to less than `JUMP_REACH`, that of a branch the
+/// same with `BRANCH_REACH`, any other immediate is from `LEAST_IMMEDIATE` to `GREATEST_IMMEDIATE`, but from 0 to
+/// `GREATEST_SHIFT` in a shift, and a fence has the opcode and the minor opcode of one (RISC-V unprivileged
+/// specification, "Immediate Encoding Variants").
 pub fn is_valid(inst: &Inst) -> bool
     ensures { IsTrue result ↔ IsValid inst.now }
 {
@@ -40,11 +44,11 @@ pub fn is_valid(inst: &Inst) -> bool
     }
 }
 
-/// Whether this is one of the 32 registers.
+/// Whether this is one of the registers.
 fn is_register(register: u8) -> bool
     ensures { IsTrue result ↔ IsRegister register }
 {
-    register < 32
+    usize::from(register) < REGISTER_COUNT
 }
 
 /// Whether the U format can hold the immediate.
@@ -58,21 +62,30 @@ fn is_upper(imm: u32) -> bool
 fn is_twelve_bits(imm: i32) -> bool
     ensures { IsTrue result ↔ IsTwelveBits imm }
 {
-    (-2048..=2047).contains(&imm)
+    (LEAST_IMMEDIATE..=GREATEST_IMMEDIATE).contains(&imm)
+}
+
+/// Whether an offset is even, and from -reach to reach - 1.
+fn is_offset_within(reach: u32, offset: i32) -> bool
+    requires { reach ≤ JUMP_REACH }
+    ensures { IsTrue result ↔ IsOffsetWithin reach offset }
+{
+    let reach = reach as i32;
+    (-reach..reach).contains(&offset) && offset % 2 == 0
 }
 
 /// Whether the B format can hold the offset.
 fn is_branch_offset(offset: i32) -> bool
     ensures { IsTrue result ↔ IsBranchOffset offset }
 {
-    (-4096..=4094).contains(&offset) && offset % 2 == 0
+    is_offset_within(BRANCH_REACH, offset)
 }
 
 /// Whether the J format can hold the offset.
 fn is_jump_offset(offset: i32) -> bool
     ensures { IsTrue result ↔ IsJumpOffset offset }
 {
-    (-1_048_576..=1_048_574).contains(&offset) && offset % 2 == 0
+    is_offset_within(JUMP_REACH, offset)
 }
 
 /// Whether the operation can have the immediate: a shift amount where it shifts.
@@ -80,7 +93,7 @@ fn is_immediate_of(op: ImmOp, imm: i32) -> bool
     ensures { IsTrue result ↔ IsImmediateOf op imm }
 {
     match op {
-        ImmOp::Slli | ImmOp::Srli | ImmOp::Srai => (0..=31).contains(&imm),
+        ImmOp::Slli | ImmOp::Srli | ImmOp::Srai => (0..=GREATEST_SHIFT).contains(&imm),
         ImmOp::Addi | ImmOp::Slti | ImmOp::Sltiu | ImmOp::Xori | ImmOp::Ori | ImmOp::Andi =>
             is_twelve_bits(imm),
     }

@@ -22,9 +22,9 @@ use Rattle.rv_model.specs.Word.{wrapping_sum, wrapping_difference, is_less_signe
 -- what a memory answers: the word at a pc, the `size` bytes at an address as a number, and the memory
 -- once the lowest `size` bytes of a number are stored at an address; or why it stops the process instead
 pub record Access (M : Type 0) : Type 0 where
-  pub fetched : M → ℕ → Result ℕ Stop
-  pub loaded : M → ℕ → ℕ → Result ℕ Stop
-  pub stored : M → ℕ → ℕ → ℕ → Result M Stop
+  pub fetch : M → ℕ → Result ℕ Stop
+  pub load : M → ℕ → ℕ → Result ℕ Stop
+  pub store : M → ℕ → ℕ → ℕ → Result M Stop
 
 -- how many bytes an access can have
 abbrev pub IsAccessSize : ℕ → Type 0
@@ -33,15 +33,15 @@ IsAccessSize size = (size ≡ 1) ⊎ (size ≡ 2) ⊎ (size ≡ 4)
 -- how an instruction ends: it is done, with these registers, this pc and this memory; it is a call of the kernel, with the
 -- same; or the process stops, and nothing has changed
 pub data Outcome (M : Type 0) : Type 0 where
-  went : List ℕ → ℕ → M → Outcome M
-  called : List ℕ → ℕ → M → Outcome M
-  stopped : Stop → Outcome M
+  next_state : List ℕ → ℕ → M → Outcome M
+  call_state : List ℕ → ℕ → M → Outcome M
+  stop_state : Stop → Outcome M
 
 -- what comes after an answer, where it isn't a stop
 infixl 10 ◌>>=◌
 abbrev pub ◌>>=◌ : {X M : Type 0} → Result X Stop → (X → Outcome M) → Outcome M
 Ok x >>= f = f x
-Err cause >>= f = stopped cause
+Err cause >>= f = stop_state cause
 
 -- ---- registers: "Programmers' Model for Base Integer ISA"
 
@@ -122,34 +122,34 @@ offset_by a imm = wrapping_sum a (cast_unsigned w32 imm)
 
 -- a jump at `pc` to `target`, which leaves the registers x
 abbrev pub jump_outcome : {M : Type 0} → ℕ → ℕ → List ℕ → M → Outcome M
-jump_outcome pc target x m = if target % 4 == 0 then went x target m else stopped (Target pc)
+jump_outcome pc target x m = if target % 4 == 0 then next_state x target m else stop_state (Target pc)
 
 -- what an instruction at `pc` does to the registers x and the memory m
 unfoldable pub effect_of : {M : Type 0} → Access M → Inst → List ℕ → ℕ → M → Outcome M
-effect_of A (Lui rd imm) x pc m = went (with_reg x rd imm) (next_pc pc) m
-effect_of A (Auipc rd imm) x pc m = went (with_reg x rd (wrapping_sum pc imm)) (next_pc pc) m
+effect_of A (Lui rd imm) x pc m = next_state (with_reg x rd imm) (next_pc pc) m
+effect_of A (Auipc rd imm) x pc m = next_state (with_reg x rd (wrapping_sum pc imm)) (next_pc pc) m
 effect_of A (Jal rd offset) x pc m = jump_outcome pc (offset_by pc offset) (with_reg x rd (next_pc pc)) m
 effect_of A (Jalr rd rs1 imm) x pc m =
     jump_outcome pc (offset_by (reg x rs1) imm / 2 * 2) (with_reg x rd (next_pc pc)) m
 effect_of A (Branch op rs1 rs2 offset) x pc m =
-    if is_taken op (reg x rs1) (reg x rs2) then jump_outcome pc (offset_by pc offset) x m else went x (next_pc pc) m
+    if is_taken op (reg x rs1) (reg x rs2) then jump_outcome pc (offset_by pc offset) x m else next_state x (next_pc pc) m
 effect_of A (Load op rd rs1 imm) x pc m = do
-  n ← A.loaded m (offset_by (reg x rs1) imm) (load_size op)
-  went (with_reg x rd (loaded_number op n)) (next_pc pc) m
+  n ← A.load m (offset_by (reg x rs1) imm) (load_size op)
+  next_state (with_reg x rd (loaded_number op n)) (next_pc pc) m
 effect_of A (Store op rs1 rs2 imm) x pc m = do
-  left ← A.stored m (offset_by (reg x rs1) imm) (store_size op) (reg x rs2 % 256 ^ store_size op)
-  went x (next_pc pc) left
+  left ← A.store m (offset_by (reg x rs1) imm) (store_size op) (reg x rs2 % 256 ^ store_size op)
+  next_state x (next_pc pc) left
 effect_of A (OpImm op rd rs1 imm) x pc m =
-    went (with_reg x rd (imm_result op (reg x rs1) (cast_unsigned w32 imm))) (next_pc pc) m
+    next_state (with_reg x rd (imm_result op (reg x rs1) (cast_unsigned w32 imm))) (next_pc pc) m
 effect_of A (Op op rd rs1 rs2) x pc m =
-    went (with_reg x rd (reg_result op (reg x rs1) (reg x rs2))) (next_pc pc) m
-effect_of A (Fence word) x pc m = went x (next_pc pc) m
-effect_of A Ecall x pc m = called x (next_pc pc) m
-effect_of A Ebreak x pc m = stopped (Break pc)
+    next_state (with_reg x rd (reg_result op (reg x rs1) (reg x rs2))) (next_pc pc) m
+effect_of A (Fence word) x pc m = next_state x (next_pc pc) m
+effect_of A Ecall x pc m = call_state x (next_pc pc) m
+effect_of A Ebreak x pc m = stop_state (Break pc)
 
 -- one step: the word at `pc` is fetched, decoded, and done
 unfoldable pub exec : {M : Type 0} → Access M → List ℕ → ℕ → M → Outcome M
 exec A x pc m = do
-  word ← A.fetched m pc
+  word ← A.fetch m pc
   inst ← ok_or (dec word) (Illegal pc word)
   effect_of A inst x pc m

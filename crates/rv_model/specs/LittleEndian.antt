@@ -3,13 +3,13 @@ use Rattle.std.specs.Prelude.{ℕ, ◌+◌, ◌*◌, List, [], ◌∷◌, ◌++�
 use Rattle.std.specs.Int.{bytes_low_first}
 
 -- the number that these bytes are
-abbrev pub number_of : List ℕ → ℕ
-number_of [] = 0
-number_of (b ∷ bs) = b + 256 * number_of bs
+abbrev pub bytes_number : List ℕ → ℕ
+bytes_number [] = 0
+bytes_number (b ∷ bs) = b + 256 * bytes_number bs
 
 -- the number in the `size` bytes from `offset` on
 unfoldable pub number_at : List ℕ → ℕ → ℕ → ℕ
-number_at bytes offset size = number_of (take size (drop offset bytes))
+number_at bytes offset size = bytes_number (take size (drop offset bytes))
 
 -- the bytes once the lowest `size` bytes of n are written from `offset` on
 unfoldable pub with_number_at : List ℕ → ℕ → ℕ → ℕ → List ℕ

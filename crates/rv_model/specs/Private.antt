@@ -16,8 +16,8 @@ abbrev pub is_private : ℕ → Bool
 is_private a = nat_le PRIVATE_START a && nat_lt a PRIVATE_END
 
 -- instructions are fetched from private memory alone, at a multiple of 4
-abbrev pub word_fetched : List ℕ → ℕ → Result ℕ Stop
-word_fetched bytes pc =
+abbrev pub word_at_pc : List ℕ → ℕ → Result ℕ Stop
+word_at_pc bytes pc =
     if pc % 4 == 0 && is_private pc then Ok (number_at bytes (pc - PRIVATE_START) 4) else Err (Fetch pc)
 
 -- an access of `size` bytes at an address, which is made by the offset in private memory: it must be at a multiple of
@@ -29,9 +29,9 @@ checked_access a size made =
 -- what private memory answers
 abbrev pub private_access : Access (List ℕ)
 private_access = record {
-  fetched = word_fetched;
-  loaded = λ bytes a size. checked_access a size (λ offset. number_at bytes offset size);
-  stored = λ bytes a size n. checked_access a size (λ offset. with_number_at bytes offset size n);
+  fetch = word_at_pc;
+  load = λ bytes a size. checked_access a size (λ offset. number_at bytes offset size);
+  store = λ bytes a size n. checked_access a size (λ offset. with_number_at bytes offset size n);
 }
 
 -- private memory once these bytes are loaded at its start: all others are 0

@@ -4,6 +4,7 @@
 -- don't matter, and that every other word is no instruction, is this project's own.
 use Rattle.std.specs.Prelude.{ℕ, ◌+◌, ◌-◌, ◌*◌, ◌/◌, ◌%◌, ◌^◌, Bool, ◌==◌, nat_lt, if◌then◌else◌, ℤ, pos, ◌-ℤ◌, List, [], ◌∷◌, find, Option, option_map}
 use Rattle.std.specs.List.{list_all}
+use Rattle.rv_model.specs.declared.opcodes.TheConstants.{LUI, AUIPC, JAL, JALR, BRANCH, LOAD, STORE, OP_IMM, OP, MISC_MEM, SYSTEM, ECALL_WORD, EBREAK_WORD}
 use Rattle.rv_model.specs.declared.inst.Inst.{Inst}
 use Rattle.rv_model.specs.declared.inst.Inst.TheVariants.{Lui, Auipc, Jal, Jalr, Branch, Load, Store, OpImm, Op, Fence, Ecall, Ebreak}
 use Rattle.rv_model.specs.declared.inst.BranchOp.{BranchOp}
@@ -20,27 +21,31 @@ use Rattle.rv_model.specs.declared.inst.RegOp.TheVariants.{Add, Sll, Slt, Sltu, 
 -- ---- fields
 
 -- the `width` bits of a word from bit `low` up, as a number
-abbrev pub cut : (low width word : ℕ) → ℕ
-cut low width word = word / 2 ^ low % 2 ^ width
+abbrev pub bits_of : (low width word : ℕ) → ℕ
+bits_of low width word = word / 2 ^ low % 2 ^ width
 
 abbrev pub opcode_of : ℕ → ℕ
-opcode_of = cut 0 7
+opcode_of = bits_of 0 7
 
 abbrev pub rd_of : ℕ → ℕ
-rd_of = cut 7 5
+rd_of = bits_of 7 5
 
 abbrev pub funct3_of : ℕ → ℕ
-funct3_of = cut 12 3
+funct3_of = bits_of 12 3
 
 abbrev pub rs1_of : ℕ → ℕ
-rs1_of = cut 15 5
+rs1_of = bits_of 15 5
 
 -- in a shift by an immediate, the shift amount
 abbrev pub rs2_of : ℕ → ℕ
-rs2_of = cut 20 5
+rs2_of = bits_of 20 5
 
 abbrev pub funct7_of : ℕ → ℕ
-funct7_of = cut 25 7
+funct7_of = bits_of 25 7
+
+-- all that is above the opcode
+abbrev pub rest_of : ℕ → ℕ
+rest_of = bits_of 7 25
 
 -- ---- immediates
 
@@ -50,23 +55,23 @@ sign_extended width n = if nat_lt n (2 ^ (width - 1)) then pos n else pos n -ℤ
 
 -- I: bits 31..20 are bits 11..0
 abbrev pub i_immediate : ℕ → ℤ
-i_immediate word = sign_extended 12 (cut 20 12 word)
+i_immediate word = sign_extended 12 (bits_of 20 12 word)
 
 -- S: bits 31..25 are bits 11..5, and bits 11..7 are bits 4..0
 abbrev pub s_immediate : ℕ → ℤ
-s_immediate word = sign_extended 12 (cut 25 7 word * 2 ^ 5 + cut 7 5 word)
+s_immediate word = sign_extended 12 (bits_of 25 7 word * 2 ^ 5 + bits_of 7 5 word)
 
 -- B: bit 31 is bit 12, bit 7 is bit 11, bits 30..25 are bits 10..5, and bits 11..8 are bits 4..1
 abbrev pub b_immediate : ℕ → ℤ
-b_immediate word = sign_extended 13 (cut 31 1 word * 2 ^ 12 + cut 7 1 word * 2 ^ 11 + cut 25 6 word * 2 ^ 5 + cut 8 4 word * 2)
+b_immediate word = sign_extended 13 (bits_of 31 1 word * 2 ^ 12 + bits_of 7 1 word * 2 ^ 11 + bits_of 25 6 word * 2 ^ 5 + bits_of 8 4 word * 2)
 
 -- U: bits 31..12 stay where they are
 abbrev pub u_immediate : ℕ → ℕ
-u_immediate word = cut 12 20 word * 2 ^ 12
+u_immediate word = bits_of 12 20 word * 2 ^ 12
 
 -- J: bit 31 is bit 20, bits 19..12 stay, bit 20 is bit 11, and bits 30..21 are bits 10..1
 abbrev pub j_immediate : ℕ → ℤ
-j_immediate word = sign_extended 21 (cut 31 1 word * 2 ^ 20 + cut 12 8 word * 2 ^ 12 + cut 20 1 word * 2 ^ 11 + cut 21 10 word * 2)
+j_immediate word = sign_extended 21 (bits_of 31 1 word * 2 ^ 20 + bits_of 12 8 word * 2 ^ 12 + bits_of 20 1 word * 2 ^ 11 + bits_of 21 10 word * 2)
 
 -- ---- rows
 
@@ -85,65 +90,60 @@ funct3_is n = record { low = 12; width = 3; value = n }
 abbrev pub funct7_is : ℕ → Fixed
 funct7_is n = record { low = 25; width = 7; value = n }
 
--- all that is above the opcode
 abbrev pub rest_is : ℕ → Fixed
 rest_is n = record { low = 7; width = 25; value = n }
 
 -- a row: the fields that it fixes, and the instruction of a word that has them
-pub record Row : Type 0 where
+pub record DecodingRow : Type 0 where
   pub fixed : List Fixed
   pub meaning : ℕ → Inst
 
 -- the word has the row's fixed fields
-abbrev pub matches : ℕ → Row → Bool
-matches word row = list_all (λ field. cut field.low field.width word == field.value) row.fixed
+abbrev pub has_fixed_fields : ℕ → DecodingRow → Bool
+has_fixed_fields word row = list_all (λ field. bits_of field.low field.width word == field.value) row.fixed
 
 -- ---- the table
 
-abbrev pub branch_row : ℕ → BranchOp → Row
-branch_row funct3 op = record {
-  fixed = opcode_is 0b1100011 ∷ funct3_is funct3 ∷ [];
-  meaning = λ word. Branch op (rs1_of word) (rs2_of word) (b_immediate word);
+-- the row of an instruction that its opcode and its minor opcode fix
+abbrev pub minor_row : ℕ → ℕ → (ℕ → Inst) → DecodingRow
+minor_row opcode funct3 meaning = record {
+  fixed = opcode_is opcode ∷ funct3_is funct3 ∷ [];
+  meaning = meaning;
 }
 
-abbrev pub load_row : ℕ → LoadOp → Row
-load_row funct3 op = record {
-  fixed = opcode_is 0b0000011 ∷ funct3_is funct3 ∷ [];
-  meaning = λ word. Load op (rd_of word) (rs1_of word) (i_immediate word);
-}
+abbrev pub branch_row : ℕ → BranchOp → DecodingRow
+branch_row funct3 op =
+    minor_row BRANCH funct3 (λ word. Branch op (rs1_of word) (rs2_of word) (b_immediate word))
 
-abbrev pub store_row : ℕ → StoreOp → Row
-store_row funct3 op = record {
-  fixed = opcode_is 0b0100011 ∷ funct3_is funct3 ∷ [];
-  meaning = λ word. Store op (rs1_of word) (rs2_of word) (s_immediate word);
-}
+abbrev pub load_row : ℕ → LoadOp → DecodingRow
+load_row funct3 op = minor_row LOAD funct3 (λ word. Load op (rd_of word) (rs1_of word) (i_immediate word))
 
-abbrev pub op_imm_row : ℕ → ImmOp → Row
-op_imm_row funct3 op = record {
-  fixed = opcode_is 0b0010011 ∷ funct3_is funct3 ∷ [];
-  meaning = λ word. OpImm op (rd_of word) (rs1_of word) (i_immediate word);
-}
+abbrev pub store_row : ℕ → StoreOp → DecodingRow
+store_row funct3 op = minor_row STORE funct3 (λ word. Store op (rs1_of word) (rs2_of word) (s_immediate word))
+
+abbrev pub op_imm_row : ℕ → ImmOp → DecodingRow
+op_imm_row funct3 op = minor_row OP_IMM funct3 (λ word. OpImm op (rd_of word) (rs1_of word) (i_immediate word))
 
 -- a shift by an immediate has the shift amount in the field of rs2
-abbrev pub shift_row : ℕ → ℕ → ImmOp → Row
+abbrev pub shift_row : ℕ → ℕ → ImmOp → DecodingRow
 shift_row funct3 funct7 op = record {
-  fixed = opcode_is 0b0010011 ∷ funct3_is funct3 ∷ funct7_is funct7 ∷ [];
+  fixed = opcode_is OP_IMM ∷ funct3_is funct3 ∷ funct7_is funct7 ∷ [];
   meaning = λ word. OpImm op (rd_of word) (rs1_of word) (pos (rs2_of word));
 }
 
-abbrev pub op_row : ℕ → ℕ → RegOp → Row
+abbrev pub op_row : ℕ → ℕ → RegOp → DecodingRow
 op_row funct3 funct7 op = record {
-  fixed = opcode_is 0b0110011 ∷ funct3_is funct3 ∷ funct7_is funct7 ∷ [];
+  fixed = opcode_is OP ∷ funct3_is funct3 ∷ funct7_is funct7 ∷ [];
   meaning = λ word. Op op (rd_of word) (rs1_of word) (rs2_of word);
 }
 
 -- the row of each instruction of RV32I
-unfoldable pub table : List Row
+unfoldable pub table : List DecodingRow
 table =
-    record { fixed = opcode_is 0b0110111 ∷ []; meaning = λ word. Lui (rd_of word) (u_immediate word) }
-    ∷ record { fixed = opcode_is 0b0010111 ∷ []; meaning = λ word. Auipc (rd_of word) (u_immediate word) }
-    ∷ record { fixed = opcode_is 0b1101111 ∷ []; meaning = λ word. Jal (rd_of word) (j_immediate word) }
-    ∷ record { fixed = opcode_is 0b1100111 ∷ funct3_is 0b000 ∷ []; meaning = λ word. Jalr (rd_of word) (rs1_of word) (i_immediate word) }
+    record { fixed = opcode_is LUI ∷ []; meaning = λ word. Lui (rd_of word) (u_immediate word) }
+    ∷ record { fixed = opcode_is AUIPC ∷ []; meaning = λ word. Auipc (rd_of word) (u_immediate word) }
+    ∷ record { fixed = opcode_is JAL ∷ []; meaning = λ word. Jal (rd_of word) (j_immediate word) }
+    ∷ minor_row JALR 0b000 (λ word. Jalr (rd_of word) (rs1_of word) (i_immediate word))
     ∷ branch_row 0b000 Beq
     ∷ branch_row 0b001 Bne
     ∷ branch_row 0b100 Blt
@@ -177,11 +177,11 @@ table =
     ∷ op_row 0b111 0b0000000 And
     ∷ op_row 0b000 0b0100000 Sub
     ∷ op_row 0b101 0b0100000 Sra
-    ∷ record { fixed = opcode_is 0b0001111 ∷ funct3_is 0b000 ∷ []; meaning = λ word. Fence word }
-    ∷ record { fixed = opcode_is 0b1110011 ∷ rest_is 0 ∷ []; meaning = λ word. Ecall }
-    ∷ record { fixed = opcode_is 0b1110011 ∷ rest_is (2 ^ 13) ∷ []; meaning = λ word. Ebreak }
+    ∷ minor_row MISC_MEM 0b000 (λ word. Fence word)
+    ∷ record { fixed = opcode_is SYSTEM ∷ rest_is (rest_of ECALL_WORD) ∷ []; meaning = λ word. Ecall }
+    ∷ record { fixed = opcode_is SYSTEM ∷ rest_is (rest_of EBREAK_WORD) ∷ []; meaning = λ word. Ebreak }
     ∷ []
 
 -- the instruction that a word is: that of the row that it matches, of which there is at most one, and none where it matches no row
 unfoldable pub dec : ℕ → Option Inst
-dec word = option_map (λ row. row.meaning word) (find (matches word) table)
+dec word = option_map (λ row. row.meaning word) (find (has_fixed_fields word) table)

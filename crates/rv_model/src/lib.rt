@@ -6,10 +6,14 @@ mod inst;
 mod limits;
 mod little_endian;
 mod memory;
+pub mod opcodes;
 mod stop;
 
 pub use inst::{BranchOp, ImmOp, Inst, LoadOp, RegOp, StoreOp};
-pub use limits::{IMAGE_ROOM, PRIVATE_END, PRIVATE_SIZE, PRIVATE_START};
+pub use limits::{
+    BRANCH_REACH, GREATEST_IMMEDIATE, GREATEST_SHIFT, GREATEST_UPPER, IMAGE_ROOM, JUMP_REACH,
+    LEAST_IMMEDIATE, PRIVATE_END, PRIVATE_SIZE, PRIVATE_START, REGISTER_COUNT,
+};
 pub use little_endian::{number_in, put_number, word_in};
 pub use memory::NoMemory;
 pub use stop::Stop;

@@ -13,3 +13,24 @@ pub const IMAGE_ROOM: u32 = 122_880;
 const _: () = prove!(PRIVATE_START + PRIVATE_SIZE == PRIVATE_END);
 
 const _: () = prove!(IMAGE_ROOM + 8_192 == PRIVATE_SIZE);
+
+/// How many registers there are.
+pub const REGISTER_COUNT: usize = 32;
+
+/// A jump goes less than so many bytes forward, and at most so many backward.
+pub const JUMP_REACH: u32 = 1 << 20;
+
+/// The same of a branch.
+pub const BRANCH_REACH: u32 = 1 << 12;
+
+/// The least number that the I and S formats hold.
+pub const LEAST_IMMEDIATE: i32 = -(1 << 11);
+
+/// The greatest number that the I and S formats hold.
+pub const GREATEST_IMMEDIATE: i32 = (1 << 11) - 1;
+
+/// The greatest number of bits that a word is shifted by.
+pub const GREATEST_SHIFT: i32 = 31;
+
+/// The greatest number that the U format holds in bits 31..12.
+pub const GREATEST_UPPER: i32 = (1 << 20) - 1;

@@ -6,9 +6,26 @@ use std::fmt;
 #[derive(Clone, Copy, Debug, PartialEq, Eq, PartialOrd, Ord)]
 pub struct NoMemory;
 
+impl NoMemory {
+    ghost use Rattle.std.specs.Prelude.{◌≡◌};
+    ghost use Rattle.rv_model.specs.NoMemoryText.{no_memory};
+
+    /// Its text in messages.
+    pub fn text(&self) -> &'static str
+        ensures { result.now ≡ no_memory }
+    {
+        "no memory"
+    }
+}
+
 impl fmt::Display for NoMemory {
+    ghost use Rattle.std.specs.Prelude.{Some};
+    ghost use Rattle.rv_model.specs.NoMemoryText.{no_memory};
+
+    ghost output = { λ _. Some no_memory };
+
     fn fmt<W: fmt::Write>(&self, f: &mut fmt::Formatter<W>) -> fmt::Result {
-        write!(f, "no memory")
+        f.write_str(self.text())
     }
 }
 

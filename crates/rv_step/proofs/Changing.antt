@@ -9,10 +9,11 @@ use Rattle.rv_model.specs.declared.inst.Inst.{Inst}
 use Rattle.rv_model.specs.declared.inst.Inst.TheVariants.{Lui, Auipc, Jal, Jalr, Branch, Load, Store, OpImm, Op, Fence, Ecall, Ebreak}
 use Rattle.rv_model.specs.declared.inst.StoreOp.{StoreOp}
 use Rattle.rv_model.specs.declared.inst.StoreOp.TheVariants.{Sb, Sh, Sw}
+use Rattle.rv_model.specs.declared.limits.TheConstants.{PRIVATE_START, PRIVATE_SIZE, PRIVATE_END}
 use Rattle.rv_model.specs.declared.stop.Stop.{Stop}
 use Rattle.rv_model.specs.declared.stop.Stop.TheVariants.{Illegal, Target, Misaligned, Unmapped}
 use Rattle.rv_model.specs.LittleEndian.{with_number_at}
-use Rattle.rv_model.specs.Exec.{◌>>=◌, IsAccessSize, exec, effect_of, jump_outcome, is_taken, reg, next_pc, offset_by, store_size, went, stopped}
+use Rattle.rv_model.specs.Exec.{◌>>=◌, IsAccessSize, exec, effect_of, jump_outcome, is_taken, reg, next_pc, offset_by, store_size, next_state, stop_state}
 use Rattle.rv_model.specs.Private.{private_access, private_size, is_private}
 use Rattle.rv_model.specs.Words.{dec}
 use Rattle.rv_step.specs.Changed.{HasChangedAtMost, memory_left}
@@ -57,7 +58,7 @@ written_changes bytes offset size more n sized four le =
 -- ---- a store
 
 -- an aligned private address leaves room for the size
-room : (a size : ℕ) → IsAccessSize size → a % size ≡ 0 → 0x1_0000 ≤ a → a < 0x3_0000 → a - 0x1_0000 + size ≤ 131072
+room : (a size : ℕ) → IsAccessSize size → a % size ≡ 0 → PRIVATE_START ≤ a → a < PRIVATE_END → a - PRIVATE_START + size ≤ PRIVATE_SIZE
 room a size (inl e) h low high = omega arith
 room a size (inr (inl e)) h low high = let h2 : a % 2 ≡ 0 = rw (← e) h in omega arith
 room a size (inr (inr e)) h low high = let h4 : a % 4 ≡ 0 = rw (← e) h in omega arith
@@ -68,17 +69,17 @@ rest_of size (inr (inl e)) = (2, omega arith)
 rest_of size (inr (inr e)) = (0, omega arith)
 
 store_by : (bytes x : List ℕ) (a pc size n : ℕ) (aligned private : Bool) → IsAccessSize size → length bytes ≡ private_size → (a % size == 0) ≡ aligned → is_private a ≡ private
-    → HasChangedAtMost 4 bytes (memory_left bytes (cond aligned (cond private (Ok (with_number_at bytes (a - 0x1_0000) size n)) (Err (Unmapped a))) (Err (Misaligned a)) >>= λ left. went x pc left))
+    → HasChangedAtMost 4 bytes (memory_left bytes (cond aligned (cond private (Ok (with_number_at bytes (a - PRIVATE_START) size n)) (Err (Unmapped a))) (Err (Misaligned a)) >>= λ left. next_state x pc left))
 store_by bytes x a pc size n false private sized len e p = stays bytes
 store_by bytes x a pc size n true false sized len e p = stays bytes
 store_by bytes x a pc size n true true sized len e p =
     let more = rest_of size sized in
     let parts = and_parts _ _ p in
     let place = room a size sized (eqb-true _ _ e) (leb-true _ _ parts.0) (ltb-true _ _ parts.1) in
-    written_changes bytes (a - 0x1_0000) size more.0 n sized more.1 (omega (arith, place, len, private_size_lem))
+    written_changes bytes (a - PRIVATE_START) size more.0 n sized more.1 (omega (arith, place, len, private_size_lem))
 
 store_changes : (bytes x : List ℕ) (a pc size n : ℕ) → IsAccessSize size → length bytes ≡ private_size
-    → HasChangedAtMost 4 bytes (memory_left bytes (private_access.stored bytes a size n >>= λ left. went x pc left))
+    → HasChangedAtMost 4 bytes (memory_left bytes (private_access.store bytes a size n >>= λ left. next_state x pc left))
 store_changes bytes x a pc size n sized len = store_by bytes x a pc size n (a % size == 0) (is_private a) sized len refl refl
 
 sized : (op : StoreOp) → IsAccessSize (store_size op)
@@ -88,15 +89,15 @@ sized Sw = inr (inr refl)
 
 -- ---- the others
 
-jump_by : (bytes x : List ℕ) (pc target : ℕ) (aligned : Bool) → HasChangedAtMost 4 bytes (memory_left bytes (cond aligned (went x target bytes) (stopped (Target pc))))
+jump_by : (bytes x : List ℕ) (pc target : ℕ) (aligned : Bool) → HasChangedAtMost 4 bytes (memory_left bytes (cond aligned (next_state x target bytes) (stop_state (Target pc))))
 jump_by bytes x pc target true = stays bytes
 jump_by bytes x pc target false = stays bytes
 
-branch_by : (bytes x : List ℕ) (pc target next : ℕ) (taken : Bool) → HasChangedAtMost 4 bytes (memory_left bytes (cond taken (jump_outcome pc target x bytes) (went x next bytes)))
+branch_by : (bytes x : List ℕ) (pc target next : ℕ) (taken : Bool) → HasChangedAtMost 4 bytes (memory_left bytes (cond taken (jump_outcome pc target x bytes) (next_state x next bytes)))
 branch_by bytes x pc target next true = jump_by bytes x pc target (target % 4 == 0)
 branch_by bytes x pc target next false = stays bytes
 
-load_by : (bytes : List ℕ) (pc : ℕ) (regs : ℕ → List ℕ) (loaded : Result ℕ Stop) → HasChangedAtMost 4 bytes (memory_left bytes (loaded >>= λ n. went (regs n) pc bytes))
+load_by : (bytes : List ℕ) (pc : ℕ) (regs : ℕ → List ℕ) (loaded : Result ℕ Stop) → HasChangedAtMost 4 bytes (memory_left bytes (loaded >>= λ n. next_state (regs n) pc bytes))
 load_by bytes pc regs (Ok n) = stays bytes
 load_by bytes pc regs (Err cause) = stays bytes
 
@@ -127,4 +128,4 @@ fetched_by (Ok word) x bytes pc len = decoded_by (dec word) x bytes pc word len
 
 pub exec_changes : (x bytes : List ℕ) (pc : ℕ) → length bytes ≡ private_size → HasChangedAtMost 4 bytes (memory_left bytes (exec private_access x pc bytes))
 unfolding exec
-exec_changes x bytes pc len = fetched_by (private_access.fetched bytes pc) x bytes pc len
+exec_changes x bytes pc len = fetched_by (private_access.fetch bytes pc) x bytes pc len

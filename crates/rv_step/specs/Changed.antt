@@ -1,6 +1,6 @@
 -- What a step changes of a memory that is a list of bytes.
 use Rattle.std.specs.Prelude.{◌≡◌, ℕ, ◌+◌, List, length, take, drop}
-use Rattle.rv_model.specs.Exec.{Outcome, went, called, stopped}
+use Rattle.rv_model.specs.Exec.{Outcome, next_state, call_state, stop_state}
 
 -- as many bytes as before, and the same ones but for `count` of them at most, which stand in a row
 pub record HasChangedAtMost (count : ℕ) (old new : List ℕ) : Type 0 where
@@ -11,6 +11,6 @@ pub record HasChangedAtMost (count : ℕ) (old new : List ℕ) : Type 0 where
 
 -- the memory that an outcome leaves: where the process stops, that which was there
 abbrev pub memory_left : {M : Type 0} → M → Outcome M → M
-memory_left m (went x pc left) = left
-memory_left m (called x pc left) = left
-memory_left m (stopped cause) = m
+memory_left m (next_state x pc left) = left
+memory_left m (call_state x pc left) = left
+memory_left m (stop_state cause) = m

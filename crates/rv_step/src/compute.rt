@@ -61,7 +61,7 @@ fn shifted_right_signed(a: u32, amount: u32) -> u32
 }
 
 /// What a load writes to rd, of the number that stood in memory.
-pub(crate) fn extended(op: LoadOp, n: u32) -> u32
+pub(crate) fn loaded_number(op: LoadOp, n: u32) -> u32
     requires { n < 256 ^ load_size op }
     ensures { result ≡ loaded_number op n }
 {

@@ -4,7 +4,7 @@ ghost use Rattle.rv_inst.specs.Valid.{IsValid, IsRegister};
 ghost use Rattle.rv_model.specs.Exec.{effect_of, with_reg, next_pc};
 ghost use Rattle.rv_step.specs.Stepped.{outcome_of, OnStopped};
 
-use crate::compute::{extended, imm_result, is_taken, reg_result};
+use crate::compute::{imm_result, is_taken, loaded_number, reg_result};
 use crate::{Event, Memory, Regs};
 use rv_model::{Inst, LoadOp, Stop, StoreOp};
 
@@ -118,7 +118,7 @@ fn load<M: Memory>(
         LoadOp::Lw => memory.load(addr, 4),
     };
     match loaded {
-        Ok(n) => write(rd, extended(op, n), regs, pc),
+        Ok(n) => write(rd, loaded_number(op, n), regs, pc),
         Err(cause) => Event::Stopped(cause),
     }
 }

@@ -22,21 +22,21 @@ pub trait Memory {
 
     /// The instruction word at `pc`.
     fn fetch(&self, pc: u32) -> Result<u32, Stop>
-        ensures { result ≡ access.fetched (holds self.now) pc };
+        ensures { result ≡ access.fetch (holds self.now) pc };
 
     /// The number in the `size` bytes from `addr` on, which are 1, 2 or 4, little-endian.
     fn load(&self, addr: u32, size: u32) -> Result<u32, Stop>
         requires { IsAccessSize size }
-        ensures value { result ≡ access.loaded (holds self.now) addr size }
+        ensures value { result ≡ access.load (holds self.now) addr size }
         ensures fits { IfOk result (λ n. n < 256 ^ size) };
 
     /// Stores the lowest `size` bytes of `value`, which are 1, 2 or 4, from `addr` on, little-endian.
     fn store(&mut self, addr: u32, size: u32, value: u32) -> Result<(), Stop>
         requires { IsAccessSize size }
         ensures stored { OnOk result
-            (access.stored (holds self.old) addr size value ≡ Ok (holds self.new)) }
+            (access.store (holds self.old) addr size value ≡ Ok (holds self.new)) }
         ensures refused { IfErr result
-            (λ cause. access.stored (holds self.old) addr size value ≡ Err cause) }
+            (λ cause. access.store (holds self.old) addr size value ≡ Err cause) }
         ensures unchanged { OnErr result (holds self.new ≡ holds self.old) }
         ensures rest { rest self.new ≡ rest self.old };
 }

@@ -140,7 +140,7 @@ fn offset_of(addr: u32, size: u32) -> Option<usize>
     ensures within { IfSome result (λ offset. offset + size ≤ PRIVATE_SIZE) }
 {
     let offset = addr.wrapping_sub(PRIVATE_START);
-    if misplaced(offset, size) == 0 {
+    if fault_bits(offset, size) == 0 {
         Some(offset as usize)
     } else {
         None
@@ -151,7 +151,7 @@ fn offset_of(addr: u32, size: u32) -> Option<usize>
 /// the size.
 #[tactic(auto, using(crate::proofs::Places::masked))]
 #[inline]
-fn misplaced(offset: u32, size: u32) -> u32
+fn fault_bits(offset: u32, size: u32) -> u32
     requires { IsAccessSize size }
     ensures { result ≡ offset / PRIVATE_SIZE * PRIVATE_SIZE + offset % size }
 {

@@ -5,7 +5,7 @@ use Rattle.std.proofs.lemmas.Bool.{cases_Bool}
 use Rattle.std.proofs.lemmas.List.Elements.{All-cons, All-head, All-tail, All-contains, Contains-append_right}
 use Rattle.std.proofs.lemmas.List.Kept.{AllPairs-cons}
 use Rattle.ce_model.specs.declared.topology.BlockId.{BlockId}
-use Rattle.ce_model.specs.Blocks.{Block, precedes, put}
+use Rattle.ce_model.specs.Blocks.{Block, is_lower, put}
 use Rattle.xm_block.specs.Stores.{AreApart, ids_of, with_block}
 use Rattle.xm_block.proofs.Names.{ids_of-with_block}
 
@@ -21,7 +21,7 @@ tail id ids pairs i j d low high = pairs (suc i) (suc j) d (omega arith) (omega 
 
 pub all-put : (P : BlockId → Type 0) (id : BlockId) (ids : List BlockId) → P id → All P ids → All P (put id ids)
 all-put P id [] own all = All-cons P id [] own all
-all-put P id (other ∷ ids) own all = elim (cases_Bool (precedes id other)) [
+all-put P id (other ∷ ids) own all = elim (cases_Bool (is_lower id other)) [
   | inl t ↦ rw t (All-cons P id (other ∷ ids) own all)
   | inr f ↦ rw f (All-cons P other (put id ids) (All-head P other ids all) (all-put P id ids own (All-tail P other ids all)))
 ]
@@ -32,7 +32,7 @@ all-append-put P id (m ∷ ms) ids own all = All-cons P m (ms ++ put id ids) (Al
 
 pairs-put : (id : BlockId) (ids : List BlockId) → AllPairs IsOther (id ∷ ids) → AllPairs IsOther (put id ids)
 pairs-put id [] pairs = pairs
-pairs-put id (other ∷ ids) pairs = elim (cases_Bool (precedes id other)) [
+pairs-put id (other ∷ ids) pairs = elim (cases_Bool (is_lower id other)) [
   | inl t ↦ rw t pairs
   | inr f ↦ (let apart = head id (other ∷ ids) pairs in
       let rest = tail id (other ∷ ids) pairs in

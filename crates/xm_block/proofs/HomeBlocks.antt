@@ -5,7 +5,7 @@ use Rattle.std.proofs.lemmas.Bool.Decides.{nat_tests}
 use Rattle.std.proofs.lemmas.List.FromFn.{get_or-map-range_with_len, length-map-range_with_len, map-range_with_len_more}
 use Rattle.ce_model.specs.declared.topology.BlockId.{BlockId}
 use Rattle.ce_model.specs.Limits.{home_blocks}
-use Rattle.ce_model.specs.Blocks.{precedes, put, blocks_of_home}
+use Rattle.ce_model.specs.Blocks.{is_lower, put, blocks_of_home}
 
 -- a block of a home
 abbrev pub name : ℕ → ℕ → BlockId
@@ -15,7 +15,7 @@ name home index = record { home = home; index = index }
 abbrev pub first_names : ℕ → ℕ → List BlockId
 first_names home count = map (name home) (range_with_len 0 count)
 
-later : (home i j : ℕ) → i < j → precedes (name home j) (name home i) ≡ false
+later : (home i j : ℕ) → i < j → is_lower (name home j) (name home i) ≡ false
 later home i j h = grind (arith, nat_tests)
 
 put-later : (home a n j : ℕ) → a + n ≤ j → put (name home j) (map (name home) (range_with_len a n)) ≡ map (name home) (range_with_len a n) ++ name home j ∷ []

@@ -7,16 +7,16 @@ use Rattle.std.proofs.lemmas.Bool.{cases_Bool, cases_lt}
 use Rattle.std.proofs.lemmas.Bool.Decides.{nat_tests}
 use Rattle.std.proofs.lemmas.List.{get_or-map, length-map}
 use Rattle.ce_model.specs.declared.topology.BlockId.{BlockId}
-use Rattle.ce_model.specs.Blocks.{Block, precedes, put}
+use Rattle.ce_model.specs.Blocks.{Block, is_lower, put}
 use Rattle.xm_block.specs.Rising.{IsRising}
 use Rattle.xm_block.specs.Stores.{is_before, ids_of, with_block}
 use Rattle.xm_block.proofs.Rises.{AllPairs-insert}
 
-pub precedes-trans : (a b c : BlockId) → precedes a b ≡ true → precedes b c ≡ true → precedes a c ≡ true
+pub precedes-trans : (a b c : BlockId) → is_lower a b ≡ true → is_lower b c ≡ true → is_lower a c ≡ true
 precedes-trans a b c h k = grind (arith, nat_tests)
 
 -- of two names one is before the other, or they are the same
-pub precedes-other : (a b : BlockId) → precedes a b ≡ false → (b ≡ a → ⊥) → precedes b a ≡ true
+pub precedes-other : (a b : BlockId) → is_lower a b ≡ false → (b ≡ a → ⊥) → is_lower b a ≡ true
 precedes-other a b h ne = grind (arith, nat_tests)
 
 pub not-true : (b : Bool) → not b ≡ true → b ≡ false
@@ -28,19 +28,19 @@ not-false true h = refl
 not-false false h = absurd (cc)
 
 -- among blocks in order, those that a name isn't before come first
-pub partitioned : (id : BlockId) (blocks : List Block) → IsRising is_before blocks → IsPartitionedBy (λ other. not (precedes id other.id)) blocks
+pub partitioned : (id : BlockId) (blocks : List Block) → IsRising is_before blocks → IsPartitionedBy (λ other. not (is_lower id other.id)) blocks
 partitioned id blocks rising i j d low high h = by (cases_lt i j)
   where
-    by : (i < j) ⊎ (j ≤ i) → not (precedes id (get_or blocks i d).id) ≡ true
+    by : (i < j) ⊎ (j ≤ i) → not (is_lower id (get_or blocks i d).id) ≡ true
     by (inr q) = let e : i ≡ j = omega arith in rw e h
-    by (inl q) = elim (cases_Bool (precedes id (get_or blocks i d).id)) [
+    by (inl q) = elim (cases_Bool (is_lower id (get_or blocks i d).id)) [
       | inl t ↦ let over = precedes-trans id _ _ t (rising i j d q high) in absurd (cc)
       | inr f ↦ rw f refl
     ]
 
 -- the block that goes in has a name of its own, so it keeps the order
 pub rising-insert : (block : Block) (blocks : List Block) (i : ℕ) → i ≤ length blocks → IsRising is_before blocks → (Contains (ids_of blocks) block.id → ⊥)
-    → AllWithin (λ other. precedes block.id other.id ≡ false) blocks 0 i → AllWithin (λ other. precedes block.id other.id ≡ true) blocks i (length blocks)
+    → AllWithin (λ other. is_lower block.id other.id ≡ false) blocks 0 i → AllWithin (λ other. is_lower block.id other.id ≡ true) blocks i (length blocks)
     → IsRising is_before (insert blocks i block)
 rising-insert block blocks i h rising apart passed ahead =
     AllPairs-insert (λ a b. is_before a b ≡ true) blocks i block h rising
@@ -51,7 +51,7 @@ rising-insert block blocks i h rising apart passed ahead =
 -- the names of a store after one block more
 pub ids_of-with_block : (block : Block) (blocks : List Block) → ids_of (with_block block blocks) ≡ put block.id (ids_of blocks)
 ids_of-with_block block [] = refl
-ids_of-with_block block (other ∷ blocks) = elim (cases_Bool (precedes block.id other.id)) [
+ids_of-with_block block (other ∷ blocks) = elim (cases_Bool (is_lower block.id other.id)) [
   | inl t ↦ rw t refl
   | inr f ↦ rw f (ap (λ ids. other.id ∷ ids) (ids_of-with_block block blocks))
 ]

@@ -1,7 +1,7 @@
 -- A store of message blocks.
 use Rattle.std.specs.Prelude.{ℕ, Bool, List, [], ◌∷◌, ◌++◌, ◌≢◌, AllPairs, map}
 use Rattle.ce_model.specs.declared.topology.BlockId.{BlockId}
-use Rattle.ce_model.specs.Blocks.{Block, precedes}
+use Rattle.ce_model.specs.Blocks.{Block, is_lower}
 use Rattle.xm_block.specs.Rising.{put_in}
 
 -- a store: its blocks by rising name, and how many more it has room for
@@ -11,7 +11,7 @@ pub record KeptBlock : Type 0 where
 
 -- blocks are ordered by their names
 abbrev pub is_before : Block → Block → Bool
-is_before a b = precedes a.id b.id
+is_before a b = is_lower a.id b.id
 
 -- the names of blocks
 abbrev pub ids_of : List Block → List BlockId

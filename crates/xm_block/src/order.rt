@@ -1,6 +1,6 @@
 ghost use Rattle.std.specs.Prelude.{◌≡◌, ◌≤◌, true, false, length};
 ghost use Rattle.std.specs.List.{AllWithin};
-ghost use Rattle.ce_model.specs.Blocks.{precedes};
+ghost use Rattle.ce_model.specs.Blocks.{is_lower};
 ghost use Rattle.xm_block.specs.Rising.{IsRising};
 ghost use Rattle.xm_block.specs.Stores.{is_before};
 
@@ -9,8 +9,8 @@ use ce_model::BlockId;
 use std::collections::VecDeque;
 
 /// Whether the name `a` comes before the name `b`: by home, and in one home by index.
-fn precedes(a: BlockId, b: BlockId) -> bool
-    ensures { result ≡ precedes a b }
+fn is_lower(a: BlockId, b: BlockId) -> bool
+    ensures { result ≡ is_lower a b }
 {
     a.home < b.home || (a.home == b.home && a.index < b.index)
 }
@@ -24,5 +24,5 @@ pub(crate) fn place_of(blocks: &VecDeque<Block>, block: &Block) -> usize
     ensures ahead { AllWithin (λ other. is_before block.now other ≡ true)
         blocks.now.items result (length blocks.now.items) }
 {
-    blocks.partition_point(|other| !precedes(block.id(), other.id()))
+    blocks.partition_point(|other| !is_lower(block.id(), other.id()))
 }

@@ -50,7 +50,7 @@ held_at-with_other added (mapping ∷ mappings) p w differs = elim (cases_Bool (
 pub changes-with_mapping : (added : Mapping) (mappings : List Mapping) → held_at mappings added.pid added.window ≡ None
     → HasChangedOnly mappings (with_mapping added mappings) added.pid added.window (Some added.block)
 changes-with_mapping added mappings vacant = record {
-  changed = held_at-with_mapping added mappings vacant;
+  there_is = held_at-with_mapping added mappings vacant;
   others = held_at-with_other added mappings;
 }
 
@@ -75,7 +75,7 @@ held_at-without_other pid window (mapping ∷ mappings) p w differs = elim (case
 
 pub changes-without : (pid window : ℕ) (mappings : List Mapping) → HasChangedOnly mappings (without pid window mappings) pid window None
 changes-without pid window mappings = record {
-  changed = held_at-without pid window mappings;
+  there_is = held_at-without pid window mappings;
   others = held_at-without_other pid window mappings;
 }
 
@@ -86,7 +86,7 @@ without-vacant pid window (mapping ∷ mappings) vacant =
     (ap (λ rest. mapping ∷ rest) (without-vacant pid window mappings (vacant-tail pid window mapping mappings vacant)))
 
 pub changes-none : (pid window : ℕ) (mappings : List Mapping) → held_at mappings pid window ≡ None → HasChangedOnly mappings mappings pid window None
-changes-none pid window mappings vacant = record { changed = vacant; others = λ p w differs. refl }
+changes-none pid window mappings vacant = record { there_is = vacant; others = λ p w differs. refl }
 
 -- another block in place of one
 held_at-with_block : (pid window : ℕ) (block was : Block) (mappings : List Mapping) → held_at mappings pid window ≡ Some was
@@ -112,7 +112,7 @@ held_at-with_block_other pid window block (mapping ∷ mappings) p w differs = e
 pub changes-with_block : (pid window : ℕ) (block was : Block) (mappings : List Mapping) → held_at mappings pid window ≡ Some was
     → HasChangedOnly mappings (with_block_at pid window block mappings) pid window (Some block)
 changes-with_block pid window block was mappings held = record {
-  changed = held_at-with_block pid window block was mappings held;
+  there_is = held_at-with_block pid window block was mappings held;
   others = held_at-with_block_other pid window block mappings;
 }
 

@@ -10,7 +10,7 @@ pub record Mapping : Type 0 where
   pub block : Block
 
 -- the map: its mappings by rising process, then by window, and how many more it has room for
-pub record Holding : Type 0 where
+pub record MappingTable : Type 0 where
   pub mappings : List Mapping
   pub spare : ℕ
 
@@ -53,5 +53,5 @@ with_block_at pid window block (mapping ∷ mappings) =
 
 -- one window alone changes what it holds, and this is there afterwards
 pub record HasChangedOnly (old new : List Mapping) (pid window : ℕ) (there : Option Block) : Type 0 where
-  pub changed : held_at new pid window ≡ there
+  pub there_is : held_at new pid window ≡ there
   pub others : (p w : ℕ) → (p ≡ pid → w ≡ window → ⊥) → held_at new p w ≡ held_at old p w

@@ -24,9 +24,9 @@ pub struct HeldBlocks {
 
 impl Model for HeldBlocks {
     ghost use Rattle.std.specs.Prelude.{◌-◌, length};
-    ghost use Rattle.xm_owner.specs.Holdings.{Holding};
+    ghost use Rattle.xm_owner.specs.Holdings.{MappingTable};
 
-    ghost Value = { Holding };
+    ghost Value = { MappingTable };
 
     ghost use Rattle.xm_owner.specs.Tables.{mappings_of};
     ghost use Rattle.xm_owner.specs.Kept.{IsKept};

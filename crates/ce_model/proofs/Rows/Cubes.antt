@@ -9,12 +9,12 @@ use Rattle.ce_model.specs.declared.entry.What.{What}
 use Rattle.ce_model.specs.declared.entry.What.TheVariants.{Arm, Spawn, Take}
 use Rattle.ce_model.specs.declared.entry.TakeResult.TheVariants.{Start}
 use Rattle.ce_model.specs.Limits.{process_count, home_blocks, host_home}
-use Rattle.ce_model.specs.Literals.{of_actor, place, block}
+use Rattle.ce_model.specs.Literals.{entry_of, place, block}
 use Rattle.ce_model.specs.Parcels.{Parcel}
-use Rattle.ce_model.specs.Node.{Node, fresh, host_place}
+use Rattle.ce_model.specs.Node.{Node, opening_node, host_place}
 use Rattle.ce_model.specs.Saying.{says}
-use Rattle.ce_model.specs.Hearing.{Hearing, start_of, hears}
-use Rattle.ce_model.specs.Trace.{sent_to, taken_by, waiting_items, spawned_ids, killed_ids, mark, allowed_dispatches, made_dispatches, parcels}
+use Rattle.ce_model.specs.Hearing.{Hearing, start_of, node_after_hearing}
+use Rattle.ce_model.specs.Trace.{sent_items, taken_results, waiting_items, spawned_ids, killed_ids, mark, allowed_dispatches, made_dispatches, parcels}
 use Rattle.ce_model.specs.Answers.{is_quiet, answer}
 use Rattle.ce_model.specs.Cube.{Cube, state, hoststore, next_entry}
 
@@ -23,7 +23,7 @@ abbrev pub one_cube : ImageParts → Cube
 one_cube image = record { user = 0; dim = 0; images = image ∷ [] }
 
 abbrev pub by : ℕ → What → Entry
-by actor what = of_actor 0 actor what
+by actor what = entry_of 0 actor what
 
 abbrev pub place_0 : Place
 place_0 = place 0 0
@@ -42,10 +42,10 @@ host_parcel number index bytes =
 
 -- the node of the fresh cube, a node once it has said its call and heard this answer, and the node once it was given the start
 abbrev pub fresh_node : Node
-fresh_node = fresh 0 0 1
+fresh_node = opening_node 0 0 1
 
 abbrev pub after_hearing : ImageParts → Node → Hearing → Node
-after_hearing image node heard = hears (image ∷ []) (says node).node heard
+after_hearing image node heard = node_after_hearing (image ∷ []) (says node).node heard
 
 abbrev pub begun : ImageParts → Node
 begun image = after_hearing image fresh_node (start_of 0 0)
@@ -56,5 +56,5 @@ started count = by HOST (Spawn 0 0 place_0 true) ∷ by HOST (Arm count) ∷ by 
 
 -- to unfold this is to unfold all that a row's next entry is computed with
 unfoldable pub row_computes : Unit {0}
-unfolding next_entry state hoststore sent_to taken_by waiting_items spawned_ids killed_ids mark allowed_dispatches made_dispatches parcels is_quiet answer process_count home_blocks host_home
+unfolding next_entry state hoststore sent_items taken_results waiting_items spawned_ids killed_ids mark allowed_dispatches made_dispatches parcels is_quiet answer process_count home_blocks host_home
 row_computes = tt

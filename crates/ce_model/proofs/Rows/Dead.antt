@@ -7,8 +7,8 @@ use Rattle.ce_model.specs.declared.entry.Entry.{Entry}
 use Rattle.ce_model.specs.declared.entry.What.TheVariants.{Arm, Look, Send, Take}
 use Rattle.ce_model.specs.declared.entry.LookResult.TheVariants.{Quiet}
 use Rattle.ce_model.specs.declared.entry.TakeResult.TheVariants.{Mail, Idle}
-use Rattle.ce_model.specs.Literals.{aa}
-use Rattle.ce_model.specs.Node.{Node, takes}
+use Rattle.ce_model.specs.Literals.{first_bytes}
+use Rattle.ce_model.specs.Node.{Node, take_call}
 use Rattle.ce_model.specs.Saying.{says}
 use Rattle.ce_model.specs.Hearing.{mail_of, nothing}
 use Rattle.ce_model.specs.Cube.{opening, IsAlone}
@@ -22,13 +22,13 @@ rested image = after_hearing image (hello.noted image) nothing
 
 -- and once it was given the mail
 abbrev pub mailed : ImageParts → Node
-mailed image = after_hearing image (rested image) (mail_of (host_parcel 0 0 aa))
+mailed image = after_hearing image (rested image) (mail_of (host_parcel 0 0 first_bytes))
 
 -- the row's trace, which goes on where `hello` ends
 abbrev pub row : List Entry
 row =
     hello.row
-    ++ by HOST (Send 0 0 ((place_0, host_block 0) ∷ []) aa)
+    ++ by HOST (Send 0 0 ((place_0, host_block 0) ∷ []) first_bytes)
     ∷ by HOST (Arm 10)
     ∷ by 0 (Take 0 1 None (Mail 0 0))
     ∷ by 0 (Take 0 1 None Idle)
@@ -38,8 +38,8 @@ row =
 -- what the row's node says, as in `hello` and after each further answer
 pub record HasSaidRow (image : ImageParts) : Type 0 where
   pub begins : hello.HasSaidRow image
-  pub rests : (says (rested image)).call ≡ takes 0 1 None
-  pub rests_on : (says (mailed image)).call ≡ takes 0 1 None
+  pub rests : (says (rested image)).call ≡ take_call 0 1 None
+  pub rests_on : (says (mailed image)).call ≡ take_call 0 1 None
 
 pub row_alone : (image : ImageParts) → HasSaidRow image → IsAlone (one_cube image) row
 unfolding row_computes

@@ -6,9 +6,9 @@ use Rattle.ce_model.specs.declared.entry.Entry.{Entry}
 use Rattle.ce_model.specs.declared.entry.What.TheVariants.{Arm, Look, HostTake, Send, Take}
 use Rattle.ce_model.specs.declared.entry.LookResult.TheVariants.{Quiet}
 use Rattle.ce_model.specs.declared.entry.TakeResult.TheVariants.{Idle}
-use Rattle.ce_model.specs.Node.{Node, takes, sends, host_place}
+use Rattle.ce_model.specs.Node.{Node, take_call, send_call, host_place}
 use Rattle.ce_model.specs.Saying.{says}
-use Rattle.ce_model.specs.Hearing.{told}
+use Rattle.ce_model.specs.Hearing.{answer_of}
 use Rattle.ce_model.specs.Cube.{opening, IsAlone}
 use Rattle.ce_model.proofs.AloneByEntries.{alone_by_entries}
 use Rattle.ce_model.proofs.Rows.Cubes.{one_cube, by, block_0, fresh_node, after_hearing, begun, started, row_computes}
@@ -18,7 +18,7 @@ message = 7 ∷ 0 ∷ 0 ∷ 0 ∷ 0 ∷ 0 ∷ 0 ∷ 0 ∷ []
 
 -- the node once its message is posted
 abbrev pub posted : ImageParts → Node
-posted image = after_hearing image (begun image) (told 0)
+posted image = after_hearing image (begun image) (answer_of 0)
 
 -- the row's trace
 abbrev pub row : List Entry
@@ -33,9 +33,9 @@ row =
 
 -- what the row's node says, at first and after each answer
 pub record HasSaidRow (image : ImageParts) : Type 0 where
-  pub asks : (says fresh_node).call ≡ takes 0 0 None
-  pub sends : (says (begun image)).call ≡ sends 0 ((host_place, block_0 0) ∷ []) message
-  pub ends : (says (posted image)).call ≡ takes 0 1 None
+  pub asks : (says fresh_node).call ≡ take_call 0 0 None
+  pub sends : (says (begun image)).call ≡ send_call 0 ((host_place, block_0 0) ∷ []) message
+  pub ends : (says (posted image)).call ≡ take_call 0 1 None
 
 pub row_alone : (image : ImageParts) → HasSaidRow image → IsAlone (one_cube image) row
 unfolding row_computes

@@ -7,7 +7,7 @@ use Rattle.ce_model.specs.declared.entry.Entry.{Entry}
 use Rattle.ce_model.specs.declared.entry.What.TheVariants.{Look, Note, Take}
 use Rattle.ce_model.specs.declared.entry.LookResult.TheVariants.{Quiet}
 use Rattle.ce_model.specs.declared.entry.TakeResult.TheVariants.{Idle}
-use Rattle.ce_model.specs.Node.{Node, takes, notes}
+use Rattle.ce_model.specs.Node.{Node, take_call, note_call}
 use Rattle.ce_model.specs.Saying.{says}
 use Rattle.ce_model.specs.Hearing.{nothing}
 use Rattle.ce_model.specs.Cube.{opening, IsAlone}
@@ -29,9 +29,9 @@ row =
 
 -- what the row's node says, at first and after each answer
 pub record HasSaidRow (image : ImageParts) : Type 0 where
-  pub asks : (says fresh_node).call ≡ takes 0 0 None
-  pub notes : (says (begun image)).call ≡ notes 0 42
-  pub ends : (says (noted image)).call ≡ takes 0 1 None
+  pub asks : (says fresh_node).call ≡ take_call 0 0 None
+  pub notes : (says (begun image)).call ≡ note_call 0 42
+  pub ends : (says (noted image)).call ≡ take_call 0 1 None
 
 pub row_alone : (image : ImageParts) → HasSaidRow image → IsAlone (one_cube image) row
 unfolding row_computes

@@ -8,7 +8,7 @@ use Rattle.ce_model.specs.declared.entry.What.TheVariants.{HostTake, Send}
 use Rattle.ce_model.specs.Limits.{host_home}
 use Rattle.ce_model.specs.Blocks.{Block}
 use Rattle.ce_model.specs.Node.{Node, host_place}
-use Rattle.ce_model.specs.Trace.{blank_record, sent_to, taken_by, waiting_items, standing}
+use Rattle.ce_model.specs.Trace.{blank_record, sent_items, taken_results, waiting_items, standing}
 use Rattle.ce_model.specs.Cube.{CubeState, hoststore}
 use Rattle.ce_model.specs.Owners.{in_store, in_window, in_parcel, in_hoststore, holdings, holders}
 use Rattle.ce_model.proofs.Rows.Cubes.{by, block_0, host_block}
@@ -22,7 +22,7 @@ node_of windows store = record {
   images = 0;
   processes = record { status = Running; regs = []; pc = 0; space = record { private = []; windows = windows } } ∷ [];
   store = store;
-  polling = [];
+  polling_ids = [];
   turn = None;
 }
 
@@ -30,7 +30,7 @@ node_of windows store = record {
 abbrev pub before : CubeState
 before = record {
   node = λ r. node_of (Some (record { id = block_0 0; bytes = 7 ∷ [] }) ∷ []) (block_0 1 ∷ []);
-  standing = record { node_record = λ r. blank_record; armed = 0; dispatched = 0; parcel_count = 0 };
+  standing = record { node_record = λ r. blank_record; allowed_dispatches = 0; made_dispatches = 0; parcel_count = 0 };
   hoststore = host_block 0 ∷ [];
 }
 
@@ -53,14 +53,14 @@ unfolding holders holdings host_home
 in_its_window = refl
 
 pub in_its_parcel : holders 0 (after (sends_it ∷ [])) (block_0 0) ≡ in_parcel HOST 0 ∷ []
-unfolding holders holdings host_home sent_to taken_by waiting_items hoststore
+unfolding holders holdings host_home sent_items taken_results waiting_items hoststore
 in_its_parcel = refl
 
 pub in_the_hosts_store : holders 0 (after (sends_it ∷ takes_it ∷ [])) (block_0 0) ≡ in_hoststore ∷ []
-unfolding holders holdings host_home sent_to taken_by waiting_items hoststore
+unfolding holders holdings host_home sent_items taken_results waiting_items hoststore
 in_the_hosts_store = refl
 
 -- the others stay where they are
 pub others_stay : holders 0 (after (sends_it ∷ takes_it ∷ [])) (block_0 1) ≡ in_store 0 ∷ []
-unfolding holders holdings host_home sent_to taken_by waiting_items hoststore
+unfolding holders holdings host_home sent_items taken_results waiting_items hoststore
 others_stay = refl

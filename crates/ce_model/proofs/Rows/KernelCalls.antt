@@ -7,10 +7,10 @@ use Rattle.ce_model.specs.declared.topology.Place.{Place}
 use Rattle.ce_model.specs.declared.topology.BlockId.{BlockId}
 use Rattle.ce_model.specs.Limits.{block_room, window_base, window_size, window_count, greatest_targets, turn_calls, process_count}
 use Rattle.ce_model.specs.Blocks.{Block}
-use Rattle.ce_model.specs.Space.{Space, spot, block_named, loaded_at}
+use Rattle.ce_model.specs.Space.{Space, access_site, block_named, loaded_at}
 use Rattle.ce_model.specs.Process.{Process, argument}
-use Rattle.ce_model.specs.Node.{Turn, Node, process_at, sends, Call}
-use Rattle.ce_model.specs.Kernel.{CallOutcome, goes_on, leaves, turn_ends, kernel, kernel_calls}
+use Rattle.ce_model.specs.Node.{Turn, Node, process_at, send_call, Call}
+use Rattle.ce_model.specs.Kernel.{CallOutcome, continuation, departure, turn_conclusion, kernel, kernel_calls}
 
 -- a process of this memory that makes a call: its number, and three arguments
 abbrev pub calling : Space → ℕ → ℕ → ℕ → ℕ → Process
@@ -23,10 +23,10 @@ calling space number a0 a1 a2 = record {
 
 -- a node of a cube of one node whose process 0 has this memory, and whose store has these blocks
 abbrev pub node_with : List BlockId → Node
-node_with store = record { number = 0; dim = 0; home = 0; images = 1; processes = replicate 1 (calling (record { private = []; windows = [] }) 0 0 0 0); store = store; polling = []; turn = None }
+node_with store = record { number = 0; dim = 0; home = 0; images = 1; processes = replicate 1 (calling (record { private = []; windows = [] }) 0 0 0 0); store = store; polling_ids = []; turn = None }
 
 abbrev pub turn_0 : Turn
-turn_0 = record { pid = 0; left = 0; calls = 0 }
+turn_0 = record { pid = 0; instructions_left = 0; calls = 0 }
 
 -- a memory whose windows hold these
 abbrev pub space_with : List (Option Block) → Space
@@ -45,14 +45,14 @@ pub record Returned : Type 0 where
   pub store : List BlockId
 
 abbrev pub returned : CallOutcome → Option Returned
-returned (goes_on node turn) =
+returned (continuation node turn) =
     Some (record { value = argument (process_at node 0) 0; windows = (process_at node 0).space.windows; store = node.store })
-returned (leaves node call) = None
-returned (turn_ends node) = None
+returned (departure node call) = None
+returned (turn_conclusion node) = None
 
 -- the call that leaves the node, and what is left of the store and of the windows then
 abbrev pub left : CallOutcome → Option (Call × List (Option Block) × List BlockId)
-left (leaves node call) = Some (call, (process_at node 0).space.windows, node.store)
+left (departure node call) = Some (call, (process_at node 0).space.windows, node.store)
 left other = None
 
 -- ---- sizes
@@ -70,7 +70,7 @@ unfolding kernel kernel_calls block_room window_base window_size window_count
 empty_block = refl
 
 pub no_byte : loaded_at (space_with (Some (block_of 0 (7 ∷ [])) ∷ Some (block_of 1 []) ∷ [])) 0x8001_0000 1 ≡ Err (PastEnd 0x8001_0000)
-unfolding spot window_base window_size
+unfolding access_site window_base window_size
 no_byte = refl
 
 -- ---- the store
@@ -109,32 +109,32 @@ place_1 = record { node = 0; pid = 1 }
 -- two places: the first gets the block, the second a copy in the store's least one
 pub two_places :
     left (kernel (node_with (id 0 ∷ id 1 ∷ [])) turn_0 (sending 2))
-    ≡ Some (sends 0 ((place_1, id 4) ∷ (place_1, id 0) ∷ []) (7 ∷ []), None ∷ Some (block_of 6 list_bytes) ∷ [], id 1 ∷ [])
-unfolding kernel kernel_calls block_named spot number_at window_base window_size greatest_targets turn_calls process_count
+    ≡ Some (send_call 0 ((place_1, id 4) ∷ (place_1, id 0) ∷ []) (7 ∷ []), None ∷ Some (block_of 6 list_bytes) ∷ [], id 1 ∷ [])
+unfolding kernel kernel_calls block_named access_site number_at window_base window_size greatest_targets turn_calls process_count
 two_places = refl
 
 -- a place of another node is none, and nothing is sent
 pub no_place :
     returned (kernel (node_with (id 0 ∷ id 1 ∷ [])) turn_0 (sending 3))
     ≡ Some (record { value = 1; windows = (sending 3).space.windows; store = id 0 ∷ id 1 ∷ [] })
-unfolding kernel kernel_calls block_named spot number_at window_base window_size greatest_targets turn_calls process_count
+unfolding kernel kernel_calls block_named access_site number_at window_base window_size greatest_targets turn_calls process_count
 no_place = refl
 
 -- the store has too few blocks
 pub few_blocks :
     returned (kernel (node_with []) turn_0 (sending 2)) ≡ Some (record { value = 2; windows = (sending 2).space.windows; store = [] })
-unfolding kernel kernel_calls block_named spot number_at window_base window_size greatest_targets turn_calls process_count
+unfolding kernel kernel_calls block_named access_site number_at window_base window_size greatest_targets turn_calls process_count
 few_blocks = refl
 
 -- too many places: the list isn't read
 pub many_places :
     returned (kernel (node_with []) turn_0 (sending 65)) ≡ Some (record { value = 3; windows = (sending 65).space.windows; store = [] })
-unfolding kernel kernel_calls block_named spot number_at window_base window_size greatest_targets turn_calls process_count
+unfolding kernel kernel_calls block_named access_site number_at window_base window_size greatest_targets turn_calls process_count
 many_places = refl
 
 -- no place at all: the block goes to the store
 pub to_nobody :
     returned (kernel (node_with (id 7 ∷ [])) turn_0 (sending 0))
     ≡ Some (record { value = 0; windows = None ∷ Some (block_of 6 list_bytes) ∷ []; store = id 4 ∷ id 7 ∷ [] })
-unfolding kernel kernel_calls block_named spot number_at window_base window_size greatest_targets turn_calls process_count
+unfolding kernel kernel_calls block_named access_site number_at window_base window_size greatest_targets turn_calls process_count
 to_nobody = refl

@@ -5,9 +5,9 @@ use Rattle.rv_model.specs.Image.{ImageParts}
 use Rattle.ce_model.specs.declared.topology.TheConstants.{HOST}
 use Rattle.ce_model.specs.declared.entry.Entry.{Entry}
 use Rattle.ce_model.specs.declared.entry.What.TheVariants.{Look, Take}
-use Rattle.ce_model.specs.declared.entry.LookResult.TheVariants.{Spent as FoundSpent}
+use Rattle.ce_model.specs.declared.entry.LookResult.TheVariants as look_result
 use Rattle.ce_model.specs.declared.entry.TakeResult.TheVariants.{Poll, Spent}
-use Rattle.ce_model.specs.Node.{Node, takes}
+use Rattle.ce_model.specs.Node.{Node, take_call}
 use Rattle.ce_model.specs.Saying.{says}
 use Rattle.ce_model.specs.Hearing.{poll_of}
 use Rattle.ce_model.specs.Cube.{opening, IsAlone}
@@ -29,15 +29,15 @@ row =
     ++ by 0 (Take 1 0 (Some 0) (Poll 0))
     ∷ by 0 (Take 1 0 (Some 0) (Poll 0))
     ∷ by 0 (Take 1 0 (Some 0) Spent)
-    ∷ by HOST (Look FoundSpent)
+    ∷ by HOST (Look look_result.Spent)
     ∷ []
 
 -- what the row's node says, at first and after each answer
 pub record HasSaidRow (image : ImageParts) : Type 0 where
-  pub asks : (says fresh_node).call ≡ takes 0 0 None
-  pub polls : (says (begun image)).call ≡ takes 1 0 (Some 0)
-  pub polls_again : (says (told_once image)).call ≡ takes 1 0 (Some 0)
-  pub polls_on : (says (told_twice image)).call ≡ takes 1 0 (Some 0)
+  pub asks : (says fresh_node).call ≡ take_call 0 0 None
+  pub polls : (says (begun image)).call ≡ take_call 1 0 (Some 0)
+  pub polls_again : (says (told_once image)).call ≡ take_call 1 0 (Some 0)
+  pub polls_on : (says (told_twice image)).call ≡ take_call 1 0 (Some 0)
 
 pub row_alone : (image : ImageParts) → HasSaidRow image → IsAlone (one_cube image) row
 unfolding row_computes

@@ -6,32 +6,32 @@ use Rattle.ce_model.specs.declared.entry.Entry.{Entry}
 use Rattle.ce_model.specs.declared.entry.What.TheVariants.{Getcube, Drain, Freecube, Send, Take}
 use Rattle.ce_model.specs.declared.entry.TakeResult.TheVariants.{Idle}
 use Rattle.ce_model.specs.Limits.{greatest_dim, block_room, process_count, home_blocks, host_home}
-use Rattle.ce_model.specs.Literals.{machine, of_actor, of_host, sub_at, place, block, aa}
-use Rattle.ce_model.specs.Node.{fresh, takes, sends, host_place}
+use Rattle.ce_model.specs.Literals.{machine, entry_of, of_host, subcube, place, block, first_bytes}
+use Rattle.ce_model.specs.Node.{opening_node, take_call, send_call, host_place}
 use Rattle.ce_model.specs.Saying.{says}
-use Rattle.ce_model.specs.Trace.{sent_to, taken_by, waiting_items, spawned_ids, killed_ids, mark, allowed_dispatches, made_dispatches, parcels}
+use Rattle.ce_model.specs.Trace.{sent_items, taken_results, waiting_items, spawned_ids, killed_ids, mark, allowed_dispatches, made_dispatches, parcels}
 use Rattle.ce_model.specs.Answers.{answer}
 use Rattle.ce_model.specs.Cube.{state, hoststore, next_entry}
-use Rattle.ce_model.specs.Subcubes.{extract, relative, deposit, subcubes, first_free}
+use Rattle.ce_model.specs.Subcubes.{extract, relative_number, deposit, subcubes, first_free}
 use Rattle.ce_model.specs.Views.{view}
-use Rattle.ce_model.specs.Machine.{after, getcube, drain, freecube, in_cube, all_parcels, held_by, IsLawful}
+use Rattle.ce_model.specs.Machine.{after, getcube, drain, freecube, in_cube, all_parcels, cube_held_by, IsLawful}
 
 abbrev pub row : List Entry
 row =
-    of_host 0 (Getcube 0 (Some (sub_at 0 0)))
-    ∷ of_host 0 (Send 0 0 ((place 0 0, block 256 0) ∷ []) aa)
+    of_host 0 (Getcube 0 (Some (subcube 0 0)))
+    ∷ of_host 0 (Send 0 0 ((place 0 0, block 256 0) ∷ []) first_bytes)
     ∷ of_host 0 Drain
     ∷ of_host 0 Freecube
-    ∷ of_host 1 (Getcube 0 (Some (sub_at 0 0)))
-    ∷ of_actor 1 0 (Take 0 0 None Idle)
+    ∷ of_host 1 (Getcube 0 (Some (subcube 0 0)))
+    ∷ entry_of 1 0 (Take 0 0 None Idle)
     ∷ []
 
-pub row_is_lawful : (image : ImageParts) → (says (fresh 0 0 1)).call ≡ takes 0 0 None → IsLawful (machine 0 2 image) row
-unfolding after view relative extract deposit subcubes first_free next_entry state hoststore sent_to taken_by waiting_items spawned_ids killed_ids mark allowed_dispatches made_dispatches parcels answer greatest_dim block_room process_count home_blocks host_home
+pub row_is_lawful : (image : ImageParts) → (says (opening_node 0 0 1)).call ≡ take_call 0 0 None → IsLawful (machine 0 2 image) row
+unfolding after view relative_number extract deposit subcubes first_free next_entry state hoststore sent_items taken_results waiting_items spawned_ids killed_ids mark allowed_dispatches made_dispatches parcels answer greatest_dim block_room process_count home_blocks host_home
 row_is_lawful image asks = (
   record { request = getcube 0; fits = (omega arith, (refl, omega arith, refl)); answer = refl },
   (
-    record { request = in_cube (sends 0 ((place 0 0, block 256 0) ∷ []) aa); fits = (omega arith, record { made = sends 0 ((place 0 0, block 256 0) ∷ []) aa; inside = inl refl; next = refl; renamed = refl; within = λ host. omega arith; not_drained = refl }); answer = refl },
+    record { request = in_cube (send_call 0 ((place 0 0, block 256 0) ∷ []) first_bytes); fits = (omega arith, record { made = send_call 0 ((place 0 0, block 256 0) ∷ []) first_bytes; inside = inl refl; next = refl; renamed = refl; within = λ host. omega arith; not_drained = refl }); answer = refl },
     (
       record { request = drain; fits = (omega arith, (refl, refl)); answer = refl },
       (
@@ -39,7 +39,7 @@ row_is_lawful image asks = (
         (
           record { request = getcube 0; fits = (omega arith, (refl, omega arith, refl)); answer = refl },
           (
-            record { request = in_cube (takes 0 0 None); fits = (omega arith, record { made = takes 0 0 None; inside = inr refl; next = rw asks refl; renamed = refl; within = λ host. tt; not_drained = refl }); answer = refl },
+            record { request = in_cube (take_call 0 0 None); fits = (omega arith, record { made = take_call 0 0 None; inside = inr refl; next = rw asks refl; renamed = refl; within = λ host. tt; not_drained = refl }); answer = refl },
             tt,
           ),
         ),
@@ -50,10 +50,10 @@ row_is_lawful image asks = (
 
 -- what the drain hands over: the one message, with the cube's numbers for places and the machine's name for its block
 abbrev pub first_two : List Entry
-first_two = of_host 0 (Getcube 0 (Some (sub_at 0 0))) ∷ of_host 0 (Send 0 0 ((place 0 0, block 256 0) ∷ []) aa) ∷ []
+first_two = of_host 0 (Getcube 0 (Some (subcube 0 0))) ∷ of_host 0 (Send 0 0 ((place 0 0, block 256 0) ∷ []) first_bytes) ∷ []
 
 pub drained :
-    option_map (all_parcels (after first_two)) (held_by (after first_two) 0)
-    ≡ Some (record { from = host_place; to = place 0 0; number = 0; block = record { id = block 256 0; bytes = aa } } ∷ [])
-unfolding after relative extract deposit greatest_dim
+    option_map (all_parcels (after first_two)) (cube_held_by (after first_two) 0)
+    ≡ Some (record { from = host_place; to = place 0 0; number = 0; block = record { id = block 256 0; bytes = first_bytes } } ∷ [])
+unfolding after relative_number extract deposit greatest_dim
 drained = refl

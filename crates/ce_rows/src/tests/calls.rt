@@ -1,10 +1,10 @@
 ghost use Rattle.std.specs.Prelude.{◌≡◌, [], ◌∷◌, Result, IfOk};
 ghost use Rattle.ce_model.specs.declared.topology.TheConstants.{HOST};
-ghost use Rattle.ce_model.specs.Node.{sends, host_place};
+ghost use Rattle.ce_model.specs.Node.{send_call, host_place};
 ghost use Rattle.ce_model.specs.Machine.{in_cube};
 ghost use Rattle.ce_machine.specs.Requests.{request_of};
-ghost use Rattle.ce_rows.specs.Steps.{IsWithoutBoxes};
-ghost use Rattle.ce_rows.specs.Rows.{IsCallAt, block, aa};
+ghost use Rattle.ce_rows.specs.RowEntries.{IsWithoutBoxes};
+ghost use Rattle.ce_rows.specs.Rows.{IsCallAt, block, first_bytes};
 
 use crate::WorkedRow;
 use ce_daemon::Homed;
@@ -58,7 +58,7 @@ fn message(alloc: Global, to: Place, id: BlockId, byte: u8) -> Result<Batch, NoM
 // A message of a host or of process 0.
 fn send<N: Homed>(alloc: Global, to: Place, id: BlockId, byte: u8) -> Result<Call<N>, NoMemory>
     ensures asks { IfOk result (λ call.
-        request_of call ≡ in_cube (sends 0 ((to, id) ∷ []) (byte ∷ []))) }
+        request_of call ≡ in_cube (send_call 0 ((to, id) ∷ []) (byte ∷ []))) }
     ensures boxes { IfOk result (λ call. IsWithoutBoxes call) }
 {
     let batch = message(alloc, to, id, byte)?;
@@ -68,7 +68,7 @@ fn send<N: Homed>(alloc: Global, to: Place, id: BlockId, byte: u8) -> Result<Cal
 // A message of the host, of a block of its own.
 fn host_sends<N: Homed>(alloc: Global, to: Place, index: u32) -> Result<Call<N>, NoMemory>
     ensures asks { IfOk result (λ call.
-        request_of call ≡ in_cube (sends 0 ((to, block 256 index) ∷ []) aa)) }
+        request_of call ≡ in_cube (send_call 0 ((to, block 256 index) ∷ []) first_bytes)) }
     ensures boxes { IfOk result (λ call. IsWithoutBoxes call) }
 {
     send(alloc, to, BlockId { home: 256, index }, 0xAA)
@@ -77,7 +77,7 @@ fn host_sends<N: Homed>(alloc: Global, to: Place, index: u32) -> Result<Call<N>,
 // A message of a process to its host, of its node's first block.
 fn node_sends<N: Homed>(alloc: Global, home: u32) -> Result<Call<N>, NoMemory>
     ensures asks { IfOk result (λ call. request_of call
-        ≡ in_cube (sends 0 ((host_place, block home 0) ∷ []) (0 ∷ []))) }
+        ≡ in_cube (send_call 0 ((host_place, block home 0) ∷ []) (0 ∷ []))) }
     ensures boxes { IfOk result (λ call. IsWithoutBoxes call) }
 {
     send(
@@ -162,8 +162,8 @@ fn replies_call<N: Homed>(alloc: Global, count: usize) -> Result<Made<N>, Fail>
 }
 
 // A call of the row of what a process is told.
-fn told_call<N: Homed>(alloc: Global, count: usize) -> Result<Made<N>, Fail>
-    ensures { IfOk result (λ made. IsCallAt WorkedRow.Told count made.who made.call) }
+fn hearings_call<N: Homed>(alloc: Global, count: usize) -> Result<Made<N>, Fail>
+    ensures { IfOk result (λ made. IsCallAt WorkedRow.Hearings count made.who made.call) }
 {
     match count {
         0 => by_host(0, Call::Getcube { dim: 0 }),
@@ -182,8 +182,8 @@ fn told_call<N: Homed>(alloc: Global, count: usize) -> Result<Made<N>, Fail>
 }
 
 // A call of the row of the drain.
-fn drained_call<N: Homed>(alloc: Global, count: usize) -> Result<Made<N>, Fail>
-    ensures { IfOk result (λ made. IsCallAt WorkedRow.Drained count made.who made.call) }
+fn waiting_mail_call<N: Homed>(alloc: Global, count: usize) -> Result<Made<N>, Fail>
+    ensures { IfOk result (λ made. IsCallAt WorkedRow.WaitingMail count made.who made.call) }
 {
     match count {
         0 => by_host(0, Call::Getcube { dim: 2 }),
@@ -234,7 +234,7 @@ pub(crate) fn call_at<N: Homed>(
         WorkedRow::GreatestCube => greatest_cube_call(count),
         WorkedRow::NextOwner => next_owner_call(alloc, count),
         WorkedRow::Replies => replies_call(alloc, count),
-        WorkedRow::Told => told_call(alloc, count),
-        WorkedRow::Drained => drained_call(alloc, count),
+        WorkedRow::Hearings => hearings_call(alloc, count),
+        WorkedRow::WaitingMail => waiting_mail_call(alloc, count),
     }
 }

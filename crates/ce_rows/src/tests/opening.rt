@@ -1,13 +1,14 @@
 ghost use Rattle.std.specs.Prelude.{◌≡◌, ◌^◌, [], ◌∷◌, IfOk};
-ghost use Rattle.rv_model.specs.Image.{image_parts};
+ghost use Rattle.rv_model.specs.Image.{image_parts, image_start};
 ghost use Rattle.ce_daemon.specs.Boxes.{AreBoxes};
-ghost use Rattle.ce_rows.specs.Steps.{IsAt};
+ghost use Rattle.ce_rows.specs.RowEntries.{IsAt};
 ghost use Rattle.ce_rows.specs.Rows.{row_of, program};
 
 use crate::WorkedRow;
 use ce_daemon::Homed;
 use ce_machine::Machine;
 use rv_image::Image;
+use rv_model::PRIVATE_START;
 use std::alloc::Global;
 use std::test::Fail;
 
@@ -30,11 +31,11 @@ const PROGRAM: [u8; 52] = [
 
 // The rows' image.
 fn image(alloc: Global) -> Result<Image, Fail>
-    ensures { IfOk result (λ image. image ≡ image_parts 0x0001_0000 program 0) }
+    ensures { IfOk result (λ image. image ≡ image_parts image_start program 0) }
 {
     let mut bytes = Vec::new(alloc);
     bytes.extend_from_slice(&PROGRAM)?;
-    match Image::of_parts(0x0001_0000, bytes, 0) {
+    match Image::of_parts(PRIVATE_START, bytes, 0) {
         Ok(image) => Ok(image),
         Err(_) => Err(Fail::from("no image")),
     }
@@ -42,7 +43,7 @@ fn image(alloc: Global) -> Result<Image, Fail>
 
 // The images of a machine.
 fn images_of_rows(alloc: Global) -> Result<Vec<Image>, Fail>
-    ensures { IfOk result (λ images. images.items ≡ image_parts 0x0001_0000 program 0 ∷ []) }
+    ensures { IfOk result (λ images. images.items ≡ image_parts image_start program 0 ∷ []) }
 {
     let mut images = Vec::new(alloc);
     images.push(image(alloc)?)?;
@@ -54,8 +55,8 @@ fn dim_of(row: WorkedRow) -> u32
     ensures { result ≡ (row_of row).parts.dim }
 {
     match row {
-        WorkedRow::NextOwner | WorkedRow::Replies | WorkedRow::Told => 0,
-        WorkedRow::FirstCube | WorkedRow::Drained => 2,
+        WorkedRow::NextOwner | WorkedRow::Replies | WorkedRow::Hearings => 0,
+        WorkedRow::FirstCube | WorkedRow::WaitingMail => 2,
         WorkedRow::GreatestCube => 6,
     }
 }
@@ -67,7 +68,7 @@ fn users_of(row: WorkedRow) -> u32
     match row {
         WorkedRow::FirstCube | WorkedRow::NextOwner | WorkedRow::Replies => 2,
         WorkedRow::GreatestCube => 8,
-        WorkedRow::Told | WorkedRow::Drained => 1,
+        WorkedRow::Hearings | WorkedRow::WaitingMail => 1,
     }
 }
 

@@ -2,7 +2,7 @@ ghost use Rattle.std.specs.Prelude.{◌≡◌, ◌+◌, ◌^◌, ◌<◌, IfOk};
 ghost use Rattle.ce_daemon.specs.Boxes.{AreBoxes};
 ghost use Rattle.ce_daemon.specs.declared.grant.Grant.{Grant};
 ghost use Rattle.ce_model.specs.Subcubes.{node_of};
-ghost use Rattle.ce_rows.specs.Steps.{IsAt, IsNextReply};
+ghost use Rattle.ce_rows.specs.RowEntries.{IsAt, IsNextReply};
 ghost use Rattle.ce_rows.specs.Rows.{row_of, node_0};
 
 use super::calls::call_at;

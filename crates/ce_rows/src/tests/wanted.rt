@@ -108,7 +108,7 @@ fn replies_want<N: Homed>(count: usize, reply: &Reply<N>) -> bool {
 }
 
 // The same for the row of what a process is told.
-fn told_wants<N: Homed>(count: usize, reply: &Reply<N>) -> bool {
+fn hearings_wants<N: Homed>(count: usize, reply: &Reply<N>) -> bool {
     match reply {
         Reply::Granted { grant, boxes } => {
             count == 0 && boxes.len() == 1 && is_grant(grant, 0, 0, 0)
@@ -129,7 +129,7 @@ fn told_wants<N: Homed>(count: usize, reply: &Reply<N>) -> bool {
 }
 
 // The same for the row of the drain: the messages come by their nodes, and the host's last.
-fn drained_wants<N: Homed>(count: usize, reply: &Reply<N>) -> bool {
+fn waiting_mail_wants<N: Homed>(count: usize, reply: &Reply<N>) -> bool {
     match reply {
         Reply::Granted { grant, boxes } => {
             count == 0 && boxes.len() == 4 && is_grant(grant, 0, 0, 3)
@@ -153,7 +153,7 @@ pub(crate) fn is_wanted<N: Homed>(row: WorkedRow, count: usize, reply: &Reply<N>
         WorkedRow::GreatestCube => greatest_cube_wants(count, reply),
         WorkedRow::NextOwner => next_owner_wants(count, reply),
         WorkedRow::Replies => replies_want(count, reply),
-        WorkedRow::Told => told_wants(count, reply),
-        WorkedRow::Drained => drained_wants(count, reply),
+        WorkedRow::Hearings => hearings_wants(count, reply),
+        WorkedRow::WaitingMail => waiting_mail_wants(count, reply),
     }
 }

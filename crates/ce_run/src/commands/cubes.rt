@@ -1,11 +1,11 @@
 //! Commands that ask for a cube, look at the machine, or give the cube back.
 ghost use Rattle.std.specs.Prelude.{◌≡◌, ◌≤◌, None, IfOk, map};
 ghost use Rattle.ce_model.specs.Limits.{greatest_dim};
-ghost use Rattle.ce_model.specs.Machine.{after, held_by};
+ghost use Rattle.ce_model.specs.Machine.{after, cube_held_by};
 ghost use Rattle.ce_host.specs.declared.command.Command.TheVariants.{Freecube, Getcube, Peek};
-ghost use Rattle.ce_cube.specs.Crews.{AreAllHome, HasAllBlocks, IsCrewInStep, IsHostAtHome, cube_grant};
+ghost use Rattle.ce_cube.specs.Crews.{AreAllHome, HasAllBlocks, IsHostAtHome, cube_grant};
 ghost use Rattle.ce_run.specs.Asking.{HasCube, HasDrained};
-ghost use Rattle.ce_run.specs.Seats.{HasDone, HasUser, IsSeatAt};
+ghost use Rattle.ce_run.specs.Seats.{HasCrew, HasDone, HasUser, IsSeatAt};
 ghost use Rattle.ce_run.specs.declared.seat.Seat.{Seat};
 
 use crate::asking::ask;
@@ -30,7 +30,7 @@ pub(crate) fn get_cube(
 ) -> Result<(Seat, Answer), NoMemory>
     requires user { HasUser machine.old user }
     requires images { images.now ≡ machine.old.parts.images }
-    requires free { held_by (after machine.old.history) user ≡ None }
+    requires free { cube_held_by (after machine.old.history) user ≡ None }
     requires host { IsHostAtHome user host }
     requires dim { dim ≤ greatest_dim }
     ensures { IfOk result (λ done.
@@ -69,8 +69,7 @@ pub(crate) fn free_cube(
     machine: &mut Machine<NodeBox>,
     crew: SerialCrew,
 ) -> Result<(Seat, Answer), NoMemory>
-    requires user { HasUser machine.old crew.grant.user }
-    requires crew { IsCrewInStep machine.old.parts machine.old.history crew }
+    requires { HasCrew machine.old crew }
     ensures { IfOk result (λ done.
         HasDone machine.old machine.new crew.grant.user Freecube done.1 done.0) }
 {

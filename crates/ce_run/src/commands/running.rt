@@ -2,9 +2,8 @@
 ghost use Rattle.std.specs.Prelude.{◌≡◌, ◌≤◌, IfOk, MatchOption};
 ghost use Rattle.ce_model.specs.Limits.{greatest_count};
 ghost use Rattle.ce_host.specs.declared.command.Command.TheVariants.{Recv, Run};
-ghost use Rattle.ce_cube.specs.Crews.{IsCrewInStep, IsLawfulMachine};
 ghost use Rattle.ce_run.specs.Rounds.{HasAllowed, HasLooked, HasRunRounds, HasTaken, HasTakenNone};
-ghost use Rattle.ce_run.specs.Seats.{HasDone, HasUser};
+ghost use Rattle.ce_run.specs.Seats.{HasCrew, HasDone};
 ghost use Rattle.ce_run.specs.declared.seat.Seat.TheVariants.{Holding};
 
 use crate::asking::ask_in_cube;
@@ -24,9 +23,8 @@ pub(crate) fn run(
     crew: &mut SerialCrew,
     count: u32,
 ) -> Result<Answer, NoMemory>
-    requires user { HasUser machine.old crew.old.grant.user }
     requires images { images.now ≡ machine.old.parts.images }
-    requires crew { IsCrewInStep machine.old.parts machine.old.history crew.old }
+    requires crew { HasCrew machine.old crew.old }
     requires count { count ≤ greatest_count }
     ensures { IfOk result (λ answer. HasDone machine.old machine.new crew.old.grant.user
         (Run count) answer (Holding crew.new)) }
@@ -49,9 +47,8 @@ pub(crate) fn receive(
     crew: &mut SerialCrew,
     count: u32,
 ) -> Result<Answer, NoMemory>
-    requires user { HasUser machine.old crew.old.grant.user }
     requires images { images.now ≡ machine.old.parts.images }
-    requires crew { IsCrewInStep machine.old.parts machine.old.history crew.old }
+    requires crew { HasCrew machine.old crew.old }
     requires count { count ≤ greatest_count }
     ensures { IfOk result (λ answer. HasDone machine.old machine.new crew.old.grant.user
         (Recv count) answer (Holding crew.new)) }
@@ -81,8 +78,7 @@ fn allow(
     crew: &mut SerialCrew,
     count: u32,
 ) -> Result<(), NoMemory>
-    requires user { HasUser machine.old crew.old.grant.user }
-    requires crew { IsCrewInStep machine.old.parts machine.old.history crew.old }
+    requires crew { HasCrew machine.old crew.old }
     requires count { count ≤ greatest_count }
     ensures { IfOk result (λ _. HasAllowed machine.old machine.new crew.old crew.new count) }
 {
@@ -97,9 +93,8 @@ fn run_rounds(
     images: &[Image],
     crew: &mut SerialCrew,
 ) -> Result<(), NoMemory>
-    requires user { HasUser machine.old crew.old.grant.user }
     requires images { images.now ≡ machine.old.parts.images }
-    requires crew { IsCrewInStep machine.old.parts machine.old.history crew.old }
+    requires crew { HasCrew machine.old crew.old }
     ensures { IfOk result (λ _. HasRunRounds machine.old machine.new crew.old crew.new) }
 {
     'rounds: while round_serial(alloc, machine, crew, images)? {}
@@ -112,8 +107,7 @@ fn look(
     machine: &mut Machine<NodeBox>,
     crew: &mut SerialCrew,
 ) -> Result<LookResult, NoMemory>
-    requires user { HasUser machine.old crew.old.grant.user }
-    requires crew { IsCrewInStep machine.old.parts machine.old.history crew.old }
+    requires { HasCrew machine.old crew.old }
     ensures { IfOk result (HasLooked machine.old machine.new crew.old crew.new) }
 {
     match ask_in_cube(alloc, machine, crew, Call::Look)? {
@@ -130,8 +124,7 @@ fn take_message(
     machine: &mut Machine<NodeBox>,
     crew: &mut SerialCrew,
 ) -> Result<Option<(Place, Bytes)>, NoMemory>
-    requires user { HasUser machine.old crew.old.grant.user }
-    requires crew { IsCrewInStep machine.old.parts machine.old.history crew.old }
+    requires { HasCrew machine.old crew.old }
     ensures { IfOk result (λ taken. MatchOption taken
         (HasTakenNone machine.old machine.new crew.old crew.new)
         (λ message. HasTaken machine.old machine.new crew.old crew.new message.0 message.1)) }

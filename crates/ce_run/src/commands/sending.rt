@@ -2,13 +2,12 @@
 ghost use Rattle.std.specs.Prelude.{◌≡◌, ◌<◌, ◌^◌, [], IfOk, IsSome, Some, length};
 ghost use Rattle.ce_model.specs.Node.{is_place};
 ghost use Rattle.ce_host.specs.declared.command.Command.TheVariants.{Kill, Send, Spawn};
-ghost use Rattle.ce_cube.specs.Crews.{IsCrewInStep};
 ghost use Rattle.rk_mail.specs.Talk.{call_said};
 ghost use Rattle.rk_mail.specs.declared.talk.Hearing.TheVariants.{Posted};
 ghost use Rattle.ce_record.specs.Asked.{heard_reply};
-ghost use Rattle.ce_machine.specs.declared.call.Call.TheVariants as call;
+ghost use Rattle.ce_machine.specs.declared.call.Call.TheVariants as calls;
 ghost use Rattle.ce_run.specs.Asking.{IsHostCall, IsStartOrEnd};
-ghost use Rattle.ce_run.specs.Seats.{HasDone, HasTold, HasUser};
+ghost use Rattle.ce_run.specs.Seats.{HasCrew, HasDone, HasTold};
 ghost use Rattle.ce_run.specs.declared.seat.Seat.TheVariants.{Holding};
 
 use crate::asking::ask_in_cube;
@@ -28,8 +27,7 @@ pub(crate) fn start(
     image: u32,
     to: Place,
 ) -> Result<Answer, NoMemory>
-    requires user { HasUser machine.old crew.old.grant.user }
-    requires crew { IsCrewInStep machine.old.parts machine.old.history crew.old }
+    requires crew { HasCrew machine.old crew.old }
     requires image { image < length machine.old.parts.images }
     ensures { IfOk result (λ answer. HasDone machine.old machine.new crew.old.grant.user
         (Spawn image to) answer (Holding crew.new)) }
@@ -47,8 +45,7 @@ pub(crate) fn end(
     crew: &mut SerialCrew,
     to: Place,
 ) -> Result<Answer, NoMemory>
-    requires user { HasUser machine.old crew.old.grant.user }
-    requires crew { IsCrewInStep machine.old.parts machine.old.history crew.old }
+    requires { HasCrew machine.old crew.old }
     ensures { IfOk result (λ answer. HasDone machine.old machine.new crew.old.grant.user
         (Kill to) answer (Holding crew.new)) }
 {
@@ -66,8 +63,7 @@ pub(crate) fn send(
     to: Place,
     bytes: &Bytes,
 ) -> Result<Answer, NoMemory>
-    requires user { HasUser machine.old crew.old.grant.user }
-    requires crew { IsCrewInStep machine.old.parts machine.old.history crew.old }
+    requires { HasCrew machine.old crew.old }
     ensures { IfOk result (λ answer. HasDone machine.old machine.new crew.old.grant.user
         (Send to bytes.now) answer (Holding crew.new)) }
 {
@@ -114,11 +110,10 @@ fn tell(
     crew: &mut SerialCrew,
     said: Say,
 ) -> Result<Answer, NoMemory>
-    requires user { HasUser machine.old crew.old.grant.user }
-    requires crew { IsCrewInStep machine.old.parts machine.old.history crew.old }
+    requires crew { HasCrew machine.old crew.old }
     requires said { IsStartOrEnd (call_said said) }
     requires call { IsHostCall machine.old.parts machine.old.history crew.old.grant.user
-        (call.Say said) }
+        (calls.Say said) }
     ensures { IfOk result (λ answer. HasTold machine.old machine.new crew.old.grant.user
         (call_said said) answer crew.new) }
 {

@@ -1,25 +1,41 @@
 //! Scripts with the reports that they have.
 
-/// A script, and its whole report.
+use rk_programs::{ALL_WINDOWS, BLOCK_SIZES, GONE_BLOCK, MULTICAST, UNREADABLE_LIST, WAIT};
+
+/// A script in pieces, and its whole report.
+#[derive(Clone, Copy)]
 pub(super) struct Row {
     pub title: &'static str,
-    pub script: &'static str,
+    pub script: &'static [&'static str],
     pub report: &'static str,
 }
 
+/// Notes 42 and exits: `li a0, 42`; `li a7, 14`; `ecall`; `li a7, 13`; `ecall`.
+pub(super) const HELLO_WORDS: &str = "02A00513 00E00893 00000073 00D00893 00000073\n";
+
+/// Waits for a message, and exits.
+const WAITER: &str = "\
+        li a7, 7\n\
+        ecall\n\
+        li a7, 13\n\
+        ecall\n";
+
 /// Hello, and what became of its process.
-const HELLO: Row = Row {
+pub(super) const HELLO: Row = Row {
     title: "hello",
-    script: "\
+    script: &[
+        "\
         machine 0\n\
-        image hello hex\n\
-        02A00513 00E00893 00000073 00D00893 00000073\n\
+        image hello hex\n",
+        HELLO_WORDS,
+        "\
         end\n\
         user alice\n\
         getcube 0\n\
         spawn hello 0 0\n\
         run 10\n\
         dump 0 0\n",
+    ],
     report: "\
         machine 0\n\
         user alice\n\
@@ -42,18 +58,21 @@ const HELLO: Row = Row {
 };
 
 /// Without dispatches nothing starts, and without work nothing is spent.
-const NOTHING_ALLOWED: Row = Row {
+pub(super) const NOTHING_ALLOWED: Row = Row {
     title: "nothing_allowed",
-    script: "\
+    script: &[
+        "\
         machine 0\n\
-        image hello hex\n\
-        02A00513 00E00893 00000073 00D00893 00000073\n\
+        image hello hex\n",
+        HELLO_WORDS,
+        "\
         end\n\
         user alice\n\
         getcube 0\n\
         run 0\n\
         spawn hello 0 0\n\
         run 0\n",
+    ],
     report: "\
         machine 0\n\
         user alice\n\
@@ -77,17 +96,20 @@ const NOTHING_ALLOWED: Row = Row {
 };
 
 /// The last dispatch is used, and the cube is quiet.
-const TIE: Row = Row {
+pub(super) const TIE: Row = Row {
     title: "tie",
-    script: "\
+    script: &[
+        "\
         machine 0\n\
-        image hello hex\n\
-        02A00513 00E00893 00000073 00D00893 00000073\n\
+        image hello hex\n",
+        HELLO_WORDS,
+        "\
         end\n\
         user alice\n\
         getcube 0\n\
         spawn hello 0 0\n\
         run 1\n",
+    ],
     report: "\
         machine 0\n\
         user alice\n\
@@ -108,22 +130,14 @@ const TIE: Row = Row {
 };
 
 /// A block that was sent is gone for its sender.
-const GONE: Row = Row {
+pub(super) const GONE: Row = Row {
     title: "gone",
-    script: "\
+    script: &[
+        "\
         machine 0\n\
-        image gone asm\n\
-        li a0, 8\n\
-        li a7, 1\n\
-        ecall\n\
-        mv s0, a0\n\
-        li t0, 7\n\
-        sw t0, 0(s0)\n\
-        li a1, -1\n\
-        li a2, 0\n\
-        li a7, 4\n\
-        ecall\n\
-        lw t1, 0(s0)\n\
+        image gone asm\n",
+        GONE_BLOCK,
+        "\
         end\n\
         user alice\n\
         getcube 0\n\
@@ -132,6 +146,7 @@ const GONE: Row = Row {
         dump 0 0\n\
         recv 0\n\
         trace\n",
+    ],
     report: "\
         machine 0\n\
         user alice\n\
@@ -160,43 +175,21 @@ const GONE: Row = Row {
 };
 
 /// The greatest block, one byte more than it, and an empty one.
-const SIZES: Row = Row {
+pub(super) const SIZES: Row = Row {
     title: "sizes",
-    script: "\
+    script: &[
+        "\
         machine 0\n\
-        image sizes asm\n\
-            li a0, 4096\n\
-            li a7, 1\n\
-            ecall\n\
-            mv s0, a0\n\
-            li a7, 14\n\
-            ecall\n\
-            li t0, 4092\n\
-            add t0, s0, t0\n\
-            li t1, 5\n\
-            sw t1, 0(t0)\n\
-            mv a0, s0\n\
-            li a7, 3\n\
-            ecall\n\
-            li a7, 14\n\
-            ecall\n\
-            li a0, 4097\n\
-            li a7, 1\n\
-            ecall\n\
-            li a7, 14\n\
-            ecall\n\
-            li a0, 0\n\
-            li a7, 1\n\
-            ecall\n\
-            li a7, 14\n\
-            ecall\n\
-            lb t0, 0(a0)\n\
+        image sizes asm\n",
+        BLOCK_SIZES,
+        "\
         end\n\
         user a\n\
         getcube 0\n\
         spawn sizes 0 0\n\
         run 10\n\
         dump 0 0\n",
+    ],
     report: "\
         machine 0\n\
         user a\n\
@@ -222,26 +215,14 @@ const SIZES: Row = Row {
 };
 
 /// A process has 32,768 windows; a message that finds none left is its end, and the message's block goes to the store.
-const WINDOWS: Row = Row {
+pub(super) const WINDOWS: Row = Row {
     title: "windows",
-    script: "\
+    script: &[
+        "\
         machine 0\n\
-        image windows asm\n\
-                li s0, 32768\n\
-        loop:   li a0, 4\n\
-                li a7, 1\n\
-                ecall\n\
-                li a7, 2\n\
-                ecall\n\
-                addi s0, s0, -1\n\
-                bne s0, zero, loop\n\
-                li a0, 4\n\
-                li a7, 1\n\
-                ecall\n\
-                li a7, 14\n\
-                ecall\n\
-                li a7, 7\n\
-                ecall\n\
+        image windows asm\n",
+        ALL_WINDOWS,
+        "\
         end\n\
         image last asm\n\
                 li s0, 33\n\
@@ -267,6 +248,7 @@ const WINDOWS: Row = Row {
         run 10\n\
         recv 0\n\
         dump 0 1\n",
+    ],
     report: "\
         machine 0\n\
         user a\n\
@@ -309,87 +291,18 @@ const WINDOWS: Row = Row {
 };
 
 /// One block to several places, and each refusal, in its order.
-const XMSEND: Row = Row {
+pub(super) const XMSEND: Row = Row {
     title: "xmsend",
-    script: "\
+    script: &[
+        "\
         machine 0\n\
-        image xmsend asm\n\
-                li a0, 4\n\
-                li a7, 1\n\
-                ecall\n\
-                mv s0, a0\n\
-                li a1, 0\n\
-                li a7, 5\n\
-                ecall\n\
-                li a7, 14\n\
-                ecall\n\
-                li a0, 4\n\
-                li a7, 1\n\
-                ecall\n\
-                li a1, 2\n\
-                la a2, same\n\
-                li a7, 5\n\
-                ecall\n\
-                li a7, 14\n\
-                ecall\n\
-                li a0, 4\n\
-                li a7, 1\n\
-                ecall\n\
-                mv s1, a0\n\
-                li a1, 2\n\
-                la a2, other\n\
-                li a7, 5\n\
-                ecall\n\
-                li a7, 14\n\
-                ecall\n\
-                mv a0, s1\n\
-                li a1, 34\n\
-                la a2, same\n\
-                li a7, 5\n\
-                ecall\n\
-                li a7, 14\n\
-                ecall\n\
-                mv a0, s1\n\
-                li a1, 31\n\
-                li a7, 5\n\
-                ecall\n\
-                li a7, 14\n\
-                ecall\n\
-                mv a0, s1\n\
-                li a1, 65\n\
-                li a7, 5\n\
-                ecall\n\
-                li a7, 14\n\
-                ecall\n\
-                mv a0, s1\n\
-                li a7, 3\n\
-                ecall\n\
-                li a7, 14\n\
-                ecall\n\
-                mv a0, s1\n\
-                li a1, 30\n\
-                li a7, 5\n\
-                ecall\n\
-                li a7, 14\n\
-                ecall\n\
-                mv a0, s0\n\
-                li a7, 3\n\
-                ecall\n\
-        other:  .word 0, 1, 9, 0\n\
-        same:\n\
-                .word 0, 1, 0, 1, 0, 1, 0, 1, 0, 1, 0, 1, 0, 1, 0, 1, 0, 1, 0, 1, 0, 1, 0, 1, 0, 1, 0, 1, 0, 1, 0, 1, 0, 1\n\
-                .word 0, 1, 0, 1, 0, 1, 0, 1, 0, 1, 0, 1, 0, 1, 0, 1, 0, 1, 0, 1, 0, 1, 0, 1, 0, 1, 0, 1, 0, 1, 0, 1, 0, 1\n\
+        image xmsend asm\n",
+        MULTICAST,
+        "\
         end\n\
-        image unread asm\n\
-                li a0, 4\n\
-                li a7, 1\n\
-                ecall\n\
-                li a2, 0x2FFF8\n\
-                li t0, 9\n\
-                sw t0, 0(a2)\n\
-                li a1, 2\n\
-                li a7, 5\n\
-                ecall\n\
+        image unread asm\n",
+        UNREADABLE_LIST,
+        "\
         end\n\
         user a\n\
         getcube 0\n\
@@ -401,6 +314,7 @@ const XMSEND: Row = Row {
         spawn unread 0 0\n\
         run 10\n\
         dump 0 0\n",
+    ],
     report: "\
         machine 0\n\
         user a\n\
@@ -448,9 +362,10 @@ const XMSEND: Row = Row {
 };
 
 /// Mail for a process that wasn't started waits for it.
-const UNBORN: Row = Row {
+pub(super) const UNBORN: Row = Row {
     title: "unborn",
-    script: "\
+    script: &[
+        "\
         machine 0\n\
         image echo asm\n\
         loop: li a7, 7\n\
@@ -469,6 +384,7 @@ const UNBORN: Row = Row {
         recv 100\n\
         recv 100\n\
         recv 100\n",
+    ],
     report: "\
         machine 0\n\
         user alice\n\
@@ -511,12 +427,14 @@ const UNBORN: Row = Row {
 };
 
 /// Mail for a process that has ended goes to the node's store.
-const DEAD: Row = Row {
+pub(super) const DEAD: Row = Row {
     title: "dead",
-    script: "\
+    script: &[
+        "\
         machine 0\n\
-        image hello hex\n\
-        02A00513 00E00893 00000073 00D00893 00000073\n\
+        image hello hex\n",
+        HELLO_WORDS,
+        "\
         end\n\
         user alice\n\
         getcube 0\n\
@@ -524,6 +442,7 @@ const DEAD: Row = Row {
         run 10\n\
         send 0 0 aa\n\
         run 10\n",
+    ],
     report: "\
         machine 0\n\
         user alice\n\
@@ -553,9 +472,10 @@ const DEAD: Row = Row {
 };
 
 /// Two free nodes that are no subcube.
-const NO_FIT: Row = Row {
+pub(super) const NO_FIT: Row = Row {
     title: "no_fit",
-    script: "\
+    script: &[
+        "\
         machine 2\n\
         user a\n\
         getcube 0\n\
@@ -568,6 +488,7 @@ const NO_FIT: Row = Row {
         user d\n\
         getcube 1\n\
         peek\n",
+    ],
     report: "\
         machine 2\n\
         user a\n\
@@ -593,9 +514,10 @@ const NO_FIT: Row = Row {
 };
 
 /// A subcube whose nodes are not next to each other.
-const NOT_CONTIGUOUS: Row = Row {
+pub(super) const NOT_CONTIGUOUS: Row = Row {
     title: "not_contiguous",
-    script: "\
+    script: &[
+        "\
         machine 2\n\
         user a\n\
         getcube 0\n\
@@ -607,6 +529,7 @@ const NOT_CONTIGUOUS: Row = Row {
         freecube\n\
         user d\n\
         getcube 1\n",
+    ],
     report: "\
         machine 2\n\
         user a\n\
@@ -631,12 +554,14 @@ const NOT_CONTIGUOUS: Row = Row {
 };
 
 /// The nodes of a cube are numbered anew: its process at 3 runs on node 7.
-const RENAMING: Row = Row {
+pub(super) const RENAMING: Row = Row {
     title: "renaming",
-    script: "\
+    script: &[
+        "\
         machine 3\n\
-        image hello hex\n\
-        02A00513 00E00893 00000073 00D00893 00000073\n\
+        image hello hex\n",
+        HELLO_WORDS,
+        "\
         end\n\
         user a\n\
         getcube 1\n\
@@ -650,6 +575,7 @@ const RENAMING: Row = Row {
         getcube 2\n\
         spawn hello 3 0\n\
         run 10\n",
+    ],
     report: "\
         machine 3\n\
         user a\n\
@@ -690,15 +616,14 @@ const RENAMING: Row = Row {
 };
 
 /// A node is given back with mail waiting, and the next user finds none.
-const USED_AGAIN: Row = Row {
+pub(super) const USED_AGAIN: Row = Row {
     title: "used_again",
-    script: "\
+    script: &[
+        "\
         machine 0\n\
-        image waiter asm\n\
-        li a7, 7\n\
-        ecall\n\
-        li a7, 13\n\
-        ecall\n\
+        image waiter asm\n",
+        WAITER,
+        "\
         end\n\
         user alice\n\
         getcube 0\n\
@@ -710,6 +635,7 @@ const USED_AGAIN: Row = Row {
         getcube 0\n\
         spawn waiter 0 0\n\
         run 10\n",
+    ],
     report: "\
         machine 0\n\
         user alice\n\
@@ -744,9 +670,10 @@ const USED_AGAIN: Row = Row {
 };
 
 /// Jumps to half words, taken and not taken, and one through the register that it writes.
-const JUMPS: Row = Row {
+pub(super) const JUMPS: Row = Row {
     title: "jumps",
-    script: "\
+    script: &[
+        "\
         machine 0\n\
         image by_six hex\n\
         006000EF\n\
@@ -776,6 +703,7 @@ const JUMPS: Row = Row {
         dump 0 1\n\
         dump 0 2\n\
         dump 0 3\n",
+    ],
     report: "\
         machine 0\n\
         user a\n\
@@ -815,15 +743,17 @@ const JUMPS: Row = Row {
 };
 
 /// A turn ends, and so does its process; others run on.
-const ENDLESS: Row = Row {
+pub(super) const ENDLESS: Row = Row {
     title: "endless",
-    script: "\
+    script: &[
+        "\
         machine 0\n\
         image spin hex\n\
         0000006F\n\
         end\n\
-        image hello hex\n\
-        02A00513 00E00893 00000073 00D00893 00000073\n\
+        image hello hex\n",
+        HELLO_WORDS,
+        "\
         end\n\
         user alice\n\
         getcube 0\n\
@@ -832,6 +762,7 @@ const ENDLESS: Row = Row {
         run 10\n\
         dump 0 0\n\
         dump 0 1\n",
+    ],
     report: "\
         machine 0\n\
         user alice\n\
@@ -860,18 +791,18 @@ const ENDLESS: Row = Row {
 };
 
 /// Commands that are refused.
-const REFUSED_COMMANDS: Row = Row {
+pub(super) const REFUSED_COMMANDS: Row = Row {
     title: "refused_commands",
-    script: "\
+    script: &[
+        "\
         machine 0\n\
-        image hello hex\n\
-        02A00513 00E00893 00000073 00D00893 00000073\n\
+        image hello hex\n",
+        HELLO_WORDS,
+        "\
         end\n\
-        image waiter asm\n\
-        li a7, 7\n\
-        ecall\n\
-        li a7, 13\n\
-        ecall\n\
+        image waiter asm\n",
+        WAITER,
+        "\
         end\n\
         user alice\n\
         run 1\n\
@@ -885,6 +816,7 @@ const REFUSED_COMMANDS: Row = Row {
         spawn waiter 0 0\n\
         run 10\n\
         dump 0 0\n",
+    ],
     report: "\
         machine 0\n\
         user alice\n\
@@ -925,9 +857,10 @@ const REFUSED_COMMANDS: Row = Row {
 };
 
 /// Hello, its image as RKI1.
-const IMAGE_AS_BYTES: Row = Row {
+pub(super) const IMAGE_AS_BYTES: Row = Row {
     title: "image_as_bytes",
-    script: "\
+    script: &[
+        "\
         machine 0\n\
         image hello rki\n\
         524b4931 00000100 14000000 00000000 1305a002 9308e000 73000000 9308d000 73000000\n\
@@ -936,6 +869,7 @@ const IMAGE_AS_BYTES: Row = Row {
         getcube 0\n\
         spawn hello 0 0\n\
         run 10\n",
+    ],
     report: "\
         machine 0\n\
         user alice\n\
@@ -956,29 +890,31 @@ const IMAGE_AS_BYTES: Row = Row {
 };
 
 /// A script of comments alone.
-const NO_STATEMENTS: Row = Row {
+pub(super) const NO_STATEMENTS: Row = Row {
     title: "no_statements",
-    script: "\
+    script: &[
+        "\
         # nothing\n\
         \n\
            \t# at all\n",
+    ],
     report: "",
 };
 
 /// A machine without users.
-const NO_USERS: Row = Row {
+pub(super) const NO_USERS: Row = Row {
     title: "no_users",
-    script: "\
-        machine 0\n",
+    script: &["machine 0\n"],
     report: "\
         machine 0\n\
         end\n",
 };
 
 /// Each cause by which an instruction or a call stops a process.
-const STOP_CAUSES: Row = Row {
+pub(super) const STOP_CAUSES: Row = Row {
     title: "stop_causes",
-    script: "\
+    script: &[
+        "\
         machine 0\n\
         image exits asm\n\
         li a0, 7\n\
@@ -1007,9 +943,9 @@ const STOP_CAUSES: Row = Row {
         li a7, 15\n\
         ecall\n\
         end\n\
-        image waits asm\n\
-        li a7, 7\n\
-        ecall\n\
+        image waits asm\n",
+        WAIT,
+        "\
         end\n\
         image notablock asm\n\
         li a0, 3\n\
@@ -1022,18 +958,9 @@ const STOP_CAUSES: Row = Row {
         ecall\n\
         lb t1, 0(a0)\n\
         end\n\
-        image gone asm\n\
-        li a0, 8\n\
-        li a7, 1\n\
-        ecall\n\
-        mv s0, a0\n\
-        li t0, 7\n\
-        sw t0, 0(s0)\n\
-        li a1, -1\n\
-        li a2, 0\n\
-        li a7, 4\n\
-        ecall\n\
-        lw t1, 0(s0)\n\
+        image gone asm\n",
+        GONE_BLOCK,
+        "\
         end\n\
         image spin asm\n\
         loop: j loop\n\
@@ -1072,6 +999,7 @@ const STOP_CAUSES: Row = Row {
         dump 0 2\n\
         dump 0 3\n\
         dump 0 4\n",
+    ],
     report: "\
         machine 0\n\
         user a\n\
@@ -1185,9 +1113,10 @@ const STOP_CAUSES: Row = Row {
 };
 
 /// The counted call past a turn's limit stops the process before its own tests.
-const TURN_LIMIT: Row = Row {
+pub(super) const TURN_LIMIT: Row = Row {
     title: "turn_limit",
-    script: "\
+    script: &[
+        "\
         machine 0\n\
         image calls asm\n\
                 li s0, 4095\n\
@@ -1209,6 +1138,7 @@ const TURN_LIMIT: Row = Row {
         spawn calls 0 0\n\
         run 10\n\
         dump 0 0\n",
+    ],
     report: "\
         machine 0\n\
         user a\n\
@@ -1231,9 +1161,10 @@ const TURN_LIMIT: Row = Row {
 };
 
 /// Of two processes that poll, the one that polls longest is told first.
-const LONGEST_POLLER: Row = Row {
+pub(super) const LONGEST_POLLER: Row = Row {
     title: "longest_poller",
-    script: "\
+    script: &[
+        "\
         machine 0\n\
         image polls asm\n\
         loop:   li a7, 6\n\
@@ -1253,6 +1184,7 @@ const LONGEST_POLLER: Row = Row {
         run 1\n\
         dump 0 0\n\
         dump 0 1\n",
+    ],
     report: "\
         machine 0\n\
         user a\n\
@@ -1305,13 +1237,14 @@ const LONGEST_POLLER: Row = Row {
 };
 
 /// What a process is answered that starts and kills others.
-const ANSWERS: Row = Row {
+pub(super) const ANSWERS: Row = Row {
     title: "answers",
-    script: "\
+    script: &[
+        "\
         machine 0\n\
-        image waits asm\n\
-        li a7, 7\n\
-        ecall\n\
+        image waits asm\n",
+        WAIT,
+        "\
         end\n\
         image asks asm\n\
                 li a0, 0\n\
@@ -1381,6 +1314,7 @@ const ANSWERS: Row = Row {
         run 10\n\
         dump 0 0\n\
         dump 0 1\n",
+    ],
     report: "\
         machine 0\n\
         user a\n\
@@ -1429,9 +1363,10 @@ const ANSWERS: Row = Row {
 };
 
 /// A process asks where it is.
-const NUMBERS: Row = Row {
+pub(super) const NUMBERS: Row = Row {
     title: "numbers",
-    script: "\
+    script: &[
+        "\
         machine 1\n\
         image numbers asm\n\
                 li a7, 10\n\
@@ -1454,6 +1389,7 @@ const NUMBERS: Row = Row {
         spawn numbers 1 5\n\
         run 10\n\
         dump 1 5\n",
+    ],
     report: "\
         machine 1\n\
         user a\n\
@@ -1478,30 +1414,3 @@ const NUMBERS: Row = Row {
         host look quiet\n\
         end\n",
 };
-
-pub(super) const ROWS: [Row; 24] = [
-    HELLO,
-    NOTHING_ALLOWED,
-    TIE,
-    GONE,
-    SIZES,
-    WINDOWS,
-    XMSEND,
-    UNBORN,
-    DEAD,
-    NO_FIT,
-    NOT_CONTIGUOUS,
-    RENAMING,
-    USED_AGAIN,
-    JUMPS,
-    ENDLESS,
-    REFUSED_COMMANDS,
-    IMAGE_AS_BYTES,
-    NO_STATEMENTS,
-    NO_USERS,
-    STOP_CAUSES,
-    TURN_LIMIT,
-    LONGEST_POLLER,
-    ANSWERS,
-    NUMBERS,
-];

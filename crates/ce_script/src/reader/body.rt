@@ -1,16 +1,16 @@
 //! The bodies of images.
-ghost use Rattle.std.specs.Prelude.{◌≡◌, ◌≤◌, ◌<◌, ◌+◌, ◌^◌, ◌++◌, ℕ, List, false, true, flat_map, find, length, map, unwrap_or, option_map, IfOk, IfSome, Some, None, OnOk, MatchResult, MatchOption};
+ghost use Rattle.std.specs.Prelude.{◌≡◌, ◌++◌, ℕ, List, false, true, flat_map, find, map, unwrap_or, option_map, IfOk, IfSome, Some, None, OnOk, MatchResult, MatchOption};
 ghost use Rattle.std.specs.Prelude.{is_none, []};
 ghost use Rattle.std.specs.List.{list_any};
 ghost use Rattle.ce_text.specs.Line.{before_comment};
-ghost use Rattle.ce_text.specs.Words.{words as words_between};
+ghost use Rattle.ce_text.specs.Words.{words_between};
 ghost use Rattle.ce_script.specs.declared.grammar.ImageForm.TheVariants.{Hex, Asm, Rki};
 ghost use Rattle.ce_script.specs.Lines.{Line, has_bad_byte};
-ghost use Rattle.ce_script.specs.Statements.{body_in};
-ghost use Rattle.ce_script.specs.Bodies.{has_bad_word, bytes_of, fault_where, image_in, form_fault, body_fault};
+ghost use Rattle.ce_script.specs.Statements.{found_body};
+ghost use Rattle.ce_script.specs.Bodies.{has_bad_word, body_bytes, first_line_fault, form_image, form_fault, body_fault};
 ghost use Rattle.ce_script.specs.declared.script.ScriptKind.TheVariants.{BadByte, BadImage};
 ghost use Rattle.ce_script.specs.Reading.{Unless, HasFound};
-ghost use Rattle.ce_script.specs.ReadLines.{lines_left, lines_shown, reach_of, IsBody, IsBodyIn};
+ghost use Rattle.ce_script.specs.ReadLines.{lines_left, lines_shown, IsBody, IsBodyIn};
 ghost use Rattle.ce_script.specs.ReadWords.{read_as};
 
 use crate::grammar::ImageForm;
@@ -18,7 +18,7 @@ use crate::reader::line::is_end;
 use crate::reader::rest::{Body, Rest};
 use crate::script::{ScriptFault, ScriptKind};
 use crate::spelling::{are_byte_digits, instruction_in, push_digit_bytes};
-use ce_text::{are_plain, before_comment, cut_at, next_word};
+use ce_text::{are_plain, before_comment, next_line, next_word};
 use rv_asm::{AsmKind, assemble};
 use rv_image::{Image, ImageFault};
 use rv_model::PRIVATE_START;
@@ -35,27 +35,18 @@ pub enum WordKind {
 
 /// The body of the image whose line stands before what is left, and what is left behind its `end`.
 pub fn body_in<'a>(rest: Rest<'a>) -> Option<(Body<'a>, Rest<'a>)>
-    requires { reach_of rest ≤ 2 ^ 31 }
-    ensures { MatchOption result (body_in (lines_left rest.entry) ≡ None)
+    ensures { MatchOption result (found_body (lines_left rest.entry) ≡ None)
         (λ found. IsBodyIn rest.entry found.0 found.1) }
 {
     let all = rest.text?;
     let mut left = rest;
-    while let Some(bytes) = left.text {
-        let (line, behind) = cut_at(bytes, b'\n');
-        let next = Rest {
-            before: left.before + 1,
-            text: behind,
-        };
+    while let Some((line, next)) = left.first_line() {
         if is_end(line) {
-            let text = &all[..all.len() - bytes.len()];
-            return Some((
-                Body {
-                    at: rest.before,
-                    text,
-                },
-                next,
-            ));
+            let body = Body {
+                line: rest.line_count,
+                text: &all[..all.len() - left.byte_count()],
+            };
+            return Some((body, next));
         }
         left = next;
     }
@@ -64,14 +55,13 @@ pub fn body_in<'a>(rest: Rest<'a>) -> Option<(Body<'a>, Rest<'a>)>
 
 /// The first line of a body that has a bad byte.
 fn bad_byte_line(body: Body) -> Option<u32>
-    requires { body.at + length body.text.now < 2 ^ 31 }
     ensures { result
         ≡ option_map (λ line. line.number) (find has_bad_byte (lines_shown body.entry)) }
 {
-    let mut number = body.at;
+    let mut number = body.line;
     let mut rest = Some(body.text);
     while let Some(bytes) = rest {
-        let (line, behind) = cut_at(bytes, b'\n');
+        let (line, behind) = next_line(bytes);
         number += 1;
         if !are_plain(before_comment(line)) {
             return Some(number);
@@ -82,7 +72,7 @@ fn bad_byte_line(body: Body) -> Option<u32>
 }
 
 /// Adds what a word writes.
-#[tactic(auto, unfolding(crate::specs::Spellings::bytes_in))]
+#[tactic(auto, unfolding(crate::specs::Spellings::written_bytes))]
 fn push_word(bytes: &mut Vec<u8>, kind: WordKind, word: &[u8]) -> Result<(), ScriptKind>
     ensures { MatchResult result
         (λ _. (is_none (read_as kind word.now) ≡ false)
@@ -126,20 +116,19 @@ fn push_line(bytes: &mut Vec<u8>, kind: WordKind, line: &[u8]) -> Result<(), Scr
 
 /// The bytes that the words of a body write.
 fn bytes_of(alloc: Global, kind: WordKind, body: Body) -> Result<Vec<u8>, ScriptFault>
-    requires { body.at + length body.text.now < 2 ^ 31 }
     ensures { MatchResult result
-        (λ bytes. (fault_where (has_bad_word (read_as kind)) BadImage
+        (λ bytes. (first_line_fault (has_bad_word (read_as kind)) BadImage
         (lines_shown body.entry) ≡ None)
-        × (bytes.items ≡ bytes_of (read_as kind) (lines_shown body.entry)))
+        × (bytes.items ≡ body_bytes (read_as kind) (lines_shown body.entry)))
         (λ fault. Unless fault.kind
-        (fault_where (has_bad_word (read_as kind)) BadImage
+        (first_line_fault (has_bad_word (read_as kind)) BadImage
         (lines_shown body.entry) ≡ Some fault)) }
 {
     let mut bytes = Vec::new(alloc);
-    let mut number = body.at;
+    let mut number = body.line;
     let mut rest = Some(body.text);
     while let Some(text) = rest {
-        let (line, behind) = cut_at(text, b'\n');
+        let (line, behind) = next_line(text);
         number += 1;
         if let Err(fault) = push_line(&mut bytes, kind, line) {
             return Err(fault.at(number));
@@ -152,30 +141,28 @@ fn bytes_of(alloc: Global, kind: WordKind, body: Body) -> Result<Vec<u8>, Script
 /// The image of instruction words.
 #[tactic(auto, using(crate::proofs::BodyFaults::hex_bad, crate::proofs::BodyFaults::hex_judged, crate::proofs::BodyFaults::hex_there))]
 fn hex_image(alloc: Global, body: Body) -> Result<Image, ScriptFault>
-    requires { body.at + length body.text.now < 2 ^ 31 }
     ensures { (lines : List Line) → IsBody body.entry lines
-        → HasFound result (form_fault Hex body.entry.at lines) (Some (image_in Hex lines)) }
+        → HasFound result (form_fault Hex body.entry.line lines) (Some (form_image Hex lines)) }
 {
     let bytes = bytes_of(alloc, WordKind::Instruction, body)?;
     match Image::of_parts(PRIVATE_START, bytes, 0) {
         Ok(image) => Ok(image),
-        Err(_) => Err(ScriptKind::BadImage.at(body.at)),
+        Err(_) => Err(ScriptKind::BadImage.at(body.line)),
     }
 }
 
 /// The image of bytes in RKI1.
 #[tactic(auto, using(crate::proofs::BodyFaults::rki_bad, crate::proofs::BodyFaults::rki_judged, crate::proofs::BodyFaults::rki_there))]
 fn rki_image(alloc: Global, body: Body) -> Result<Image, ScriptFault>
-    requires { body.at + length body.text.now < 2 ^ 31 }
     ensures { (lines : List Line) → IsBody body.entry lines
-        → HasFound result (form_fault Rki body.entry.at lines) (Some (image_in Rki lines)) }
+        → HasFound result (form_fault Rki body.entry.line lines) (Some (form_image Rki lines)) }
 {
     let bytes = bytes_of(alloc, WordKind::Plain, body)?;
     match rv_image::read(alloc, bytes.as_slice()) {
         Ok(image) => Ok(image),
         Err(fault) => match fault {
-            ImageFault::Memory(want) => Err(ScriptKind::Memory(want).at(body.at)),
-            _ => Err(ScriptKind::BadImage.at(body.at)),
+            ImageFault::Memory(want) => Err(ScriptKind::Memory(want).at(body.line)),
+            _ => Err(ScriptKind::BadImage.at(body.line)),
         },
     }
 }
@@ -183,15 +170,14 @@ fn rki_image(alloc: Global, body: Body) -> Result<Image, ScriptFault>
 /// The image of an assembly text.
 #[tactic(auto, using(crate::proofs::BodyFaults::asm_there, crate::proofs::BodyFaults::asm_bad, crate::proofs::FaultLines::fault_line))]
 fn asm_image(alloc: Global, body: Body) -> Result<Image, ScriptFault>
-    requires { body.at + length body.text.now < 2 ^ 31 }
     ensures { (lines : List Line) → IsBody body.entry lines
-        → HasFound result (form_fault Asm body.entry.at lines) (Some (image_in Asm lines)) }
+        → HasFound result (form_fault Asm body.entry.line lines) (Some (form_image Asm lines)) }
 {
     match assemble(alloc, body.text) {
         Ok(image) => Ok(image),
         Err(fault) => match fault.kind {
-            AsmKind::Memory(want) => Err(ScriptKind::Memory(want).at(body.at)),
-            kind => Err(ScriptKind::Assembly(kind).at(body.at + fault.line)),
+            AsmKind::Memory(want) => Err(ScriptKind::Memory(want).at(body.line)),
+            kind => Err(ScriptKind::Assembly(kind).at(body.line + fault.line)),
         },
     }
 }
@@ -199,9 +185,8 @@ fn asm_image(alloc: Global, body: Body) -> Result<Image, ScriptFault>
 /// The image that a body describes, or the first fault of the body.
 #[tactic(auto, using(crate::proofs::BodyFaults::body_bad_byte, crate::proofs::BodyFaults::body_plain))]
 pub fn image_in(alloc: Global, form: ImageForm, body: Body) -> Result<Image, ScriptFault>
-    requires { body.at + length body.text.now < 2 ^ 31 }
     ensures { (lines : List Line) → IsBody body.entry lines
-        → HasFound result (body_fault form body.entry.at lines) (Some (image_in form lines)) }
+        → HasFound result (body_fault form body.entry.line lines) (Some (form_image form lines)) }
 {
     if let Some(line) = bad_byte_line(body) {
         return Err(ScriptKind::BadByte.at(line));

@@ -1,7 +1,7 @@
 //! Lines and their words.
 ghost use Rattle.std.specs.Prelude.{◌≡◌, ◌≤◌, ◌<◌, ◌+◌, ◌^◌, ◌∷◌, ◌++◌, [], codes, length, map, IfOk, IfSome, Some, OnOk, MatchResult};
 ghost use Rattle.ce_text.specs.Line.{before_comment};
-ghost use Rattle.ce_text.specs.Words.{words as words_between};
+ghost use Rattle.ce_text.specs.Words.{words_between};
 ghost use Rattle.ce_script.specs.Statements.{are_only};
 
 use ce_model::NoMemory;
@@ -45,11 +45,12 @@ pub fn is_end(line: &[u8]) -> bool
 
 impl<'a> WordedLine<'a> {
     ghost use Rattle.ce_script.specs.Statements.{operand};
-    ghost use Rattle.ce_script.specs.ReadLines.{line_of, here_of};
+    ghost use Rattle.ce_script.specs.ReadLines.{plain_line, here_of};
 
     /// The line with this number and these bytes.
     pub fn new(alloc: Global, number: u32, text: &'a [u8]) -> Result<WordedLine<'a>, NoMemory>
-        ensures { IfOk result (λ line. line_of line ≡ record { number = number; text = text.now }) }
+        ensures { IfOk result (λ line.
+            plain_line line ≡ record { number = number; text = text.now }) }
     {
         let words = words_of(alloc, before_comment(text))?;
         Ok(WordedLine {

@@ -1,12 +1,12 @@
 //! The operands of statements.
 ghost use Rattle.std.specs.Prelude.{◌≡◌, ◌∷◌, [], ◌+◌, ◌<◌, ◌^◌, length, IsTrue, ℕ, List, IfSome, Some, None, is_none, option_map, position, bytes_eq, map};
 ghost use Rattle.ce_script.specs.declared.script.ScriptKind.TheVariants.{BadNumber, BadHex};
-ghost use Rattle.ce_script.specs.Spellings.{number_to, data_in, greatest_number};
+ghost use Rattle.ce_script.specs.Spellings.{bounded_number, data_in, greatest_number};
 ghost use Rattle.ce_script.specs.Statements.{operand};
-ghost use Rattle.ce_script.specs.Sayings.{number_at, place_at, command_by};
+ghost use Rattle.ce_script.specs.Sayings.{operand_number, operand_place, command_of_verb};
 ghost use Rattle.ce_script.specs.Verbs.{OldImage, is_command};
-ghost use Rattle.ce_script.specs.Faults.{first_some, fault_where, operand_fault};
-ghost use Rattle.ce_script.specs.Sayings.{number_of};
+ghost use Rattle.ce_script.specs.Faults.{first_some, kind_where, operand_fault};
+ghost use Rattle.ce_script.specs.Sayings.{name_number};
 ghost use Rattle.ce_script.specs.Reading.{HasJudged, operands_judged};
 ghost use Rattle.ce_script.specs.ReadLines.{here_of};
 ghost use Rattle.ce_script.specs.Places.{IsIndexOf};
@@ -24,8 +24,8 @@ use std::alloc::Global;
 #[tactic(auto, using(crate::proofs::Numbers::number_there, crate::proofs::Numbers::number_missing))]
 pub fn number(line: &WordedLine, place: usize, most: u32) -> Result<u32, ScriptKind>
     ensures { HasJudged result
-        (fault_where (is_none (number_to most (operand place (here_of line.now)))) BadNumber)
-        (Some (number_at place (here_of line.now))) }
+        (kind_where (is_none (bounded_number most (operand place (here_of line.now)))) BadNumber)
+        (Some (operand_number place (here_of line.now))) }
 {
     match number_to(line.operand(place), most) {
         Some(number) => Ok(number),
@@ -37,11 +37,12 @@ pub fn number(line: &WordedLine, place: usize, most: u32) -> Result<u32, ScriptK
 fn place(line: &WordedLine, place: usize) -> Result<Place, ScriptKind>
     requires { place < 2 ^ 32 }
     ensures { HasJudged result (first_some
-        (fault_where (is_none (number_to greatest_number (operand place (here_of line.now))))
+        (kind_where (is_none (bounded_number greatest_number (operand place (here_of line.now))))
         BadNumber
-        ∷ fault_where (is_none (number_to greatest_number (operand (place + 1) (here_of line.now))))
+        ∷ kind_where
+        (is_none (bounded_number greatest_number (operand (place + 1) (here_of line.now))))
         BadNumber ∷ []))
-        (Some (place_at place (here_of line.now))) }
+        (Some (operand_place place (here_of line.now))) }
 {
     let node = number(line, place, u32::MAX)?;
     let pid = number(line, place + 1, u32::MAX)?;
@@ -52,7 +53,7 @@ fn place(line: &WordedLine, place: usize) -> Result<Place, ScriptKind>
 fn old_image(images: &NameIndex, word: &[u8]) -> Result<u32, ScriptKind>
     ensures { (names : List (List ℕ)) → IsIndexOf images.now names
         → HasJudged result (operand_fault names OldImage word.now)
-        (Some (number_of word.now names)) }
+        (Some (name_number word.now names)) }
 {
     if !is_name(word) {
         return Err(ScriptKind::BadName);
@@ -66,7 +67,7 @@ fn old_image(images: &NameIndex, word: &[u8]) -> Result<u32, ScriptKind>
 /// The bytes of a message.
 fn data(alloc: Global, line: &WordedLine, place: usize) -> Result<Bytes, ScriptKind>
     ensures { HasJudged result
-        (fault_where (is_none (data_in (operand place (here_of line.now)))) BadHex)
+        (kind_where (is_none (data_in (operand place (here_of line.now)))) BadHex)
         (data_in (operand place (here_of line.now))) }
 {
     match data_in(alloc, line.operand(place))? {
@@ -86,7 +87,7 @@ pub fn command(
     requires { IsTrue (is_command verb) }
     ensures { (names : List (List ℕ)) → IsIndexOf images.now names
         → HasJudged result (operands_judged names verb (here_of line.now))
-        (command_by verb names (here_of line.now)) }
+        (command_of_verb verb names (here_of line.now)) }
 {
     match verb {
         Verb::Getcube => Ok(Command::Getcube(number(line, 1, GREATEST_DIMENSION)?)),

@@ -1,19 +1,66 @@
 //! What is left of a text.
+ghost use Rattle.std.specs.Prelude.{◌+◌, ◌<◌, ◌≤◌, ◌^◌, length, option_map};
+ghost use Rattle.ce_script.specs.Lines.{size_of};
+
+use ce_text::next_line;
 
 /// The lines that are left to read.
 #[derive(Clone, Copy)]
 pub struct Rest<'a> {
     /// How many lines stand before them.
-    pub before: u32,
+    pub line_count: u32,
     /// Their bytes; none where no line is left.
     pub text: Option<&'a [u8]>,
+    ghost counted: { line_count + size_of (option_map (λ bytes. bytes.now) text) ≤ 2 ^ 31 },
 }
 
 /// The body of an image.
 #[derive(Clone, Copy)]
 pub struct Body<'a> {
     /// The number of the image's line.
-    pub at: u32,
+    pub line: u32,
     /// The bytes of its lines, each with its line feed.
     pub text: &'a [u8],
+    ghost counted: { line + length text.now < 2 ^ 31 },
+}
+
+impl<'a> Rest<'a> {
+    ghost use Rattle.std.specs.Prelude.{◌≡◌, [], Some, None, unwrap_or, MatchOption};
+    ghost use Rattle.ce_script.specs.ReadLines.{left_of, IsNext};
+
+    /// All lines of a text.
+    pub fn new(text: &'a [u8]) -> Rest<'a>
+        requires { length text.now < 2 ^ 31 }
+        ensures before { result.line_count ≡ 0 }
+        ensures text { left_of result ≡ Some text.now }
+    {
+        Rest {
+            line_count: 0,
+            text: Some(text),
+        }
+    }
+
+    /// The first line, and the lines behind it.
+    pub fn first_line(self) -> Option<(&'a [u8], Rest<'a>)>
+        ensures { MatchOption result (left_of self.entry ≡ None)
+            (λ found. IsNext self.entry found.0.now found.1) }
+    {
+        let bytes = self.text?;
+        let (line, behind) = next_line(bytes);
+        let next = Rest {
+            line_count: self.line_count + 1,
+            text: behind,
+        };
+        Some((line, next))
+    }
+
+    /// How many bytes they have.
+    pub fn byte_count(self) -> usize
+        ensures { result ≡ length (unwrap_or (left_of self.entry) []) }
+    {
+        match self.text {
+            Some(bytes) => bytes.len(),
+            None => 0,
+        }
+    }
 }

@@ -4,7 +4,7 @@ use Rattle.std.specs.List.{AllByRecursion}
 use Rattle.std.proofs.lemmas.Bool.{and_parts, or_cases}
 use Rattle.ce_model.specs.declared.topology.Place.{Place}
 use Rattle.ce_model.specs.declared.topology.BlockId.{BlockId}
-use Rattle.ce_model.specs.Node.{Node, Call, sends, spawns, kills, arms, looks, takes_mail, is_place, is_host_place}
+use Rattle.ce_model.specs.Node.{Node, Call, send_call, spawn_call, kill_call, arm_call, look_call, mail_call, is_place, is_host_place}
 use Rattle.ce_model.specs.Kernel.{is_target}
 use Rattle.ce_model.specs.Answers.{answer}
 use Rattle.ce_model.specs.Cube.{Cube, CubeState, IsCube, HostCall, send_bytes, start_image, end_process, allow, look_round, take_message, host_call, node_numbers}
@@ -22,14 +22,14 @@ use Rattle.ce_solo.proofs.Projection.Answers.{IsCallIn}
 
 -- all places and blocks that a call names are of a cube of this dimension
 abbrev pub IsCallWithin : ℕ → Call → Type 0
-IsCallWithin d (sends pid to bytes) = AllByRecursion (λ target. IsNumber d target.0.node × IsBlockOf d target.1) to
-IsCallWithin d (spawns pid image to) = to.node < 2 ^ d
-IsCallWithin d (kills pid to) = to.node < 2 ^ d
+IsCallWithin d (send_call pid to bytes) = AllByRecursion (λ target. IsNumber d target.0.node × IsBlockOf d target.1) to
+IsCallWithin d (spawn_call pid image to) = to.node < 2 ^ d
+IsCallWithin d (kill_call pid to) = to.node < 2 ^ d
 IsCallWithin d other = Unit {0}
 
 pub call-in : (d : ℕ) (call : Call) → IsCallWithin d call → IsCallIn d call
-call-in d (spawns pid image to) is = is
-call-in d (kills pid to) is = is
+call-in d (spawn_call pid image to) is = is
+call-in d (kill_call pid to) is = is
 call-in d other is = tt
 
 both_all : (P : Place → Type 0) (Q : BlockId → Type 0) (to : List (Place × BlockId)) → AllByRecursion (λ target. P target.0) to
@@ -52,14 +52,14 @@ targets_numbers node d (target ∷ to) same all =
 
 module _ (cube : Cube) (s : CubeState) (of : IsCube cube) (sound : IsSound cube s) where
   node-within : (r : ℕ) (call : Call) → r < 2 ^ cube.dim → HasMadeCall (s.node r) (says (s.node r)).node call → IsCallWithin cube.dim call
-  node-within r (sends pid to bytes) below said =
+  node-within r (send_call pid to bytes) below said =
       both_all (λ place. IsNumber cube.dim place.node) (IsBlockOf cube.dim) to
       (targets_numbers (says (s.node r)).node cube.dim to (said.became.dim ∙ (sound.nodes r below).dim) said.of_node)
       (held_blocks cube s (map (λ target. target.1) to) sound
       (λ id. omega (arith, said.became.blocks id, count-nil id, total-is id cube.dim s, at_node-is id s r, sum_run-part (at_node id s) r 0 (2 ^ cube.dim) (omega arith) (omega arith))))
-  node-within r (spawns pid image to) below said =
+  node-within r (spawn_call pid image to) below said =
       (place_parts cube.dim to (subst (λ dim. is_place dim to ≡ true) (said.became.dim ∙ (sound.nodes r below).dim) said.of_node.1)).0
-  node-within r (kills pid to) below said =
+  node-within r (kill_call pid to) below said =
       (place_parts cube.dim to (subst (λ dim. is_place dim to ≡ true) (said.became.dim ∙ (sound.nodes r below).dim) said.of_node)).0
   node-within r other below said = tt
 
@@ -74,10 +74,10 @@ module _ (cube : Cube) (s : CubeState) (of : IsCube cube) (sound : IsSound cube 
       (λ name. omega (arith, total-is name cube.dim s, ap (count name) same, count-cons name other store, count-cons name id [], count-nil name, ap (hit name) first))
 
   sends-within : (to : Place) (bytes : List ℕ) (call : Call) (least : Option BlockId) → slice_get s.hoststore 0 ≡ least → is_place cube.dim to ≡ true
-      → option_map (λ id. sends 0 ((to, id) ∷ []) bytes) least ≡ Some call → IsCallWithin cube.dim call
+      → option_map (λ id. send_call 0 ((to, id) ∷ []) bytes) least ≡ Some call → IsCallWithin cube.dim call
   sends-within to bytes call None same place e = absurd (cc)
   sends-within to bytes call (Some id) same place e =
-      within_of (sends 0 ((to, id) ∷ []) bytes) call e ((inl (place_parts cube.dim to place).0, (first_block s.hoststore id refl same).0), tt)
+      within_of (send_call 0 ((to, id) ∷ []) bytes) call e ((inl (place_parts cube.dim to place).0, (first_block s.hoststore id refl same).0), tt)
 
   by_place : (b : Bool) (x : Option Call) (call : Call) → (if b then x else None) ≡ Some call → (b ≡ true) × (x ≡ Some call)
   by_place true x call e = (refl, e)
@@ -88,12 +88,12 @@ module _ (cube : Cube) (s : CubeState) (of : IsCube cube) (sound : IsSound cube 
       let parts = by_place (is_place cube.dim to) _ call e in sends-within to bytes call (slice_get s.hoststore 0) refl parts.0 parts.1
   host-within (start_image image to) call e =
       let parts = by_place (is_place cube.dim to && nat_lt image (length cube.images)) _ call e in
-      within_of (spawns 0 image to) call parts.1 (place_parts cube.dim to (and_parts (is_place cube.dim to) _ parts.0).0).0
+      within_of (spawn_call 0 image to) call parts.1 (place_parts cube.dim to (and_parts (is_place cube.dim to) _ parts.0).0).0
   host-within (end_process to) call e =
-      let parts = by_place (is_place cube.dim to) _ call e in within_of (kills 0 to) call parts.1 (place_parts cube.dim to parts.0).0
-  host-within (allow count) call e = within_of (arms count) call e tt
-  host-within look_round call e = within_of looks call e tt
-  host-within take_message call e = within_of takes_mail call e tt
+      let parts = by_place (is_place cube.dim to) _ call e in within_of (kill_call 0 to) call parts.1 (place_parts cube.dim to parts.0).0
+  host-within (allow count) call e = within_of (arm_call count) call e tt
+  host-within look_round call e = within_of look_call call e tt
+  host-within take_message call e = within_of mail_call call e tt
 
   asked-within : (asked : Option HostCall) (call : Call) → option_and_then (host_call cube s.hoststore) asked ≡ Some call → IsCallWithin cube.dim call
   asked-within None call e = absurd (cc)
@@ -109,7 +109,7 @@ module _ (cube : Cube) (s : CubeState) (of : IsCube cube) (sound : IsSound cube 
 
   pub what-within : (actor : ℕ) (call : Call) → IsCallWithin cube.dim call → IsWhatOf cube.dim (answer (node_numbers cube.dim) s.standing actor call)
   unfolding answer
-  what-within actor (sends pid to bytes) is = is
-  what-within actor (spawns pid image to) is = is
-  what-within actor (kills pid to) is = is
+  what-within actor (send_call pid to bytes) is = is
+  what-within actor (spawn_call pid image to) is = is
+  what-within actor (kill_call pid to) is = is
   what-within actor other is = tt

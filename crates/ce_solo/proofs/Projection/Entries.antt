@@ -10,13 +10,13 @@ use Rattle.ce_model.specs.declared.entry.What.{What}
 use Rattle.ce_model.specs.declared.entry.What.TheVariants.{Send, Spawn, Kill}
 use Rattle.ce_model.specs.declared.entry.KillFound.TheVariants.{Killed, Unused, Already}
 use Rattle.ce_model.specs.declared.entry.TakeResult.{TakeResult}
-use Rattle.ce_model.specs.declared.entry.TakeResult.TheVariants.{Start, Mail, Kill as GivenKill, Poll, Idle, Spent}
+use Rattle.ce_model.specs.declared.entry.TakeResult.TheVariants as take_result
 use Rattle.ce_model.specs.Lists.{without_first}
-use Rattle.ce_model.specs.Parcels.{Parcel, Item, start, mail, kill, is_named_by, item_id, parcels_from}
-use Rattle.ce_model.specs.Trace.{NodeRecord, Mark, items_to, starts_in, kills_in, mails_in, taken_in, spawned_in, killed_in, parcels_of, armed_by, dispatched_by, marked_by}
+use Rattle.ce_model.specs.Parcels.{Parcel, Item, start, mail, kill, is_named_by, item_id, message_parcels}
+use Rattle.ce_model.specs.Trace.{NodeRecord, Mark, items_to, starts_in, kills_in, mails_in, taken_result, start_ids_in, kill_ids_in, sent_parcels, allowed_dispatches_after, made_dispatches_after, mark_after}
 use Rattle.ce_model.specs.Owners.{IsBlockOf}
-use Rattle.ce_model.specs.Renaming.{CubeGrant, place_outward, block_outward, number_outward, targets_renamed, item_with, record_with}
-use Rattle.ce_model.specs.Machine.{item_inward, without_taken, waiting_by, record_by}
+use Rattle.ce_model.specs.Renaming.{CubeGrant, place_outward, block_outward, number_outward, renamed_targets, renamed_item, renamed_record}
+use Rattle.ce_model.specs.Machine.{item_inward, without_taken, waiting_items_after, record_by}
 use Rattle.ce_model.proofs.OneMore.{taken_for}
 use Rattle.ce_solo.proofs.Lists.{joined, joined-is, filter-all, none-from_count, count_by-cons, one_if-true, one_if-false}
 use Rattle.ce_solo.proofs.Steps.{waiting_after, record_by as record_after}
@@ -25,36 +25,36 @@ use Rattle.ce_solo.proofs.Projection.Numbers.{IsPlaced, IsNumber, IsWhatOf, what
 -- ---- what an entry takes and counts has no places and blocks
 
 module _ (grant : CubeGrant) where
-  pub taken-outward : (what : What) → taken_in (what_outward grant what) ≡ taken_in what
+  pub taken-outward : (what : What) → taken_result (what_outward grant what) ≡ taken_result what
   taken-outward (Send pid first to bytes) = refl
   taken-outward (Spawn pid image to fresh) = refl
   taken-outward (Kill pid to found) = refl
   taken-outward other = refl
 
-  pub marked-outward : (mark : Mark) (what : What) → marked_by mark (what_outward grant what) ≡ marked_by mark what
+  pub marked-outward : (mark : Mark) (what : What) → mark_after mark (what_outward grant what) ≡ mark_after mark what
   marked-outward mark (Send pid first to bytes) = refl
   marked-outward mark (Spawn pid image to fresh) = refl
   marked-outward mark (Kill pid to found) = refl
   marked-outward mark other = refl
 
-  pub armed-outward : (count : ℕ) (what : What) → armed_by count (what_outward grant what) ≡ armed_by count what
+  pub armed-outward : (count : ℕ) (what : What) → allowed_dispatches_after count (what_outward grant what) ≡ allowed_dispatches_after count what
   armed-outward count (Send pid first to bytes) = refl
   armed-outward count (Spawn pid image to fresh) = refl
   armed-outward count (Kill pid to found) = refl
   armed-outward count other = refl
 
-  pub dispatched-outward : (count : ℕ) (what : What) → dispatched_by count (what_outward grant what) ≡ dispatched_by count what
+  pub dispatched-outward : (count : ℕ) (what : What) → made_dispatches_after count (what_outward grant what) ≡ made_dispatches_after count what
   dispatched-outward count (Send pid first to bytes) = refl
   dispatched-outward count (Spawn pid image to fresh) = refl
   dispatched-outward count (Kill pid to found) = refl
   dispatched-outward count other = refl
 
   as_many : (from from' : Place) (number : ℕ) (bytes : List ℕ) (to : List (Place × BlockId))
-      → length (parcels_from from' number bytes (targets_renamed (place_outward grant.sub) (block_outward grant) to)) ≡ length (parcels_from from number bytes to)
+      → length (message_parcels from' number bytes (renamed_targets (place_outward grant.sub) (block_outward grant) to)) ≡ length (message_parcels from number bytes to)
   as_many from from' number bytes [] = refl
   as_many from from' number bytes (target ∷ to) = omega (arith, as_many from from' (number + 1) bytes to)
 
-  pub sent-outward : (actor actor' : ℕ) (what : What) → length (parcels_of actor' (what_outward grant what)) ≡ length (parcels_of actor what)
+  pub sent-outward : (actor actor' : ℕ) (what : What) → length (sent_parcels actor' (what_outward grant what)) ≡ length (sent_parcels actor what)
   sent-outward actor actor' (Send pid first to bytes) = as_many (record { node = actor; pid = pid }) (record { node = actor'; pid = pid }) first bytes to
   sent-outward actor actor' (Spawn pid image to fresh) = refl
   sent-outward actor actor' (Kill pid to found) = refl
@@ -66,13 +66,13 @@ abbrev inward_all : CubeGrant → List Item → List Item
 inward_all grant items = map (item_inward grant.sub) items
 
 abbrev outward_all : CubeGrant → List Item → List Item
-outward_all grant items = map (item_with (block_outward grant)) items
+outward_all grant items = map (renamed_item (block_outward grant)) items
 
 module _ (dim : ℕ) (grant : CubeGrant) (of : IsPlaced dim grant) where
   abbrev out : ℕ → ℕ
   out n = number_outward grant.sub n
 
-  pick : (b b' : Bool) (p' p : Parcel) (rest' rest : List Parcel) → b' ≡ b → item_inward grant.sub (mail p') ≡ item_with (block_outward grant) (mail p)
+  pick : (b b' : Bool) (p' p : Parcel) (rest' rest : List Parcel) → b' ≡ b → item_inward grant.sub (mail p') ≡ renamed_item (block_outward grant) (mail p)
       → inward_all grant (map mail rest') ≡ outward_all grant (map mail rest)
       → inward_all grant (map mail (if b' then p' ∷ rest' else rest')) ≡ outward_all grant (map mail (if b then p ∷ rest else rest))
   pick true b' p' p rest' rest e item more =
@@ -82,8 +82,8 @@ module _ (dim : ℕ) (grant : CubeGrant) (of : IsPlaced dim grant) where
   mails_run : (n actor pid number : ℕ) (bytes : List ℕ) (to : List (Place × BlockId)) → IsNumber grant.dim n → IsNumber grant.dim actor
       → AllByRecursion (λ target. IsNumber grant.dim target.0.node × IsBlockOf grant.dim target.1) to
       → inward_all grant (map mail (filter (λ parcel. parcel.to.node == out n)
-      (parcels_from (record { node = out actor; pid = pid }) number bytes (targets_renamed (place_outward grant.sub) (block_outward grant) to))))
-      ≡ outward_all grant (map mail (filter (λ parcel. parcel.to.node == n) (parcels_from (record { node = actor; pid = pid }) number bytes to)))
+      (message_parcels (record { node = out actor; pid = pid }) number bytes (renamed_targets (place_outward grant.sub) (block_outward grant) to))))
+      ≡ outward_all grant (map mail (filter (λ parcel. parcel.to.node == n) (message_parcels (record { node = actor; pid = pid }) number bytes to)))
   mails_run n actor pid number bytes [] of_n of_actor all = refl
   mails_run n actor pid number bytes (target ∷ to) of_n of_actor all =
       pick (target.0.node == n) (out target.0.node == out n) _ _ _ _ (out_test dim grant of target.0.node n all.0.0 of_n)
@@ -148,31 +148,31 @@ module _ (dim : ℕ) (grant : CubeGrant) (of : IsPlaced dim grant) where
       ∙ ap₂ (λ starts rest. starts ++ rest) (ap (inward_all grant) (starts-outward n entry.what of_n is) ∙ starts_named n entry.what)
       (ap₂ (λ kills mails. kills ++ mails) (ap (inward_all grant) (kills-outward n entry.what of_n is) ∙ kills_named n entry.what)
       (mails-outward n entry.actor entry.user entry.what of_n of_actor is))
-      ∙ sym (three_parts (item_with (block_outward grant)) (starts_in n entry.what) (kills_in n entry.what) (mails_in n entry))
+      ∙ sym (three_parts (renamed_item (block_outward grant)) (starts_in n entry.what) (kills_in n entry.what) (mails_in n entry))
 
 -- ---- what an entry takes
 
-named-renamed : (rename : BlockId → BlockId) (given : TakeResult) (item : Item) → is_named_by given (item_with rename item) ≡ is_named_by given item
+named-renamed : (rename : BlockId → BlockId) (given : TakeResult) (item : Item) → is_named_by given (renamed_item rename item) ≡ is_named_by given item
 named-renamed rename given (start pid image) = refl
-named-renamed rename (Start pid image) (mail parcel) = refl
-named-renamed rename (Mail pid number) (mail parcel) = refl
-named-renamed rename (GivenKill pid) (mail parcel) = refl
-named-renamed rename (Poll pid) (mail parcel) = refl
-named-renamed rename Idle (mail parcel) = refl
-named-renamed rename Spent (mail parcel) = refl
+named-renamed rename (take_result.Start pid image) (mail parcel) = refl
+named-renamed rename (take_result.Mail pid number) (mail parcel) = refl
+named-renamed rename (take_result.Kill pid) (mail parcel) = refl
+named-renamed rename (take_result.Poll pid) (mail parcel) = refl
+named-renamed rename take_result.Idle (mail parcel) = refl
+named-renamed rename take_result.Spent (mail parcel) = refl
 named-renamed rename given (kill pid) = refl
 
 first_out : (rename : BlockId → BlockId) (given : TakeResult) (items : List Item) → count_by (is_named_by given) items ≤ 1
-    → without_first (is_named_by given) (map (item_with rename) items) ≡ map (item_with rename) (filter (λ item. not (is_named_by given item)) items)
+    → without_first (is_named_by given) (map (renamed_item rename) items) ≡ map (renamed_item rename) (filter (λ item. not (is_named_by given item)) items)
 first_out rename given [] once = refl
 first_out rename given (item ∷ items) once =
     elim (cases_Bool (is_named_by given item)) [
       | inl named ↦
           let none = none-from_count (is_named_by given) items (omega (arith, once, count_by-cons (is_named_by given) item items, one_if-true (is_named_by given item) named)) in
-          rw (named-renamed rename given item, named) (ap (map (item_with rename)) (sym (filter-all (is_named_by given) items none)))
+          rw (named-renamed rename given item, named) (ap (map (renamed_item rename)) (sym (filter-all (is_named_by given) items none)))
       | inr other ↦
           rw (named-renamed rename given item, other)
-          (ap (λ rest. item_with rename item ∷ rest)
+          (ap (λ rest. renamed_item rename item ∷ rest)
           (first_out rename given items (omega (arith, once, count_by-cons (is_named_by given) item items, one_if-false (is_named_by given item) other))))
     ]
 
@@ -189,7 +189,7 @@ module _ (dim : ℕ) (grant : CubeGrant) (of : IsPlaced dim grant) (entry : Entr
       → ((given : TakeResult) → taken ≡ Some given → (count_by (is_named_by given) waiting ≤ 1) × (sent ≡ []))
       → without_taken taken (outward_all grant waiting) ++ outward_all grant sent ≡ outward_all grant (waiting_after taken sent waiting)
   waiting_by_taken None sent waiting known =
-      sym (map-append (item_with (block_outward grant)) waiting sent) ∙ ap (outward_all grant) (joined-is waiting sent)
+      sym (map-append (renamed_item (block_outward grant)) waiting sent) ∙ ap (outward_all grant) (joined-is waiting sent)
   waiting_by_taken (Some given) sent waiting known =
       ap (λ sent. without_taken (Some given) (outward_all grant waiting) ++ outward_all grant sent) (known given refl).1
       ∙ append-nil (without_taken (Some given) (outward_all grant waiting)) ∙ first_out (block_outward grant) given waiting (known given refl).0
@@ -199,28 +199,28 @@ module _ (dim : ℕ) (grant : CubeGrant) (of : IsPlaced dim grant) (entry : Entr
   IsOneTaken n waiting = (given : TakeResult) → taken_for n entry ≡ Some given → (count_by (is_named_by given) waiting ≤ 1) × (items_to n entry ≡ [])
 
   pub waiting-behind : (n : ℕ) (waiting : List Item) → IsNumber grant.dim n → IsOneTaken n waiting
-      → waiting_by grant.sub (entry_outward grant entry) (number_outward grant.sub n) (outward_all grant waiting)
+      → waiting_items_after grant.sub (entry_outward grant entry) (number_outward grant.sub n) (outward_all grant waiting)
       ≡ outward_all grant (waiting_after (taken_for n entry) (items_to n entry) waiting)
   waiting-behind n waiting of_n one =
-      ap₂ (λ (b : Bool) sent. (if b then without_taken (taken_in (what_outward grant entry.what)) (outward_all grant waiting) else outward_all grant waiting) ++ sent)
+      ap₂ (λ (b : Bool) sent. (if b then without_taken (taken_result (what_outward grant entry.what)) (outward_all grant waiting) else outward_all grant waiting) ++ sent)
       (own_test n of_n) (items-outward dim grant of n entry of_n actor is)
       ∙ ap (λ taken. (if entry.actor == n then without_taken taken (outward_all grant waiting) else outward_all grant waiting) ++ outward_all grant (items_to n entry))
       (taken-outward grant entry.what)
-      ∙ ap (λ items. items ++ outward_all grant (items_to n entry)) (by_own (entry.actor == n) (taken_in entry.what) (outward_all grant waiting))
+      ∙ ap (λ items. items ++ outward_all grant (items_to n entry)) (by_own (entry.actor == n) (taken_result entry.what) (outward_all grant waiting))
       ∙ waiting_by_taken (taken_for n entry) (items_to n entry) waiting one
 
   abbrev record_of : List Item → List ℕ → List ℕ → Mark → NodeRecord
-  record_of waiting spawned killed mark = record { waiting = waiting; spawned = spawned; killed = killed; mark = mark }
+  record_of waiting spawned killed mark = record { waiting_items = waiting; spawned_ids = spawned; killed_ids = killed; mark = mark }
 
-  pub record-behind : (n : ℕ) (kept : NodeRecord) → IsNumber grant.dim n → IsOneTaken n kept.waiting
-      → record_by grant.sub (entry_outward grant entry) (number_outward grant.sub n) (record_with (block_outward grant) kept)
-      ≡ record_with (block_outward grant) (record_after (entry.actor == n) n entry kept)
+  pub record-behind : (n : ℕ) (kept : NodeRecord) → IsNumber grant.dim n → IsOneTaken n kept.waiting_items
+      → record_by grant.sub (entry_outward grant entry) (number_outward grant.sub n) (renamed_record (block_outward grant) kept)
+      ≡ renamed_record (block_outward grant) (record_after (entry.actor == n) n entry kept)
   record-behind n kept of_n one =
-      let spawned : kept.spawned ++ spawned_in (number_outward grant.sub n) (what_outward grant entry.what) ≡ joined kept.spawned (spawned_in n entry.what) =
-      ap (λ items. kept.spawned ++ map item_id items) (starts-outward dim grant of n entry.what of_n is) ∙ joined-is kept.spawned (spawned_in n entry.what) in
-      let killed : kept.killed ++ killed_in (number_outward grant.sub n) (what_outward grant entry.what) ≡ joined kept.killed (killed_in n entry.what) =
-      ap (λ items. kept.killed ++ map item_id items) (kills-outward dim grant of n entry.what of_n is) ∙ joined-is kept.killed (killed_in n entry.what) in
-      let marks : (if (entry_outward grant entry).actor == number_outward grant.sub n then marked_by kept.mark (what_outward grant entry.what) else kept.mark)
-      ≡ (if entry.actor == n then marked_by kept.mark entry.what else kept.mark) =
+      let spawned : kept.spawned_ids ++ start_ids_in (number_outward grant.sub n) (what_outward grant entry.what) ≡ joined kept.spawned_ids (start_ids_in n entry.what) =
+      ap (λ items. kept.spawned_ids ++ map item_id items) (starts-outward dim grant of n entry.what of_n is) ∙ joined-is kept.spawned_ids (start_ids_in n entry.what) in
+      let killed : kept.killed_ids ++ kill_ids_in (number_outward grant.sub n) (what_outward grant entry.what) ≡ joined kept.killed_ids (kill_ids_in n entry.what) =
+      ap (λ items. kept.killed_ids ++ map item_id items) (kills-outward dim grant of n entry.what of_n is) ∙ joined-is kept.killed_ids (kill_ids_in n entry.what) in
+      let marks : (if (entry_outward grant entry).actor == number_outward grant.sub n then mark_after kept.mark (what_outward grant entry.what) else kept.mark)
+      ≡ (if entry.actor == n then mark_after kept.mark entry.what else kept.mark) =
       ap₂ (λ (b : Bool) mark. if b then mark else kept.mark) (own_test n of_n) (marked-outward grant kept.mark entry.what) in
-      λ i. record { waiting = waiting-behind n kept.waiting of_n one i; spawned = spawned i; killed = killed i; mark = marks i }
+      λ i. record { waiting_items = waiting-behind n kept.waiting_items of_n one i; spawned_ids = spawned i; killed_ids = killed i; mark = marks i }

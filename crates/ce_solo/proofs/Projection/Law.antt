@@ -8,23 +8,23 @@ use Rattle.ce_model.specs.declared.entry.What.{What}
 use Rattle.ce_model.specs.declared.entry.What.TheVariants.{Getcube, Peek, Drain, Freecube}
 use Rattle.ce_model.specs.Node.{Call}
 use Rattle.ce_model.specs.Trace.{NodeRecord}
-use Rattle.ce_model.specs.Answers.{answer, call_of}
-use Rattle.ce_model.specs.Cube.{opening, left_by, IsNext, IsAlone}
+use Rattle.ce_model.specs.Answers.{answer, recorded_call}
+use Rattle.ce_model.specs.Cube.{opening, state_after_trace, IsNext, IsAlone}
 use Rattle.ce_model.specs.Subcubes.{node_of, is_inside, first_free}
 use Rattle.ce_model.specs.Renaming.{CubeGrant}
-use Rattle.ce_model.specs.Views.{grant_in, trace_behind, from_grant, view}
-use Rattle.ce_model.specs.Machine.{MachineParts, IsMachine, HeldCube, MachineState, machine_opening, held_by, is_free, nodes_of, standing_of, cube_of, record_by, held_by_entry, with_cube, with_grant, with_drained, without_cube, changed_by, changed_by_call, after, Request, getcube, peek, drain, freecube, in_cube, with_places_outward, what_of_request, IsCallOf, IsFitting, IsLawfulEntry, IsLawful}
+use Rattle.ce_model.specs.Views.{request_grant, trace_behind, history_behind_grant, view}
+use Rattle.ce_model.specs.Machine.{MachineParts, IsMachine, HeldCube, MachineState, machine_opening, cube_held_by, is_free, nodes_of, cube_standing, cube_of, record_by, cube_after_entry, with_cube, with_grant, with_drained, without_cube, state_after_entry, state_after_call, after, Request, getcube, peek, drain, freecube, in_cube, with_places_outward, what_of_request, IsCallOf, IsFitting, IsLawfulEntry, IsLawful}
 use Rattle.ce_model.proofs.Subcubes.{is_inside-node_of}
 use Rattle.ce_model.proofs.Walked.{kept_by_each, each-more}
 use Rattle.ce_model.proofs.AloneByEntries.{alone_by_entries}
-use Rattle.ce_solo.specs.Laws.{Projection}
+use Rattle.ce_solo.specs.Laws.{ViewsAreAlone}
 use Rattle.ce_solo.proofs.Projection.Views.{granted-same, found-more, is_over, over-more, no_drain, view-is}
 use Rattle.ce_solo.proofs.Projection.Held.{held-user, held-own, held-other, record-own, record-other}
 use Rattle.ce_solo.proofs.Projection.Invariant.{IsKept, IsHeld, IsByEntries, IsViewed, AreApart, IsProjected, IsStep, projected-step, or_false}
 use Rattle.ce_solo.proofs.Projection.Own.{IsOwnEntry, own-entry, kept-behind, trace-behind}
 use Rattle.ce_solo.proofs.Projection.Kinds.{and_false, entry_of, held-grant, idle-step, grant-step, drain-step, free-step}
 
-no_grant : (user : ℕ) (what : What) (call : Call) → call_of what ≡ Some call → grant_in user what ≡ None
+no_grant : (user : ℕ) (what : What) (call : Call) → recorded_call what ≡ Some call → request_grant user what ≡ None
 no_grant user (Getcube dim None) call e = absurd (cc)
 no_grant user (Getcube dim (Some sub)) call e = absurd (cc)
 no_grant user other call e = refl
@@ -35,7 +35,7 @@ some_cube x y e = cc
 -- ---- an entry of a cube
 
 module _ (parts : MachineParts) (machine : IsMachine parts) (state : MachineState) (h : List Entry) (before : IsProjected parts state h) (entry : Entry) (cube : HeldCube)
-    (holds : held_by state entry.user ≡ Some cube) (goes : cube.drained ≡ false) where
+    (holds : cube_held_by state entry.user ≡ Some cube) (goes : cube.is_drained ≡ false) where
   abbrev was : IsHeld parts state h cube
   was = before.held entry.user cube holds
 
@@ -43,7 +43,7 @@ module _ (parts : MachineParts) (machine : IsMachine parts) (state : MachineStat
   alone = (before.views cube.number cube.grant was.behind was.found).alone
 
   abbrev change : HeldCube → HeldCube
-  change cube = held_by_entry entry cube
+  change cube = cube_after_entry entry cube
 
   abbrev change_record : HeldCube → ℕ → NodeRecord → NodeRecord
   change_record cube = record_by cube.grant.sub entry
@@ -51,17 +51,17 @@ module _ (parts : MachineParts) (machine : IsMachine parts) (state : MachineStat
   abbrev now : MachineState
   now = with_cube entry.user change change_record state
 
-  held_now : held_by now entry.user ≡ Some (change cube)
+  held_now : cube_held_by now entry.user ≡ Some (change cube)
   held_now = held-own entry.user change (λ cube. refl) change_record state cube holds
 
-  is_now : (cube' : HeldCube) → held_by now entry.user ≡ Some cube' → change cube ≡ cube'
+  is_now : (cube' : HeldCube) → cube_held_by now entry.user ≡ Some cube' → change cube ≡ cube'
   is_now cube' held = some_cube (change cube) cube' (sym held_now ∙ held)
 
   module _ (is : IsOwnEntry parts cube.grant (trace_behind cube.grant was.behind) entry) where
     trace-now : trace_behind cube.grant (was.behind ++ entry ∷ []) ≡ trace_behind cube.grant was.behind ++ is.inner ∷ []
     trace-now = trace-behind parts machine state h cube was goes alone entry is
 
-    over-now : is_over cube.grant (was.behind ++ entry ∷ []) ≡ cube.drained
+    over-now : is_over cube.grant (was.behind ++ entry ∷ []) ≡ cube.is_drained
     over-now = over-more cube.grant was.behind entry ∙ or_false _ _ (and_false _ _ (no_drain entry.what is.call is.called)) ∙ was.over
 
     held-now : IsHeld parts now (h ++ entry ∷ []) (change cube)
@@ -71,9 +71,9 @@ module _ (parts : MachineParts) (machine : IsMachine parts) (state : MachineStat
       found = found-more h entry cube.number cube.grant was.behind was.found;
       over = over-now;
       kept = λ goes_on.
-          subst (λ t. IsKept now.node_record (change cube) (left_by (cube_of parts.images cube.grant) (opening (cube_of parts.images cube.grant)) t).standing) (sym trace-now)
+          subst (λ t. IsKept now.node_record (change cube) (state_after_trace (cube_of parts.images cube.grant) (opening (cube_of parts.images cube.grant)) t).standing) (sym trace-now)
           (kept-behind parts machine state h cube was goes alone entry now.node_record is
-          (λ r below. record-own change_record (node_of cube.grant.sub r) (state.node_record (node_of cube.grant.sub r)) (held_by state entry.user) cube holds
+          (λ r below. record-own change_record (node_of cube.grant.sub r) (state.node_record (node_of cube.grant.sub r)) (cube_held_by state entry.user) cube holds
           (is_inside-node_of cube.grant.sub r was.placed.sub.apart (rw was.placed.sub.dimension below))));
     }
 
@@ -82,14 +82,14 @@ module _ (parts : MachineParts) (machine : IsMachine parts) (state : MachineStat
       placed = was.placed;
       alone = subst (IsByEntries parts cube.grant) (sym trace-now)
           (each-more (IsNext (cube_of parts.images cube.grant) (opening (cube_of parts.images cube.grant))) (trace_behind cube.grant was.behind) is.inner alone is.next);
-      last = inr (change cube, ap (held_by now) (eqb-true _ _ (held-user state entry.user cube holds)) ∙ held_now, refl);
+      last = inr (change cube, ap (cube_held_by now) (eqb-true _ _ (held-user state entry.user cube holds)) ∙ held_now, refl);
     }
 
     pub call-step : IsStep parts state h entry now
     call-step = record {
       count = before.count ∙ sym (granted-same h entry (no_grant entry.user entry.what is.call is.called));
       others = λ other differ. held-other entry.user change (λ cube. refl) change_record state other differ;
-      records = λ node outside. record-other change_record node (state.node_record node) (held_by state entry.user) outside;
+      records = λ node outside. record-other change_record node (state.node_record node) (cube_held_by state entry.user) outside;
       own = λ cube' held. subst (IsHeld parts now (h ++ entry ∷ [])) (is_now cube' held) held-now;
       apart = λ cube' held other cube'' differ held''.
           subst (λ (c : HeldCube). AreApart c.grant.sub cube''.grant.sub) (is_now cube' held) (before.apart entry.user other cube cube'' differ holds held'');
@@ -97,9 +97,9 @@ module _ (parts : MachineParts) (machine : IsMachine parts) (state : MachineStat
           inr (change cube, held_now, subst (λ (c : HeldCube). is_inside c.grant.sub node ≡ true) (some_cube cube' cube (sym held ∙ holds)) inside);
       view = λ number grant behind found lasts user.
           let g = held-grant parts state h before number grant behind found lasts in
-          let same : g.cube ≡ cube = some_cube g.cube cube (sym g.holds ∙ ap (held_by state) (sym (eqb-true _ _ user)) ∙ holds) in
+          let same : g.cube ≡ cube = some_cube g.cube cube (sym g.holds ∙ ap (cube_held_by state) (sym (eqb-true _ _ user)) ∙ holds) in
           let num : cube.number ≡ number = ap (λ (c : HeldCube). c.number) (sym same) ∙ g.number_is in
-          let both : Some (cube.grant, was.behind) ≡ Some (grant, behind) = sym was.found ∙ ap (from_grant h) num ∙ found in
+          let both : Some (cube.grant, was.behind) ≡ Some (grant, behind) = sym was.found ∙ ap (history_behind_grant h) num ∙ found in
           let pair : (cube.grant, was.behind) ≡ (grant, behind) = cc in
           subst (λ (f : CubeGrant × List Entry). IsViewed parts now number f.0 (f.1 ++ entry ∷ [])) pair
           (subst (λ n. IsViewed parts now n cube.grant (was.behind ++ entry ∷ [])) num viewed-now);
@@ -108,9 +108,9 @@ module _ (parts : MachineParts) (machine : IsMachine parts) (state : MachineStat
 
 -- ---- a lawful entry
 
-pub after-more : (h : List Entry) (entry : Entry) → after (h ++ entry ∷ []) ≡ changed_by (after h) entry
+pub after-more : (h : List Entry) (entry : Entry) → after (h ++ entry ∷ []) ≡ state_after_entry (after h) entry
 unfolding after
-after-more h entry = fold-append changed_by machine_opening h (entry ∷ [])
+after-more h entry = fold-append state_after_entry machine_opening h (entry ∷ [])
 
 -- what holds of a history and of the state that it leaves
 abbrev pub IsProjectedHistory : MachineParts → List Entry → Type 0
@@ -121,7 +121,7 @@ abbrev pub IsStepBehind : MachineParts → List Entry → Entry → Type 0
 IsStepBehind parts h entry = IsStep parts (after h) h entry (after (h ++ entry ∷ []))
 
 module _ (parts : MachineParts) (machine : IsMachine parts) (h : List Entry) (before : IsProjectedHistory parts h) where
-  by_step : (entry : Entry) (state : MachineState) → changed_by (after h) entry ≡ state → IsStep parts (after h) h entry state → IsStepBehind parts h entry
+  by_step : (entry : Entry) (state : MachineState) → state_after_entry (after h) entry ≡ state → IsStep parts (after h) h entry state → IsStepBehind parts h entry
   by_step entry state e step = subst (IsStep parts (after h) h entry) (sym (after-more h entry ∙ e)) step
 
   by_what : (entry : Entry) (what : What) → Some what ≡ Some entry.what → IsStepBehind parts h (entry_of entry.user entry.actor what) → IsStepBehind parts h entry
@@ -129,7 +129,7 @@ module _ (parts : MachineParts) (machine : IsMachine parts) (h : List Entry) (be
       let same : what ≡ entry.what = cc in subst (λ what. IsStepBehind parts h (entry_of entry.user entry.actor what)) same steps
 
   by_grant : (entry : Entry) (d : ℕ) (found : Option Subcube) → first_free (is_free (after h)) parts.dim d ≡ found → entry.user < parts.users
-      → held_by (after h) entry.user ≡ None → Some (Getcube d found) ≡ Some entry.what → IsStepBehind parts h entry
+      → cube_held_by (after h) entry.user ≡ None → Some (Getcube d found) ≡ Some entry.what → IsStepBehind parts h entry
   by_grant entry d None is within none e =
       by_what entry (Getcube d None) e
       (by_step (entry_of entry.user entry.actor (Getcube d None)) (after h) refl
@@ -139,14 +139,14 @@ module _ (parts : MachineParts) (machine : IsMachine parts) (h : List Entry) (be
       (by_step (entry_of entry.user entry.actor (Getcube d (Some sub))) (with_grant (record { user = entry.user; dim = d; sub = sub }) (after h)) refl
       (grant-step parts (after h) h before machine entry.user entry.actor d sub within none is))
 
-  by_drain : (entry : Entry) (held : Option HeldCube) → held_by (after h) entry.user ≡ held → IsSomeAnd held (λ cube. cube.drained ≡ false)
+  by_drain : (entry : Entry) (held : Option HeldCube) → cube_held_by (after h) entry.user ≡ held → IsSomeAnd held (λ cube. cube.is_drained ≡ false)
       → Some Drain ≡ Some entry.what → IsStepBehind parts h entry
   by_drain entry None is some e = absurd some
   by_drain entry (Some cube) is some e =
       by_what entry Drain e
       (by_step (entry_of entry.user entry.actor Drain) (with_drained entry.user (after h)) refl (drain-step parts (after h) h before entry.user entry.actor cube is))
 
-  by_free : (entry : Entry) (held : Option HeldCube) → held_by (after h) entry.user ≡ held → IsSomeAnd held (λ cube. cube.drained ≡ true)
+  by_free : (entry : Entry) (held : Option HeldCube) → cube_held_by (after h) entry.user ≡ held → IsSomeAnd held (λ cube. cube.is_drained ≡ true)
       → Some Freecube ≡ Some entry.what → IsStepBehind parts h entry
   by_free entry None is some e = absurd some
   by_free entry (Some cube) is some e =
@@ -154,27 +154,27 @@ module _ (parts : MachineParts) (machine : IsMachine parts) (h : List Entry) (be
       (by_step (entry_of entry.user entry.actor Freecube) (without_cube entry.user (after h)) refl (free-step parts (after h) h before entry.user entry.actor cube is some))
 
   -- a call of a cube that is held makes its next entry
-  pub own-called : (entry : Entry) (call : Call) (cube : HeldCube) (is : held_by (after h) entry.user ≡ Some cube) → IsCallOf parts h entry.actor call cube
-      → Some (answer (nodes_of cube.grant) (standing_of (after h) cube) entry.actor (with_places_outward cube.grant call)) ≡ Some entry.what
+  pub own-called : (entry : Entry) (call : Call) (cube : HeldCube) (is : cube_held_by (after h) entry.user ≡ Some cube) → IsCallOf parts h entry.actor call cube
+      → Some (answer (nodes_of cube.grant) (cube_standing (after h) cube) entry.actor (with_places_outward cube.grant call)) ≡ Some entry.what
       → IsOwnEntry parts cube.grant (trace_behind cube.grant (before.held entry.user cube is).behind) entry
   own-called entry call cube is fits e =
       let was = before.held entry.user cube is in
       let views = before.views cube.number cube.grant was.behind was.found in
-      let what : answer (nodes_of cube.grant) (standing_of (after h) cube) entry.actor (with_places_outward cube.grant call) ≡ entry.what = some_what _ _ e in
+      let what : answer (nodes_of cube.grant) (cube_standing (after h) cube) entry.actor (with_places_outward cube.grant call) ≡ entry.what = some_what _ _ e in
       own-entry parts machine (after h) h cube was fits.not_drained views.alone entry fits.made (sym (eqb-true _ _ (held-user (after h) entry.user cube is))) fits.inside fits.next
-      (ap (λ call. answer (nodes_of cube.grant) (standing_of (after h) cube) entry.actor (with_places_outward cube.grant call)) fits.renamed ∙ what)
+      (ap (λ call. answer (nodes_of cube.grant) (cube_standing (after h) cube) entry.actor (with_places_outward cube.grant call)) fits.renamed ∙ what)
     where
       some_what : (x y : What) → Some x ≡ Some y → x ≡ y
       some_what x y e = ap (λ o. elim o [ None ↦ x | Some z ↦ z ]) e
 
-  by_call : (entry : Entry) (call : Call) (held : Option HeldCube) → held_by (after h) entry.user ≡ held → IsSomeAnd held (IsCallOf parts h entry.actor call)
-      → option_map (λ cube. answer (nodes_of cube.grant) (standing_of (after h) cube) entry.actor (with_places_outward cube.grant call)) held ≡ Some entry.what
+  by_call : (entry : Entry) (call : Call) (held : Option HeldCube) → cube_held_by (after h) entry.user ≡ held → IsSomeAnd held (IsCallOf parts h entry.actor call)
+      → option_map (λ cube. answer (nodes_of cube.grant) (cube_standing (after h) cube) entry.actor (with_places_outward cube.grant call)) held ≡ Some entry.what
       → IsStepBehind parts h entry
   by_call entry call None is some e = absurd some
   by_call entry call (Some cube) is fits e =
       let own = own-called entry call cube is fits e in
-      by_step entry (with_cube entry.user (held_by_entry entry) (λ cube. record_by cube.grant.sub entry) (after h))
-      (ap (λ call. changed_by_call call entry (after h)) own.called)
+      by_step entry (with_cube entry.user (cube_after_entry entry) (λ cube. record_by cube.grant.sub entry) (after h))
+      (ap (λ call. state_after_call call entry (after h)) own.called)
       (call-step parts machine (after h) h before entry cube is fits.not_drained own)
 
   by_request : (entry : Entry) (request : Request) → IsFitting parts h entry.user entry.actor request → what_of_request parts (after h) entry.user entry.actor request ≡ Some entry.what
@@ -184,9 +184,9 @@ module _ (parts : MachineParts) (machine : IsMachine parts) (h : List Entry) (be
       by_what entry Peek e
       (by_step (entry_of entry.user entry.actor Peek) (after h) refl
       (idle-step parts (after h) h before (entry_of entry.user entry.actor Peek) refl refl refl))
-  by_request entry drain fits e = by_drain entry (held_by (after h) entry.user) refl fits.1.1 e
-  by_request entry freecube fits e = by_free entry (held_by (after h) entry.user) refl fits.1.1 e
-  by_request entry (in_cube call) fits e = by_call entry call (held_by (after h) entry.user) refl fits.1 e
+  by_request entry drain fits e = by_drain entry (cube_held_by (after h) entry.user) refl fits.1.1 e
+  by_request entry freecube fits e = by_free entry (cube_held_by (after h) entry.user) refl fits.1.1 e
+  by_request entry (in_cube call) fits e = by_call entry call (cube_held_by (after h) entry.user) refl fits.1 e
 
   pub lawful-step : (entry : Entry) → IsLawfulEntry parts h entry → IsStepBehind parts h entry
   lawful-step entry lawful = by_request entry lawful.request lawful.fits lawful.answer
@@ -210,13 +210,13 @@ projected parts history machine lawful =
     (projected-nil parts) lawful
 
 pub found_alone : (parts : MachineParts) (history : List Entry) (number : ℕ) → IsProjected parts (after history) history → (found : Option (CubeGrant × List Entry))
-    → from_grant history number ≡ found → IfSome found (λ found. IsAlone (cube_of parts.images found.0) (view history number))
+    → history_behind_grant history number ≡ found → IfSome found (λ found. IsAlone (cube_of parts.images found.0) (view history number))
 found_alone parts history number all None is = tt
 found_alone parts history number all (Some found) is =
     let cube = cube_of parts.images found.0 in
     subst (IsAlone cube) (sym (view-is history number found.0 found.1 is))
     (alone_by_entries cube (opening cube) (trace_behind found.0 found.1) (all.views number found.0 found.1 is).alone)
 
-pub projection : Projection
+pub projection : ViewsAreAlone
 projection parts history number machine lawful =
-    found_alone parts history number (projected parts history machine lawful) (from_grant history number) refl
+    found_alone parts history number (projected parts history machine lawful) (history_behind_grant history number) refl

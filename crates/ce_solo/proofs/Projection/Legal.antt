@@ -3,9 +3,9 @@ use Rattle.std.proofs.Common.{◌≡◌, ℕ, List, Option, Some, None, IfSome, 
 use Rattle.ce_model.specs.declared.entry.Entry.{Entry}
 use Rattle.ce_model.specs.Cube.{Cube, opening, solo, host_calls, actors, IsAlone}
 use Rattle.ce_model.specs.Renaming.{CubeGrant}
-use Rattle.ce_model.specs.Views.{from_grant, view}
+use Rattle.ce_model.specs.Views.{history_behind_grant, view}
 use Rattle.ce_model.specs.Machine.{MachineParts, IsMachine, cube_of}
-use Rattle.ce_solo.specs.Laws.{IsLegal, LawfulIsLegal, AreSame, SameTrace}
+use Rattle.ce_solo.specs.Laws.{IsLegalTrace, LawfulIsLegal, AreSame, AreViewsSame}
 use Rattle.ce_solo.proofs.Fresh.{fresh_sound}
 use Rattle.ce_solo.proofs.Stands.{stands-front}
 use Rattle.ce_solo.proofs.Ordered.{in_order}
@@ -14,7 +14,7 @@ use Rattle.ce_solo.proofs.Projection.Own.{own_cube}
 use Rattle.ce_solo.proofs.Projection.Law.{IsProjectedHistory, projected, found_alone}
 
 legal : (parts : MachineParts) (grant : CubeGrant) (t : List Entry) → IsMachine parts → IsPlaced parts.dim grant → IsAlone (cube_of parts.images grant) t
-    → IsLegal (cube_of parts.images grant) t
+    → IsLegalTrace (cube_of parts.images grant) t
 legal parts grant t machine placed alone =
     let cube = cube_of parts.images grant in
     let of = own_cube parts grant machine placed in
@@ -25,14 +25,14 @@ legal parts grant t machine placed alone =
     )
 
 found_legal : (parts : MachineParts) (history : List Entry) (number : ℕ) → IsMachine parts → IsProjectedHistory parts history → (found : Option (CubeGrant × List Entry))
-    → from_grant history number ≡ found → IfSome found (λ found. IsLegal (cube_of parts.images found.0) (view history number))
+    → history_behind_grant history number ≡ found → IfSome found (λ found. IsLegalTrace (cube_of parts.images found.0) (view history number))
 found_legal parts history number machine all None is = tt
 found_legal parts history number machine all (Some found) is =
     legal parts found.0 (view history number) machine (all.views number found.0 found.1 is).placed (found_alone parts history number all (Some found) is)
 
 pub lawful_is_legal : LawfulIsLegal
 lawful_is_legal parts history number machine lawful =
-    found_legal parts history number machine (projected parts history machine lawful) (from_grant history number) refl
+    found_legal parts history number machine (projected parts history machine lawful) (history_behind_grant history number) refl
 
 -- one cube gives one trace
 same_alone : (cube cube' : Cube) (t t' : List Entry) → IsAlone cube t → IsAlone cube' t' → AreSame cube cube' t t'
@@ -42,7 +42,7 @@ same_alone cube cube' t t' alone alone' cubes calls order =
     cc
 
 found_same : (parts parts' : MachineParts) (history history' : List Entry) (number number' : ℕ) → IsProjectedHistory parts history → IsProjectedHistory parts' history'
-    → (found found' : Option (CubeGrant × List Entry)) → from_grant history number ≡ found → from_grant history' number' ≡ found'
+    → (found found' : Option (CubeGrant × List Entry)) → history_behind_grant history number ≡ found → history_behind_grant history' number' ≡ found'
     → IfSome found (λ found. IfSome found' (λ found'.
     AreSame (cube_of parts.images found.0) (cube_of parts'.images found'.0) (view history number) (view history' number')))
 found_same parts parts' history history' number number' all all' None found' is is' = tt
@@ -51,7 +51,7 @@ found_same parts parts' history history' number number' all all' (Some found) (S
     same_alone (cube_of parts.images found.0) (cube_of parts'.images found'.0) (view history number) (view history' number')
     (found_alone parts history number all (Some found) is) (found_alone parts' history' number' all' (Some found') is')
 
-pub same_trace : SameTrace
+pub same_trace : AreViewsSame
 same_trace parts parts' history history' number number' machine machine' lawful lawful' =
     found_same parts parts' history history' number number' (projected parts history machine lawful) (projected parts' history' machine' lawful')
-    (from_grant history number) (from_grant history' number') refl refl
+    (history_behind_grant history number) (history_behind_grant history' number') refl refl

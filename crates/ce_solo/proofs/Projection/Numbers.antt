@@ -9,9 +9,9 @@ use Rattle.ce_model.specs.declared.entry.Entry.{Entry}
 use Rattle.ce_model.specs.declared.entry.What.{What}
 use Rattle.ce_model.specs.declared.entry.What.TheVariants.{Send, Spawn, Kill}
 use Rattle.ce_model.specs.Limits.{greatest_dim, greatest_users, host_home, host_home_lem}
-use Rattle.ce_model.specs.Subcubes.{relative, extract, node_of, is_inside, IsSubcube}
+use Rattle.ce_model.specs.Subcubes.{relative_number, extract, node_of, is_inside, IsSubcube}
 use Rattle.ce_model.specs.Owners.{IsBlockOf}
-use Rattle.ce_model.specs.Renaming.{CubeGrant, place_inward, place_outward, block_inward, block_outward, number_outward, targets_renamed, what_renamed, entry_inward}
+use Rattle.ce_model.specs.Renaming.{CubeGrant, place_inward, place_outward, block_inward, block_outward, number_outward, renamed_targets, renamed_what, entry_inward}
 use Rattle.ce_solo.proofs.Renaming.Grants.{few_nodes}
 use Rattle.ce_model.proofs.Subcubes.{extract-node_of, extract-below, node_of-within, node_of-extract, ones_of-bound}
 
@@ -34,7 +34,7 @@ IsWhatOf d other = Unit {0}
 
 -- an entry of a cube, as the machine knows it
 abbrev pub what_outward : CubeGrant → What → What
-what_outward grant what = what_renamed (place_outward grant.sub) (block_outward grant) what
+what_outward grant what = renamed_what (place_outward grant.sub) (block_outward grant) what
 
 abbrev pub entry_outward : CubeGrant → Entry → Entry
 entry_outward grant entry =
@@ -71,25 +71,25 @@ module _ (dim : ℕ) (grant : CubeGrant) (of : IsPlaced dim grant) where
   pub extract_out : (r : ℕ) → r < 2 ^ grant.dim → extract (node_of grant.sub r) grant.sub.mask ≡ r
   extract_out r below = extract-node_of grant.sub r of.sub.apart (rw of.sub.dimension below)
 
-  pub relative_out : (r : ℕ) → r < 2 ^ grant.dim → relative grant.sub (node_of grant.sub r) ≡ r
-  unfolding relative
+  pub relative_out : (r : ℕ) → r < 2 ^ grant.dim → relative_number grant.sub (node_of grant.sub r) ≡ r
+  unfolding relative_number
   relative_out r below = rw (out_no_host r) (extract_out r below)
 
-  pub relative_host : relative grant.sub HOST ≡ HOST
-  unfolding relative
+  pub relative_host : relative_number grant.sub HOST ≡ HOST
+  unfolding relative_number
   relative_host = refl
 
-  pub in_out : (n : ℕ) → IsNumber grant.dim n → relative grant.sub (number_outward grant.sub n) ≡ n
-  in_out n (inl below) = ap (relative grant.sub) (out_node n below) ∙ relative_out n below
+  pub in_out : (n : ℕ) → IsNumber grant.dim n → relative_number grant.sub (number_outward grant.sub n) ≡ n
+  in_out n (inl below) = ap (relative_number grant.sub) (out_node n below) ∙ relative_out n below
   in_out n (inr host) =
-      ap (λ m. relative grant.sub (number_outward grant.sub m)) host ∙ ap (relative grant.sub) (out_host grant) ∙ relative_host ∙ sym host
+      ap (λ m. relative_number grant.sub (number_outward grant.sub m)) host ∙ ap (relative_number grant.sub) (out_host grant) ∙ relative_host ∙ sym host
 
   pub out_test : (a b : ℕ) → IsNumber grant.dim a → IsNumber grant.dim b → (number_outward grant.sub a == number_outward grant.sub b) ≡ (a == b)
   out_test a b of_a of_b =
       elim (cases_eq a b) [
         | inl same ↦ eq-eqb _ _ (ap (number_outward grant.sub) same) ∙ sym (eq-eqb a b same)
         | inr differ ↦
-            ne_eqb _ _ (λ e. differ (sym (in_out a of_a) ∙ ap (relative grant.sub) e ∙ in_out b of_b)) ∙ sym (ne_eqb a b differ)
+            ne_eqb _ _ (λ e. differ (sym (in_out a of_a) ∙ ap (relative_number grant.sub) e ∙ in_out b of_b)) ∙ sym (ne_eqb a b differ)
       ]
 
   -- an actor inside, or the host, has a number of the cube, which leads back to it
@@ -100,8 +100,8 @@ module _ (dim : ℕ) (grant : CubeGrant) (of : IsPlaced dim grant) where
   inside_no_host node inside =
       ne_eqb node HOST (λ e. omega (arith, out_below (extract node grant.sub.mask), node_of-extract grant.sub node inside))
 
-  pub relative_inside : (node : ℕ) → is_inside grant.sub node ≡ true → relative grant.sub node ≡ extract node grant.sub.mask
-  unfolding relative
+  pub relative_inside : (node : ℕ) → is_inside grant.sub node ≡ true → relative_number grant.sub node ≡ extract node grant.sub.mask
+  unfolding relative_number
   relative_inside node inside = rw (inside_no_host node inside) refl
 
   pub host_outside : is_inside grant.sub HOST ≡ false
@@ -124,13 +124,13 @@ module _ (dim : ℕ) (grant : CubeGrant) (of : IsPlaced dim grant) where
   place_in_out to is = ap (place_at to.pid) (in_out to.node is)
 
   targets_in_out : (to : List (Place × BlockId)) → AllByRecursion (λ target. IsNumber grant.dim target.0.node × IsBlockOf grant.dim target.1) to
-      → targets_renamed (place_inward grant.sub) (block_inward grant.sub) (targets_renamed (place_outward grant.sub) (block_outward grant) to) ≡ to
+      → renamed_targets (place_inward grant.sub) (block_inward grant.sub) (renamed_targets (place_outward grant.sub) (block_outward grant) to) ≡ to
   targets_in_out [] all = refl
   targets_in_out (target ∷ to) all =
       λ i. (place_in_out target.0 all.0.0 i, block_in_out target.1 all.0.1 i) ∷ targets_in_out to all.1 i
 
   -- what the cube says, outwards and back
-  pub what_in_out : (what : What) → IsWhatOf grant.dim what → what_renamed (place_inward grant.sub) (block_inward grant.sub) (what_outward grant what) ≡ what
+  pub what_in_out : (what : What) → IsWhatOf grant.dim what → renamed_what (place_inward grant.sub) (block_inward grant.sub) (what_outward grant what) ≡ what
   what_in_out (Send pid first to bytes) is = ap (λ to. Send pid first to bytes) (targets_in_out to is)
   what_in_out (Spawn pid image to fresh) is = ap (λ to. Spawn pid image to fresh) (place_in_out to (inl is))
   what_in_out (Kill pid to found) is = ap (λ to. Kill pid to found) (place_in_out to (inl is))

@@ -7,15 +7,15 @@ use Rattle.ce_model.specs.declared.entry.Entry.{Entry}
 use Rattle.ce_model.specs.declared.entry.What.{What}
 use Rattle.ce_model.specs.declared.entry.What.TheVariants.{Peek}
 use Rattle.ce_model.specs.Node.{Node, Call}
-use Rattle.ce_model.specs.Answers.{answer, call_of}
+use Rattle.ce_model.specs.Answers.{answer, recorded_call}
 use Rattle.ce_model.specs.Saying.{says}
-use Rattle.ce_model.specs.Cube.{Cube, CubeState, opening, asked_by, call_by, HostCall, is_node, state, hoststore}
-use Rattle.ce_model.specs.Subcubes.{is_inside, relative}
-use Rattle.ce_model.specs.Renaming.{call_with, block_outward, CubeGrant, number_outward}
+use Rattle.ce_model.specs.Cube.{Cube, CubeState, opening, asked_host_call, actor_call, HostCall, is_node, state, hoststore}
+use Rattle.ce_model.specs.Subcubes.{is_inside, relative_number}
+use Rattle.ce_model.specs.Renaming.{renamed_call_blocks, block_outward, CubeGrant, number_outward}
 use Rattle.ce_model.specs.Views.{trace_behind, view}
-use Rattle.ce_model.specs.Machine.{MachineParts, IsMachine, HeldCube, held_by, nodes_of, standing_of, with_places_outward, record_by, held_by_entry, with_cube, changed_by, changed_by_call, cube_of, after, Request, getcube, peek, drain, freecube, in_cube, is_alone, what_of_request, IsCallOf, IsFittingIn, IsFitting, IsLawfulEntry}
+use Rattle.ce_model.specs.Machine.{MachineParts, IsMachine, HeldCube, cube_held_by, nodes_of, cube_standing, with_places_outward, record_by, cube_after_entry, with_cube, state_after_entry, state_after_call, cube_of, after, Request, getcube, peek, drain, freecube, in_cube, is_alone, what_of_request, IsCallOf, IsFittingIn, IsFitting, IsLawfulEntry}
 use Rattle.ce_model.proofs.OneMore.{state-more, hoststore-more}
-use Rattle.ce_solo.specs.Laws.{IsForeign, StillFits}
+use Rattle.ce_solo.specs.Laws.{IsForeign, RequestsStillFit}
 use Rattle.ce_solo.proofs.Projection.Views.{found-more, trace-stays, view-is}
 use Rattle.ce_solo.proofs.Projection.Held.{held-user, held-own}
 use Rattle.ce_solo.proofs.Projection.Invariant.{IsHeld}
@@ -27,7 +27,7 @@ use Rattle.ce_solo.proofs.Projection.Law.{IsProjectedHistory, after-more, projec
 
 -- what an actor does next doesn't hang on the last entry, which is another's
 call_by-other : (cube : Cube) (o : CubeState) (t : List Entry) (actor : ℕ) (asked : Option HostCall) (entry : Entry) → (entry.actor == actor) ≡ false
-    → call_by cube o (t ++ entry ∷ []) actor asked ≡ call_by cube o t actor asked
+    → actor_call cube o (t ++ entry ∷ []) actor asked ≡ actor_call cube o t actor asked
 call_by-other cube o t actor asked entry other =
     elim (cases_Bool (actor == HOST)) [
       | inl host ↦
@@ -39,37 +39,37 @@ call_by-other cube o t actor asked entry other =
           by_node node same
     ]
   where
-    by_host : (actor == HOST) ≡ true → hoststore o (t ++ entry ∷ []) ≡ hoststore o t → call_by cube o (t ++ entry ∷ []) actor asked ≡ call_by cube o t actor asked
+    by_host : (actor == HOST) ≡ true → hoststore o (t ++ entry ∷ []) ≡ hoststore o t → actor_call cube o (t ++ entry ∷ []) actor asked ≡ actor_call cube o t actor asked
     by_host host store = rw (host, store) refl
 
     by_node : (actor == HOST) ≡ false → state cube o actor (t ++ entry ∷ []) ≡ state cube o actor t
-        → call_by cube o (t ++ entry ∷ []) actor asked ≡ call_by cube o t actor asked
+        → actor_call cube o (t ++ entry ∷ []) actor asked ≡ actor_call cube o t actor asked
     by_node node same = rw node (ap (λ (now : Node). if is_node cube actor then Some (says now).call else None) same)
 
 -- ---- what is asked of the history
 
 -- what fits goes on fitting where its user holds what it held, and its cube's next call is what it was
 fits-on : (parts : MachineParts) (h h' : List Entry) (user actor : ℕ) (request : Request)
-    → ((held : Option HeldCube) → held_by (after h) user ≡ held → held ≡ None → held_by (after h') user ≡ None)
-    → ((drained : Bool) → IsSomeAnd (held_by (after h) user) (λ cube. cube.drained ≡ drained) → IsSomeAnd (held_by (after h') user) (λ cube. cube.drained ≡ drained))
-    → ((call : Call) → IsSomeAnd (held_by (after h) user) (IsCallOf parts h actor call) → IsSomeAnd (held_by (after h') user) (IsCallOf parts h' actor call))
+    → ((held : Option HeldCube) → cube_held_by (after h) user ≡ held → held ≡ None → cube_held_by (after h') user ≡ None)
+    → ((drained : Bool) → IsSomeAnd (cube_held_by (after h) user) (λ cube. cube.is_drained ≡ drained) → IsSomeAnd (cube_held_by (after h') user) (λ cube. cube.is_drained ≡ drained))
+    → ((call : Call) → IsSomeAnd (cube_held_by (after h) user) (IsCallOf parts h actor call) → IsSomeAnd (cube_held_by (after h') user) (IsCallOf parts h' actor call))
     → IsFittingIn parts h user actor request → IsFittingIn parts h' user actor request
-fits-on parts h h' user actor (getcube d) none drained call fits = (fits.0, fits.1, none (held_by (after h) user) refl fits.2)
+fits-on parts h h' user actor (getcube d) none drained call fits = (fits.0, fits.1, none (cube_held_by (after h) user) refl fits.2)
 fits-on parts h h' user actor peek none drained call fits = fits
 fits-on parts h h' user actor drain none drained call fits = (fits.0, drained false fits.1)
 fits-on parts h h' user actor freecube none drained call fits = (fits.0, drained true fits.1)
 fits-on parts h h' user actor (in_cube asked) none drained call fits = call asked fits
 
-call_of-kept : (parts : MachineParts) (h h' : List Entry) (actor : ℕ) (call : Call) (cube cube' : HeldCube) → cube'.grant ≡ cube.grant → cube'.drained ≡ cube.drained
-    → ((asked : Option HostCall) → call_by (cube_of parts.images cube'.grant) (opening (cube_of parts.images cube'.grant)) (view h' cube'.number)
-    (relative cube'.grant.sub actor) asked
-    ≡ call_by (cube_of parts.images cube.grant) (opening (cube_of parts.images cube.grant)) (view h cube.number) (relative cube.grant.sub actor) asked)
+call_of-kept : (parts : MachineParts) (h h' : List Entry) (actor : ℕ) (call : Call) (cube cube' : HeldCube) → cube'.grant ≡ cube.grant → cube'.is_drained ≡ cube.is_drained
+    → ((asked : Option HostCall) → actor_call (cube_of parts.images cube'.grant) (opening (cube_of parts.images cube'.grant)) (view h' cube'.number)
+    (relative_number cube'.grant.sub actor) asked
+    ≡ actor_call (cube_of parts.images cube.grant) (opening (cube_of parts.images cube.grant)) (view h cube.number) (relative_number cube.grant.sub actor) asked)
     → IsCallOf parts h actor call cube → IsCallOf parts h' actor call cube'
 call_of-kept parts h h' actor call cube cube' grant drained same of = record {
   made = of.made;
   inside = subst (λ (g : CubeGrant). IsTrue (actor == HOST) ⊎ IsTrue (is_inside g.sub actor)) (sym grant) of.inside;
-  next = same (asked_by of.made) ∙ of.next;
-  renamed = ap (λ g. call_with (block_outward g) of.made) grant ∙ of.renamed;
+  next = same (asked_host_call of.made) ∙ of.next;
+  renamed = ap (λ g. renamed_call_blocks (block_outward g) of.made) grant ∙ of.renamed;
   within = of.within;
   not_drained = drained ∙ of.not_drained;
 }
@@ -80,39 +80,39 @@ module _ (parts : MachineParts) (machine : IsMachine parts) (h : List Entry) (be
 
   -- ---- where the entry changes nothing of the user's cube
 
-  view-stays : (cube : HeldCube) → held_by (after h) user ≡ Some cube → (entry.user == user && is_some (call_of entry.what)) ≡ false
+  view-stays : (cube : HeldCube) → cube_held_by (after h) user ≡ Some cube → (entry.user == user && is_some (recorded_call entry.what)) ≡ false
       → view h' cube.number ≡ view h cube.number
   view-stays cube held quiet =
       let was = before.held user cube held in
-      let none = subst (λ u. (entry.user == u && is_some (call_of entry.what)) ≡ false) (sym (eqb-true _ _ (held-user (after h) user cube held))) quiet in
+      let none = subst (λ u. (entry.user == u && is_some (recorded_call entry.what)) ≡ false) (sym (eqb-true _ _ (held-user (after h) user cube held))) quiet in
       view-is h' cube.number cube.grant (was.behind ++ entry ∷ []) (found-more h entry cube.number cube.grant was.behind was.found)
       ∙ trace-stays cube.grant was.behind entry none ∙ sym (view-is h cube.number cube.grant was.behind was.found)
 
-  quiet_call : (call : Call) (held : Option HeldCube) → held_by (after h) user ≡ held → (entry.user == user && is_some (call_of entry.what)) ≡ false
+  quiet_call : (call : Call) (held : Option HeldCube) → cube_held_by (after h) user ≡ held → (entry.user == user && is_some (recorded_call entry.what)) ≡ false
       → IsSomeAnd held (IsCallOf parts h actor call) → IsSomeAnd held (IsCallOf parts h' actor call)
   quiet_call call None is quiet fits = fits
   quiet_call call (Some cube) is quiet fits =
       call_of-kept parts h h' actor call cube cube refl refl
-      (λ asked. ap (λ t. call_by (cube_of parts.images cube.grant) (opening (cube_of parts.images cube.grant)) t (relative cube.grant.sub actor) asked) (view-stays cube is quiet)) fits
+      (λ asked. ap (λ t. actor_call (cube_of parts.images cube.grant) (opening (cube_of parts.images cube.grant)) t (relative_number cube.grant.sub actor) asked) (view-stays cube is quiet)) fits
 
-  fits-quiet : (request : Request) → held_by (after h') user ≡ held_by (after h) user → (entry.user == user && is_some (call_of entry.what)) ≡ false
+  fits-quiet : (request : Request) → cube_held_by (after h') user ≡ cube_held_by (after h) user → (entry.user == user && is_some (recorded_call entry.what)) ≡ false
       → IsFittingIn parts h user actor request → IsFittingIn parts h' user actor request
   fits-quiet request same quiet fits =
-      fits-on parts h h' user actor request (λ held is none. same ∙ is ∙ none) (λ drained some. subst (λ held. IsSomeAnd held (λ cube. cube.drained ≡ drained)) (sym same) some)
-      (λ call some. subst (λ held. IsSomeAnd held (IsCallOf parts h' actor call)) (sym same) (quiet_call call (held_by (after h) user) refl quiet some)) fits
+      fits-on parts h h' user actor request (λ held is none. same ∙ is ∙ none) (λ drained some. subst (λ held. IsSomeAnd held (λ cube. cube.is_drained ≡ drained)) (sym same) some)
+      (λ call some. subst (λ held. IsSomeAnd held (IsCallOf parts h' actor call)) (sym same) (quiet_call call (cube_held_by (after h) user) refl quiet some)) fits
 
   -- ---- where another actor of the cube makes a call
 
-  module _ (cube : HeldCube) (holds : held_by (after h) entry.user ≡ Some cube) (goes : cube.drained ≡ false) (is_user : entry.user ≡ user)
+  module _ (cube : HeldCube) (holds : cube_held_by (after h) entry.user ≡ Some cube) (goes : cube.is_drained ≡ false) (is_user : entry.user ≡ user)
       (own : IsOwnEntry parts cube.grant (trace_behind cube.grant (before.held entry.user cube holds).behind) entry) (other : (entry.actor == actor) ≡ false) where
     abbrev was : IsHeld parts (after h) h cube
     was = before.held entry.user cube holds
 
-    held_next : held_by (after h') user ≡ Some (held_by_entry entry cube)
+    held_next : cube_held_by (after h') user ≡ Some (cube_after_entry entry cube)
     held_next =
-        ap (λ state. held_by state user) (after-more h entry ∙ ap (λ call. changed_by_call call entry (after h)) own.called)
-        ∙ ap (held_by (with_cube entry.user (held_by_entry entry) (λ cube. record_by cube.grant.sub entry) (after h))) (sym is_user)
-        ∙ held-own entry.user (held_by_entry entry) (λ cube. refl) (λ cube. record_by cube.grant.sub entry) (after h) cube holds
+        ap (λ state. cube_held_by state user) (after-more h entry ∙ ap (λ call. state_after_call call entry (after h)) own.called)
+        ∙ ap (cube_held_by (with_cube entry.user (cube_after_entry entry) (λ cube. record_by cube.grant.sub entry) (after h))) (sym is_user)
+        ∙ held-own entry.user (cube_after_entry entry) (λ cube. refl) (λ cube. record_by cube.grant.sub entry) (after h) cube holds
 
     view_next : view h' cube.number ≡ view h cube.number ++ own.inner ∷ []
     view_next =
@@ -120,33 +120,33 @@ module _ (parts : MachineParts) (machine : IsMachine parts) (h : List Entry) (be
         ∙ trace-behind parts machine (after h) h cube was goes (before.views cube.number cube.grant was.behind was.found).alone entry own
         ∙ ap (λ t. t ++ own.inner ∷ []) (sym (view-is h cube.number cube.grant was.behind was.found))
 
-    inner_other : IsTrue (actor == HOST) ⊎ IsTrue (is_inside cube.grant.sub actor) → (own.inner.actor == relative cube.grant.sub actor) ≡ false
+    inner_other : IsTrue (actor == HOST) ⊎ IsTrue (is_inside cube.grant.sub actor) → (own.inner.actor == relative_number cube.grant.sub actor) ≡ false
     inner_other inside =
         ne_eqb _ _ (λ e. both_ways _ other (eq-eqb entry.actor actor (ap (λ (e : Entry). e.actor) own.same ∙ ap (number_outward cube.grant.sub) e
         ∙ sym (actor_back parts.dim cube.grant was.placed actor inside))))
 
-    held_is : held_by (after h) user ≡ Some cube
-    held_is = ap (held_by (after h)) (sym is_user) ∙ holds
+    held_is : cube_held_by (after h) user ≡ Some cube
+    held_is = ap (cube_held_by (after h)) (sym is_user) ∙ holds
 
-    call-next : (call : Call) → IsCallOf parts h actor call cube → IsCallOf parts h' actor call (held_by_entry entry cube)
+    call-next : (call : Call) → IsCallOf parts h actor call cube → IsCallOf parts h' actor call (cube_after_entry entry cube)
     call-next call of =
         let c = cube_of parts.images cube.grant in
-        call_of-kept parts h h' actor call cube (held_by_entry entry cube) refl refl
+        call_of-kept parts h h' actor call cube (cube_after_entry entry cube) refl refl
         (λ asked.
-        ap (λ t. call_by c (opening c) t (relative cube.grant.sub actor) asked) view_next
-        ∙ call_by-other c (opening c) (view h cube.number) (relative cube.grant.sub actor) asked own.inner (inner_other of.inside)) of
+        ap (λ t. actor_call c (opening c) t (relative_number cube.grant.sub actor) asked) view_next
+        ∙ call_by-other c (opening c) (view h cube.number) (relative_number cube.grant.sub actor) asked own.inner (inner_other of.inside)) of
 
     fits-beside : (request : Request) → IsFittingIn parts h user actor request → IsFittingIn parts h' user actor request
     fits-beside request fits =
         fits-on parts h h' user actor request (λ held is none. let no_cube : Some cube ≡ None = sym held_is ∙ is ∙ none in absurd (cc))
-        (λ drained some. subst (λ held. IsSomeAnd held (λ cube. cube.drained ≡ drained)) (sym held_next) (subst (λ held. IsSomeAnd held (λ cube. cube.drained ≡ drained)) held_is some))
+        (λ drained some. subst (λ held. IsSomeAnd held (λ cube. cube.is_drained ≡ drained)) (sym held_next) (subst (λ held. IsSomeAnd held (λ cube. cube.is_drained ≡ drained)) held_is some))
         (λ call some. subst (λ held. IsSomeAnd held (IsCallOf parts h' actor call)) (sym held_next)
         (call-next call (subst (λ held. IsSomeAnd held (IsCallOf parts h actor call)) held_is some))) fits
 
   -- ---- by the request of the entry
 
-  beside_call : (request : Request) (call : Call) (held : Option HeldCube) → held_by (after h) entry.user ≡ held → IsSomeAnd held (IsCallOf parts h entry.actor call)
-      → option_map (λ cube. answer (nodes_of cube.grant) (standing_of (after h) cube) entry.actor (with_places_outward cube.grant call)) held ≡ Some entry.what
+  beside_call : (request : Request) (call : Call) (held : Option HeldCube) → cube_held_by (after h) entry.user ≡ held → IsSomeAnd held (IsCallOf parts h entry.actor call)
+      → option_map (λ cube. answer (nodes_of cube.grant) (cube_standing (after h) cube) entry.actor (with_places_outward cube.grant call)) held ≡ Some entry.what
       → entry.user ≡ user → (entry.actor == actor) ≡ false → IsFittingIn parts h user actor request → IsFittingIn parts h' user actor request
   beside_call request call None is some e same other fits = absurd some
   beside_call request call (Some cube) is some e same other fits =
@@ -154,8 +154,8 @@ module _ (parts : MachineParts) (machine : IsMachine parts) (h : List Entry) (be
 
   peeked : (request : Request) (what : What) → Peek ≡ what → entry.what ≡ what → IsFittingIn parts h user actor request → IsFittingIn parts h' user actor request
   peeked request what is same fits =
-      let call : call_of entry.what ≡ None = ap call_of (same ∙ sym is) in
-      fits-quiet request (ap (λ state. held_by state user) (after-more h entry ∙ ap (λ what. changed_by (after h) (record { user = entry.user; actor = entry.actor; what = what })) (same ∙ sym is)))
+      let call : recorded_call entry.what ≡ None = ap recorded_call (same ∙ sym is) in
+      fits-quiet request (ap (λ state. cube_held_by state user) (after-more h entry ∙ ap (λ what. state_after_entry (after h) (record { user = entry.user; actor = entry.actor; what = what })) (same ∙ sym is)))
       (and_false _ _ (ap is_some call)) fits
 
   by_asked : (request asked : Request) → IsFitting parts h entry.user entry.actor asked → what_of_request parts (after h) entry.user entry.actor asked ≡ Some entry.what
@@ -164,7 +164,7 @@ module _ (parts : MachineParts) (machine : IsMachine parts) (h : List Entry) (be
   by_asked request drain of e beside same other fits = absurd (cc)
   by_asked request freecube of e beside same other fits = absurd (cc)
   by_asked request peek of e beside same other fits = peeked request entry.what (ap (λ o. elim o [ None ↦ Peek | Some z ↦ z ]) e) refl fits
-  by_asked request (in_cube call) of e beside same other fits = beside_call request call (held_by (after h) entry.user) refl of.1 e same other fits
+  by_asked request (in_cube call) of e beside same other fits = beside_call request call (cube_held_by (after h) entry.user) refl of.1 e same other fits
 
   by_user : (request : Request) (lawful : IsLawfulEntry parts h entry) → IsForeign user actor entry lawful.request → IsFittingIn parts h user actor request
       → IsFittingIn parts h' user actor request
@@ -176,9 +176,9 @@ module _ (parts : MachineParts) (machine : IsMachine parts) (h : List Entry) (be
               | inr beside ↦ by_asked request lawful.request lawful.fits lawful.answer beside.1 (eqb-true _ _ same) beside.0 fits
             ]
         | inr other ↦
-            fits-quiet request ((lawful-step parts machine h before entry lawful).others user other) (ap (λ b. b && is_some (call_of entry.what)) other) fits
+            fits-quiet request ((lawful-step parts machine h before entry lawful).others user other) (ap (λ b. b && is_some (recorded_call entry.what)) other) fits
       ]
 
-pub still_fits : StillFits
+pub still_fits : RequestsStillFit
 still_fits parts history user actor request entry machine is fits lawful foreign =
     (fits.0, by_user parts machine history (projected parts history machine is) entry user actor request lawful foreign fits.1)

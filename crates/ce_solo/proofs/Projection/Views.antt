@@ -10,9 +10,9 @@ use Rattle.ce_model.specs.declared.entry.Entry.{Entry}
 use Rattle.ce_model.specs.declared.entry.What.{What}
 use Rattle.ce_model.specs.declared.entry.What.TheVariants.{Drain}
 use Rattle.ce_model.specs.Node.{Call}
-use Rattle.ce_model.specs.Answers.{call_of}
+use Rattle.ce_model.specs.Answers.{recorded_call}
 use Rattle.ce_model.specs.Renaming.{CubeGrant, entry_inward}
-use Rattle.ce_model.specs.Views.{grant_by, is_drain, trace_behind, grant_or_later, from_grant, view}
+use Rattle.ce_model.specs.Views.{entry_grant, is_drain, trace_behind, grant_or_later, history_behind_grant, view}
 
 -- ---- grants
 
@@ -24,16 +24,16 @@ one_grant (Some grant) = 1
 -- how many cubes a history grants
 abbrev pub granted : List Entry → ℕ
 granted [] = 0
-granted (entry ∷ behind) = one_grant (grant_by entry) + granted behind
+granted (entry ∷ behind) = one_grant (entry_grant entry) + granted behind
 
-pub granted-more : (h : List Entry) (entry : Entry) → granted (h ++ entry ∷ []) ≡ granted h + one_grant (grant_by entry)
+pub granted-more : (h : List Entry) (entry : Entry) → granted (h ++ entry ∷ []) ≡ granted h + one_grant (entry_grant entry)
 granted-more [] entry = omega arith
 granted-more (first ∷ h) entry = omega (arith, granted-more h entry)
 
-pub granted-same : (h : List Entry) (entry : Entry) → grant_by entry ≡ None → granted (h ++ entry ∷ []) ≡ granted h
+pub granted-same : (h : List Entry) (entry : Entry) → entry_grant entry ≡ None → granted (h ++ entry ∷ []) ≡ granted h
 granted-same h entry none = omega (arith, granted-more h entry, ap one_grant none)
 
-pub granted-one : (h : List Entry) (entry : Entry) (grant : CubeGrant) → grant_by entry ≡ Some grant → granted (h ++ entry ∷ []) ≡ granted h + 1
+pub granted-one : (h : List Entry) (entry : Entry) (grant : CubeGrant) → entry_grant entry ≡ Some grant → granted (h ++ entry ∷ []) ≡ granted h + 1
 granted-one h entry grant some = omega (arith, granted-more h entry, ap one_grant some)
 
 -- a grant that was found, with an entry more behind it
@@ -44,9 +44,9 @@ abbrev with_more : Entry → Found → Found
 with_more entry found = (found.0, found.1 ++ entry ∷ [])
 
 later_found : (entry : Entry) (grant : Option CubeGrant) (behind : List Entry) (number : ℕ) (found : Found)
-    → ((m : ℕ) → from_grant behind m ≡ Some found → from_grant (behind ++ entry ∷ []) m ≡ Some (with_more entry found))
-    → grant_or_later grant behind number (from_grant behind) ≡ Some found
-    → grant_or_later grant (behind ++ entry ∷ []) number (from_grant (behind ++ entry ∷ [])) ≡ Some (with_more entry found)
+    → ((m : ℕ) → history_behind_grant behind m ≡ Some found → history_behind_grant (behind ++ entry ∷ []) m ≡ Some (with_more entry found))
+    → grant_or_later grant behind number (history_behind_grant behind) ≡ Some found
+    → grant_or_later grant (behind ++ entry ∷ []) number (history_behind_grant (behind ++ entry ∷ [])) ≡ Some (with_more entry found)
 later_found entry None behind number found later e = later number e
 later_found entry (Some grant) behind number found later e =
     elim (cases_Bool (number == 0)) [
@@ -54,20 +54,20 @@ later_found entry (Some grant) behind number found later e =
           let here : Some (grant, behind) ≡ Some found = rw first at e in
           rw first (ap (λ x. elim x [ None ↦ None | Some f ↦ Some (with_more entry f) ]) here)
       | inr other ↦
-          let there : from_grant behind (number - 1) ≡ Some found = rw other at e in
+          let there : history_behind_grant behind (number - 1) ≡ Some found = rw other at e in
           rw other (later (number - 1) there)
     ]
 
 -- a grant stays where it is
-pub found-more : (h : List Entry) (entry : Entry) (number : ℕ) (grant : CubeGrant) (behind : List Entry) → from_grant h number ≡ Some (grant, behind)
-    → from_grant (h ++ entry ∷ []) number ≡ Some (grant, behind ++ entry ∷ [])
+pub found-more : (h : List Entry) (entry : Entry) (number : ℕ) (grant : CubeGrant) (behind : List Entry) → history_behind_grant h number ≡ Some (grant, behind)
+    → history_behind_grant (h ++ entry ∷ []) number ≡ Some (grant, behind ++ entry ∷ [])
 found-more [] entry number grant behind e = absurd (cc)
 found-more (first ∷ h) entry number grant behind e =
-    later_found entry (grant_by first) h number (grant, behind) (λ m e. found-more h entry m grant behind e) e
+    later_found entry (entry_grant first) h number (grant, behind) (λ m e. found-more h entry m grant behind e) e
 
 new_first : (entry : Entry) (first : Option CubeGrant) (h : List Entry) (number : ℕ) (found : Found)
-    → from_grant (h ++ entry ∷ []) number ≡ Some found
-    → grant_or_later first (h ++ entry ∷ []) (one_grant first + number) (from_grant (h ++ entry ∷ [])) ≡ Some found
+    → history_behind_grant (h ++ entry ∷ []) number ≡ Some found
+    → grant_or_later first (h ++ entry ∷ []) (one_grant first + number) (history_behind_grant (h ++ entry ∷ [])) ≡ Some found
 new_first entry None h number found e = let same : 0 + number ≡ number = omega arith in rw same e
 new_first entry (Some grant) h number found e =
     let other : (1 + number == 0) ≡ false = ne_eqb _ _ (omega arith) in
@@ -75,21 +75,21 @@ new_first entry (Some grant) h number found e =
     rw (other, same) e
 
 -- a new grant has the next number
-pub found-new : (h : List Entry) (entry : Entry) (grant : CubeGrant) → grant_by entry ≡ Some grant → from_grant (h ++ entry ∷ []) (granted h) ≡ Some (grant, [])
+pub found-new : (h : List Entry) (entry : Entry) (grant : CubeGrant) → entry_grant entry ≡ Some grant → history_behind_grant (h ++ entry ∷ []) (granted h) ≡ Some (grant, [])
 found-new [] entry grant e = rw e refl
-found-new (first ∷ h) entry grant e = new_first entry (grant_by first) h (granted h) (grant, []) (found-new h entry grant e)
+found-new (first ∷ h) entry grant e = new_first entry (entry_grant first) h (granted h) (grant, []) (found-new h entry grant e)
 
 -- where a grant of the longer history stands
 pub data IsFound (h : List Entry) (entry : Entry) (number : ℕ) (grant : CubeGrant) (behind : List Entry) : Type 0 where
   -- it is of the shorter one
-  old : (less : List Entry) → from_grant h number ≡ Some (grant, less) → behind ≡ less ++ entry ∷ [] → IsFound h entry number grant behind
+  old : (less : List Entry) → history_behind_grant h number ≡ Some (grant, less) → behind ≡ less ++ entry ∷ [] → IsFound h entry number grant behind
   -- the last entry is the grant
-  new : number ≡ granted h → grant_by entry ≡ Some grant → behind ≡ [] → IsFound h entry number grant behind
+  new : number ≡ granted h → entry_grant entry ≡ Some grant → behind ≡ [] → IsFound h entry number grant behind
 
 found_by : (h : List Entry) (entry : Entry) (number : ℕ) (grant : CubeGrant) (behind : List Entry) (first : Option CubeGrant)
-    → ((m : ℕ) → from_grant (h ++ entry ∷ []) m ≡ Some (grant, behind) → IsFound h entry m grant behind)
-    → (first' : Entry) → grant_by first' ≡ first
-    → grant_or_later first (h ++ entry ∷ []) number (from_grant (h ++ entry ∷ [])) ≡ Some (grant, behind) → IsFound (first' ∷ h) entry number grant behind
+    → ((m : ℕ) → history_behind_grant (h ++ entry ∷ []) m ≡ Some (grant, behind) → IsFound h entry m grant behind)
+    → (first' : Entry) → entry_grant first' ≡ first
+    → grant_or_later first (h ++ entry ∷ []) number (history_behind_grant (h ++ entry ∷ [])) ≡ Some (grant, behind) → IsFound (first' ∷ h) entry number grant behind
 found_by h entry number grant behind None later first' is e =
     elim (later number e) [
       | old less found same ↦ old less (rw is found) same
@@ -104,15 +104,15 @@ found_by h entry number grant behind (Some other) later first' is e =
           old h (rw (is, first) (ap (λ (f : Found). Some (f.0, h)) both)) (sym (ap (λ (f : Found). f.1) both))
       | inr differ ↦
           let fails : (number == 0) ≡ false = ne_eqb _ _ differ in
-          let there : from_grant (h ++ entry ∷ []) (number - 1) ≡ Some (grant, behind) = rw fails at e in
+          let there : history_behind_grant (h ++ entry ∷ []) (number - 1) ≡ Some (grant, behind) = rw fails at e in
           elim (later (number - 1) there) [
             | old less found same ↦ old less (rw (is, fails) found) same
             | new num some none ↦ new (omega (arith, num, ap one_grant is, differ)) some none
           ]
     ]
 
-found_last : (entry : Entry) (number : ℕ) (grant : CubeGrant) (behind : List Entry) (given : Option CubeGrant) → grant_by entry ≡ given
-    → grant_or_later given [] number (from_grant []) ≡ Some (grant, behind) → IsFound [] entry number grant behind
+found_last : (entry : Entry) (number : ℕ) (grant : CubeGrant) (behind : List Entry) (given : Option CubeGrant) → entry_grant entry ≡ given
+    → grant_or_later given [] number (history_behind_grant []) ≡ Some (grant, behind) → IsFound [] entry number grant behind
 found_last entry number grant behind None is e = absurd (cc)
 found_last entry number grant behind (Some other) is e =
     elim (cases_eq number 0) [
@@ -128,9 +128,9 @@ found_last entry number grant behind (Some other) is e =
     ]
 
 pub found-back : (h : List Entry) (entry : Entry) (number : ℕ) (grant : CubeGrant) (behind : List Entry)
-    → from_grant (h ++ entry ∷ []) number ≡ Some (grant, behind) → IsFound h entry number grant behind
-found-back [] entry number grant behind e = found_last entry number grant behind (grant_by entry) refl e
-found-back (first ∷ h) entry number grant behind e = found_by h entry number grant behind (grant_by first) (λ m e. found-back h entry m grant behind e) first refl e
+    → history_behind_grant (h ++ entry ∷ []) number ≡ Some (grant, behind) → IsFound h entry number grant behind
+found-back [] entry number grant behind e = found_last entry number grant behind (entry_grant entry) refl e
+found-back (first ∷ h) entry number grant behind e = found_by h entry number grant behind (entry_grant first) (λ m e. found-back h entry m grant behind e) first refl e
 
 -- ---- the trace behind a grant
 
@@ -144,7 +144,7 @@ is_over grant behind = list_any (ends grant) behind
 
 -- an entry is one of the cube
 abbrev is_own : CubeGrant → Entry → Bool
-is_own grant entry = entry.user == grant.user && is_some (call_of entry.what)
+is_own grant entry = entry.user == grant.user && is_some (recorded_call entry.what)
 
 or_nil : (b c : Bool) → (b || (c || false)) ≡ (b || c)
 or_nil true c = refl
@@ -199,12 +199,12 @@ trace-joined grant behind entry goes =
     ap (entries_of grant) (take_all (ends grant) behind (entry ∷ []) goes)
     ∙ entries-append grant (take_while (λ e. not (ends grant e)) behind) (take_while (λ e. not (ends grant e)) (entry ∷ []))
 
-no_trace : (grant : CubeGrant) (entry : Entry) → (entry.user == grant.user && is_some (call_of entry.what)) ≡ false → trace_behind grant (entry ∷ []) ≡ []
+no_trace : (grant : CubeGrant) (entry : Entry) → (entry.user == grant.user && is_some (recorded_call entry.what)) ≡ false → trace_behind grant (entry ∷ []) ≡ []
 no_trace grant entry other =
     elim (cases_Bool (ends grant entry)) [ inl holds ↦ rw holds refl | inr fails ↦ rw (fails, other) refl ]
 
 -- an entry that is none of the cube leaves its trace as it is
-pub trace-stays : (grant : CubeGrant) (behind : List Entry) (entry : Entry) → (entry.user == grant.user && is_some (call_of entry.what)) ≡ false
+pub trace-stays : (grant : CubeGrant) (behind : List Entry) (entry : Entry) → (entry.user == grant.user && is_some (recorded_call entry.what)) ≡ false
     → trace_behind grant (behind ++ entry ∷ []) ≡ trace_behind grant behind
 trace-stays grant behind entry other =
     elim (cases_Bool (is_over grant behind)) [
@@ -213,11 +213,11 @@ trace-stays grant behind entry other =
           trace-joined grant behind entry goes ∙ ap (λ more. trace_behind grant behind ++ more) (no_trace grant entry other) ∙ append-nil (trace_behind grant behind)
     ]
 
-pub no_drain : (what : What) (call : Call) → call_of what ≡ Some call → is_drain what ≡ false
+pub no_drain : (what : What) (call : Call) → recorded_call what ≡ Some call → is_drain what ≡ false
 no_drain Drain call e = absurd (cc)
 no_drain other call e = refl
 
-one_trace : (grant : CubeGrant) (entry : Entry) (call : Call) → (entry.user == grant.user) ≡ true → call_of entry.what ≡ Some call
+one_trace : (grant : CubeGrant) (entry : Entry) (call : Call) → (entry.user == grant.user) ≡ true → recorded_call entry.what ≡ Some call
     → trace_behind grant (entry ∷ []) ≡ entry_inward grant.sub entry ∷ []
 one_trace grant entry call user e =
     let fails : ends grant entry ≡ false = rw (user, no_drain entry.what call e) refl in
@@ -226,10 +226,10 @@ one_trace grant entry call user e =
 
 -- one of the cube is the next of its trace
 pub trace-grows : (grant : CubeGrant) (behind : List Entry) (entry : Entry) (call : Call) → is_over grant behind ≡ false → (entry.user == grant.user) ≡ true
-    → call_of entry.what ≡ Some call → trace_behind grant (behind ++ entry ∷ []) ≡ trace_behind grant behind ++ entry_inward grant.sub entry ∷ []
+    → recorded_call entry.what ≡ Some call → trace_behind grant (behind ++ entry ∷ []) ≡ trace_behind grant behind ++ entry_inward grant.sub entry ∷ []
 trace-grows grant behind entry call goes user e =
     trace-joined grant behind entry goes ∙ ap (λ more. trace_behind grant behind ++ more) (one_trace grant entry call user e)
 
-pub view-is : (h : List Entry) (number : ℕ) (grant : CubeGrant) (behind : List Entry) → from_grant h number ≡ Some (grant, behind) → view h number ≡ trace_behind grant behind
+pub view-is : (h : List Entry) (number : ℕ) (grant : CubeGrant) (behind : List Entry) → history_behind_grant h number ≡ Some (grant, behind) → view h number ≡ trace_behind grant behind
 unfolding view
 view-is h number grant behind found = rw found refl

@@ -9,8 +9,8 @@ use Rattle.ce_model.specs.Parcels.{Parcel}
 use Rattle.ce_model.specs.Space.{window_start, has_unused_window, mapped_space}
 use Rattle.ce_model.specs.Process.{Process, started_process, with_answer, is_receiving, is_stopped}
 use Rattle.ce_model.specs.Node.{Turn, Node, process_at, with_process, without_poller, with_stopped}
-use Rattle.ce_model.specs.Hearing.{Hearing, start_of, mail_of, kill_of, poll_of, told, nothing, image_at, begins, begins_with, with_stored, gets, tells, hears}
-use Rattle.ce_model.specs.Renaming.{parcel_with, heard_with}
+use Rattle.ce_model.specs.Hearing.{Hearing, start_of, mail_of, kill_of, poll_of, answer_of, nothing, image_at, with_turn, with_answered_turn, with_stored, with_received, with_answered_call, node_after_hearing}
+use Rattle.ce_model.specs.Renaming.{renamed_parcel, renamed_hearing}
 use Rattle.ce_solo.proofs.Renaming.Lists.{if_made}
 use Rattle.ce_solo.proofs.Renaming.Memory.{IsNamedSpace, mapped-renamed}
 use Rattle.ce_solo.proofs.Renaming.Store.{put-named, put-renamed}
@@ -23,21 +23,21 @@ module _ (names : Names) where
   IsNamedHeard (mail_of parcel) = names.P parcel.block.id
   IsNamedHeard other = Unit {0}
 
-  begins-renamed : (node : Node) (pid : ℕ) (p : Process) → begins (node_by names node) pid (process_by names p) ≡ node_by names (begins node pid p)
+  begins-renamed : (node : Node) (pid : ℕ) (p : Process) → with_turn (node_by names node) pid (process_by names p) ≡ node_by names (with_turn node pid p)
   begins-renamed node pid p =
       ap (λ (node : Node). record node {
-        polling = without_poller pid node.polling;
-        turn = Some (record { pid = pid; left = turn_instructions; calls = 0 });
+        polling_ids = without_poller pid node.polling_ids;
+        turn = Some (record { pid = pid; instructions_left = turn_instructions; calls = 0 });
       })
       (with_process-renamed names.rename names.home node pid (record p { status = Running }))
 
   with_stored-renamed : (node : Node) (parcel : Parcel) → IsNamed names.P node → names.P parcel.block.id
-      → with_stored (node_by names node) (parcel_with names.rename parcel) ≡ node_by names (with_stored node parcel)
+      → with_stored (node_by names node) (renamed_parcel names.rename parcel) ≡ node_by names (with_stored node parcel)
   with_stored-renamed node parcel named new =
       ap (λ store. record (node_by names node) { store = store }) (put-renamed names.rename names.P parcel.block.id node.store names.order new named.store)
 
   stored-full : (node : Node) (parcel : Parcel) (p : Process) → IsNamed names.P node → IsNamedSpace names.P p.space → names.P parcel.block.id
-      → with_stopped (with_stored (node_by names node) (parcel_with names.rename parcel)) parcel.to.pid (process_by names p) WindowsSpent
+      → with_stopped (with_stored (node_by names node) (renamed_parcel names.rename parcel)) parcel.to.pid (process_by names p) WindowsSpent
       ≡ node_by names (with_stopped (with_stored node parcel) parcel.to.pid p WindowsSpent)
   stored-full node parcel p named own new =
       ap (λ node. with_stopped node parcel.to.pid (process_by names p) WindowsSpent) (with_stored-renamed node parcel named new)
@@ -45,32 +45,32 @@ module _ (names : Names) where
       (record { store = put-named names.P parcel.block.id node.store new named.store; processes = named.processes }) own
 
   mapped-begins : (node : Node) (parcel : Parcel) (p : Process) (used : ℕ) → used ≡ length p.space.windows
-      → begins_with (node_by names node) parcel.to.pid (record (process_by names p) { space = mapped_space (parcel_with names.rename parcel).block (process_by names p).space }) (window_start used)
-      ≡ node_by names (begins_with node parcel.to.pid (record p { space = mapped_space parcel.block p.space }) (window_start (length p.space.windows)))
+      → with_answered_turn (node_by names node) parcel.to.pid (record (process_by names p) { space = mapped_space (renamed_parcel names.rename parcel).block (process_by names p).space }) (window_start used)
+      ≡ node_by names (with_answered_turn node parcel.to.pid (record p { space = mapped_space parcel.block p.space }) (window_start (length p.space.windows)))
   mapped-begins node parcel p used same =
-      ap₂ (λ space used. begins_with (node_by names node) parcel.to.pid (record p { space = space }) (window_start used)) (mapped-renamed names.rename parcel.block p.space) same
+      ap₂ (λ space used. with_answered_turn (node_by names node) parcel.to.pid (record p { space = space }) (window_start used)) (mapped-renamed names.rename parcel.block p.space) same
       ∙ begins-renamed node parcel.to.pid (with_answer (window_start (length p.space.windows)) (record p { space = mapped_space parcel.block p.space }))
 
   gets-renamed : (node : Node) (parcel : Parcel) (p : Process) → IsNamed names.P node → IsNamedSpace names.P p.space → names.P parcel.block.id
-      → gets (node_by names node) (parcel_with names.rename parcel) (process_by names p) ≡ node_by names (gets node parcel p)
+      → with_received (node_by names node) (renamed_parcel names.rename parcel) (process_by names p) ≡ node_by names (with_received node parcel p)
   gets-renamed node parcel p named own new =
       if_made (node_by names) _ (has_unused_window p.space) _ _ _ _ (ap (λ used. nat_lt used window_count) (length-map p.space.windows _))
       (mapped-begins node parcel p _ (length-map p.space.windows _)) (stored-full node parcel p named own new)
 
-  tells-renamed : (value : ℕ) (node : Node) (turn : Option Turn) → tells value (node_by names node) turn ≡ node_by names (tells value node turn)
+  tells-renamed : (value : ℕ) (node : Node) (turn : Option Turn) → with_answered_call value (node_by names node) turn ≡ node_by names (with_answered_call value node turn)
   tells-renamed value node None = refl
   tells-renamed value node (Some turn) =
       ap (λ p. with_process (node_by names node) turn.pid (with_answer value p)) (process-renamed names.rename names.home node turn.pid)
       ∙ with_process-renamed names.rename names.home node turn.pid (with_answer value (process_at node turn.pid))
 
   pub hears-renamed : (images : List ImageParts) (node : Node) (heard : Hearing) → IsNamed names.P node → IsNamedHeard heard
-      → hears images (node_by names node) (heard_with names.rename heard) ≡ node_by names (hears images node heard)
-  unfolding hears
+      → node_after_hearing images (node_by names node) (renamed_hearing names.rename heard) ≡ node_by names (node_after_hearing images node heard)
+  unfolding node_after_hearing
   hears-renamed images node (start_of pid image) named new = begins-renamed node pid (started_process (image_at images image))
   hears-renamed images node (mail_of parcel) named new =
       let p = process_at node parcel.to.pid in
-      ap (λ p. if is_receiving p.status then gets (node_by names node) (parcel_with names.rename parcel) p
-      else with_stored (node_by names node) (parcel_with names.rename parcel)) (process-renamed names.rename names.home node parcel.to.pid)
+      ap (λ p. if is_receiving p.status then with_received (node_by names node) (renamed_parcel names.rename parcel) p
+      else with_stored (node_by names node) (renamed_parcel names.rename parcel)) (process-renamed names.rename names.home node parcel.to.pid)
       ∙ if_made (node_by names) _ (is_receiving p.status) _ _ _ _ refl
       (gets-renamed node parcel p named (process-named names.P node parcel.to.pid named) new) (with_stored-renamed node parcel named new)
   hears-renamed images node (kill_of pid) named new =
@@ -80,7 +80,7 @@ module _ (names : Names) where
       ∙ if_made (node_by names) _ (is_stopped p.status) _ _ _ _ refl refl
       (with_stopped-renamed names.rename names.home names.P node pid p Killed names.order named (process-named names.P node pid named))
   hears-renamed images node (poll_of pid) named new =
-      ap (λ p. begins_with (node_by names node) pid p 0) (process-renamed names.rename names.home node pid)
+      ap (λ p. with_answered_turn (node_by names node) pid p 0) (process-renamed names.rename names.home node pid)
       ∙ begins-renamed node pid (with_answer 0 (process_at node pid))
-  hears-renamed images node (told value) named new = tells-renamed value node node.turn
+  hears-renamed images node (answer_of value) named new = tells-renamed value node node.turn
   hears-renamed images node nothing named new = refl

@@ -5,9 +5,9 @@ use Rattle.ce_model.specs.declared.process.Status.{Status}
 use Rattle.ce_model.specs.declared.topology.BlockId.{BlockId}
 use Rattle.ce_model.specs.Process.{Process, with_answer}
 use Rattle.ce_model.specs.Node.{Turn, Node, Call}
-use Rattle.ce_model.specs.Kernel.{CallOutcome, goes_on, leaves, turn_ends, returns, stops, says_call, read_or_stop, waits}
+use Rattle.ce_model.specs.Kernel.{CallOutcome, continuation, departure, turn_conclusion, return_outcome, stop_outcome, leave_outcome, read_outcome, wait_outcome}
 use Rattle.ce_model.specs.Space.{result_map}
-use Rattle.ce_model.specs.Renaming.{process_with, call_with}
+use Rattle.ce_model.specs.Renaming.{renamed_process, renamed_call_blocks}
 use Rattle.ce_solo.proofs.Renaming.Lists.{if_both}
 use Rattle.ce_solo.proofs.Renaming.Memory.{IsNamedSpace}
 use Rattle.ce_solo.proofs.Renaming.Store.{IsOrderKept}
@@ -26,18 +26,18 @@ module _ (names : Names) where
   node_by node = node_with names.rename names.home node
 
   abbrev pub process_by : Process → Process
-  process_by p = process_with names.rename p
+  process_by p = renamed_process names.rename p
 
   abbrev pub did_by : CallOutcome → CallOutcome
-  did_by (goes_on node turn) = goes_on (node_by node) turn
-  did_by (leaves node call) = leaves (node_by node) (call_with names.rename call)
-  did_by (turn_ends node) = turn_ends (node_by node)
+  did_by (continuation node turn) = continuation (node_by node) turn
+  did_by (departure node call) = departure (node_by node) (renamed_call_blocks names.rename call)
+  did_by (turn_conclusion node) = turn_conclusion (node_by node)
 
   -- where the turn goes on, the node's blocks have names with the property still
   abbrev pub IsNamedDid : CallOutcome → Type 0
-  IsNamedDid (goes_on node turn) = IsNamed names.P node
-  IsNamedDid (leaves node call) = Unit {0}
-  IsNamedDid (turn_ends node) = Unit {0}
+  IsNamedDid (continuation node turn) = IsNamed names.P node
+  IsNamedDid (departure node call) = Unit {0}
+  IsNamedDid (turn_conclusion node) = Unit {0}
 
   -- the one is the other with the other names
   pub record AreDid (there here : CallOutcome) : Type 0 where
@@ -59,46 +59,46 @@ module _ (names : Names) where
       subst (λ t. AreDid (if t then x else y) (if test then x' else y')) (sym same) (if_both AreDid test x y x' y' here there)
 
   pub returns-alike : (node' node : Node) (turn : Turn) (p' p : Process) (value' value : ℕ) → node' ≡ node_by node → p' ≡ process_by p → value' ≡ value
-      → AreNamedBoth node p → AreDid (returns node' turn p' value') (returns node turn p value)
+      → AreNamedBoth node p → AreDid (return_outcome node' turn p' value') (return_outcome node turn p value)
   returns-alike node' node turn p' p value' value of_node of_process of_value named = record {
-    same = ap₂ (λ node p. returns node turn p value') of_node of_process
-        ∙ ap (λ value. returns (node_by node) turn (process_by p) value) of_value
-        ∙ ap (λ node. goes_on node turn) (with_process-renamed names.rename names.home node turn.pid (with_answer value p));
+    same = ap₂ (λ node p. return_outcome node turn p value') of_node of_process
+        ∙ ap (λ value. return_outcome (node_by node) turn (process_by p) value) of_value
+        ∙ ap (λ node. continuation node turn) (with_process-renamed names.rename names.home node turn.pid (with_answer value p));
     named = with_process-named names.P node turn.pid (with_answer value p) named.around named.own;
   }
 
   -- the call returns, and changes nothing else
   pub answers-alike : (node : Node) (turn : Turn) (p : Process) (value : ℕ) → AreNamedBoth node p
-      → AreDid (returns (node_by node) turn (process_by p) value) (returns node turn p value)
+      → AreDid (return_outcome (node_by node) turn (process_by p) value) (return_outcome node turn p value)
   answers-alike node turn p value named = returns-alike (node_by node) node turn (process_by p) p value value refl refl refl named
 
   pub stops-alike : (node : Node) (turn : Turn) (p : Process) (cause : Stop) → AreNamedBoth node p
-      → AreDid (stops (node_by node) turn (process_by p) cause) (stops node turn p cause)
+      → AreDid (stop_outcome (node_by node) turn (process_by p) cause) (stop_outcome node turn p cause)
   stops-alike node turn p cause named = record {
-    same = ap turn_ends (with_stopped-renamed names.rename names.home names.P node turn.pid p cause names.order named.around named.own);
+    same = ap turn_conclusion (with_stopped-renamed names.rename names.home names.P node turn.pid p cause names.order named.around named.own);
     named = tt;
   }
 
-  pub says-alike : (node' node : Node) (turn : Turn) (p' p : Process) (call' call : Call) → node' ≡ node_by node → p' ≡ process_by p → call' ≡ call_with names.rename call
-      → AreDid (says_call node' turn p' call') (says_call node turn p call)
+  pub says-alike : (node' node : Node) (turn : Turn) (p' p : Process) (call' call : Call) → node' ≡ node_by node → p' ≡ process_by p → call' ≡ renamed_call_blocks names.rename call
+      → AreDid (leave_outcome node' turn p' call') (leave_outcome node turn p call)
   says-alike node' node turn p' p call' call of_node of_process of_call = record {
-    same = ap₂ (λ node p. says_call node turn p call') of_node of_process
-        ∙ ap₂ (λ node call. leaves (record node { turn = Some turn }) call) (with_process-renamed names.rename names.home node turn.pid p) of_call;
+    same = ap₂ (λ node p. leave_outcome node turn p call') of_node of_process
+        ∙ ap₂ (λ node call. departure (record node { turn = Some turn }) call) (with_process-renamed names.rename names.home node turn.pid p) of_call;
     named = tt;
   }
 
   pub waits-alike : (node : Node) (turn : Turn) (p : Process) (status : Status) (polling : List ℕ)
-      → AreDid (waits (node_by node) turn (process_by p) status polling) (waits node turn p status polling)
+      → AreDid (wait_outcome (node_by node) turn (process_by p) status polling) (wait_outcome node turn p status polling)
   waits-alike node turn p status polling = record {
-    same = ap (λ node. turn_ends (record node { polling = polling; turn = None }))
+    same = ap (λ node. turn_conclusion (record node { polling_ids = polling; turn = None }))
         (with_process-renamed names.rename names.home node turn.pid (record p { status = status }));
     named = tt;
   }
 
   pub reading-alike : {X : Type 0} (node : Node) (turn : Turn) (p : Process) (g : X → X) (Q : X → Type 0) (r' r : Result X Stop) (there here : X → CallOutcome)
       → AreNamedBoth node p → r' ≡ result_map g r → IfOk r Q → ((x : X) → Q x → AreDid (there (g x)) (here x))
-      → AreDid (read_or_stop (node_by node) turn (process_by p) r' there) (read_or_stop node turn p r here)
+      → AreDid (read_outcome (node_by node) turn (process_by p) r' there) (read_outcome node turn p r here)
   reading-alike node turn p g Q r' (Ok x) there here named same read each =
-      subst (λ r. AreDid (read_or_stop (node_by node) turn (process_by p) r there) (here x)) (sym same) (each x read)
+      subst (λ r. AreDid (read_outcome (node_by node) turn (process_by p) r there) (here x)) (sym same) (each x read)
   reading-alike node turn p g Q r' (Err cause) there here named same read each =
-      subst (λ r. AreDid (read_or_stop (node_by node) turn (process_by p) r there) (stops node turn p cause)) (sym same) (stops-alike node turn p cause named)
+      subst (λ r. AreDid (read_outcome (node_by node) turn (process_by p) r there) (stop_outcome node turn p cause)) (sym same) (stops-alike node turn p cause named)

@@ -4,10 +4,10 @@ use Rattle.std.proofs.lemmas.Bool.{cases_order, lt-ltb, le-ltb, eq-eqb, ne_eqb}
 use Rattle.ce_model.specs.Limits.{greatest_dim, host_home, greatest_nodes_lem, host_home_lem}
 use Rattle.ce_model.specs.Subcubes.{node_of, IsSubcube}
 use Rattle.ce_model.specs.Owners.{IsBlockOf}
-use Rattle.ce_model.specs.Hearing.{Hearing, start_of, mail_of, kill_of, poll_of, told, nothing}
+use Rattle.ce_model.specs.Hearing.{Hearing, start_of, mail_of, kill_of, poll_of, answer_of, nothing}
 use Rattle.ce_model.specs.Renaming.{CubeGrant, block_outward}
 use Rattle.ce_model.proofs.Subcubes.{all_subcubes, node_of-rises, node_of-within, ones_of-bound}
-use Rattle.ce_solo.specs.Laws.{IsGrant, IsHeardOf, Renaming}
+use Rattle.ce_solo.specs.Laws.{IsGrant, IsHeardOf, RenamedNodesAgree}
 use Rattle.ce_solo.proofs.Renaming.Store.{IsOrderKept}
 use Rattle.ce_solo.proofs.Renaming.Nodes.{named-from}
 use Rattle.ce_solo.proofs.Renaming.Calls.{Names}
@@ -88,10 +88,10 @@ named_heard dim grant of (start_of pid image) is = tt
 named_heard dim grant of (mail_of parcel) is = is
 named_heard dim grant of (kill_of pid) is = tt
 named_heard dim grant of (poll_of pid) is = tt
-named_heard dim grant of (told value) is = tt
+named_heard dim grant of (answer_of value) is = tt
 named_heard dim grant of nothing is = tt
 
-pub renaming : Renaming
+pub renaming : RenamedNodesAgree
 unfolding outward_names
 renaming dim grant node of is =
     let names = outward_names dim grant of in

@@ -5,28 +5,28 @@ use Rattle.rv_model.specs.declared.stop.Stop.TheVariants.{Illegal}
 use Rattle.rv_model.specs.declared.inst.Inst.{Inst}
 use Rattle.rv_model.specs.declared.inst.Inst.TheVariants.{Lui, Auipc, Jal, Jalr, Branch, Load, Store, OpImm, Op, Fence, Ecall, Ebreak}
 use Rattle.rv_model.specs.Words.{dec}
-use Rattle.rv_model.specs.Exec.{Access, Outcome, went, called, stopped, ◌>>=◌, reg, with_reg, is_taken, load_size, store_size, loaded_number, next_pc, offset_by, jump_outcome, effect_of, exec}
+use Rattle.rv_model.specs.Exec.{Access, Outcome, next_state, call_state, stop_state, ◌>>=◌, reg, with_reg, is_taken, load_size, store_size, loaded_number, next_pc, offset_by, jump_outcome, effect_of, exec}
 use Rattle.ce_model.specs.Space.{result_map}
 use Rattle.ce_solo.proofs.Renaming.Lists.{if_both}
 
 -- a map of memories and a property of them under which a memory's answers are alike
 pub record IsAlike {M : Type 0} (A : Access M) (g : M → M) (Q : M → Type 0) : Type 0 where
-  pub fetched : (m : M) (pc : ℕ) → A.fetched (g m) pc ≡ A.fetched m pc
-  pub loaded : (m : M) (a size : ℕ) → A.loaded (g m) a size ≡ A.loaded m a size
-  pub stored : (m : M) (a size n : ℕ) → A.stored (g m) a size n ≡ result_map g (A.stored m a size n)
-  pub kept : (m : M) (a size n : ℕ) → Q m → IfOk (A.stored m a size n) Q
+  pub fetched : (m : M) (pc : ℕ) → A.fetch (g m) pc ≡ A.fetch m pc
+  pub loaded : (m : M) (a size : ℕ) → A.load (g m) a size ≡ A.load m a size
+  pub stored : (m : M) (a size n : ℕ) → A.store (g m) a size n ≡ result_map g (A.store m a size n)
+  pub kept : (m : M) (a size n : ℕ) → Q m → IfOk (A.store m a size n) Q
 
 module _ {M : Type 0} (A : Access M) (g : M → M) (Q : M → Type 0) (alike : IsAlike A g Q) where
   abbrev pub outcome_with : Outcome M → Outcome M
-  outcome_with (went x pc m) = went x pc (g m)
-  outcome_with (called x pc m) = called x pc (g m)
-  outcome_with (stopped cause) = stopped cause
+  outcome_with (next_state x pc m) = next_state x pc (g m)
+  outcome_with (call_state x pc m) = call_state x pc (g m)
+  outcome_with (stop_state cause) = stop_state cause
 
   -- the memory that an instruction left has the property
   abbrev pub IsLeft : Outcome M → Type 0
-  IsLeft (went x pc m) = Q m
-  IsLeft (called x pc m) = Q m
-  IsLeft (stopped cause) = Unit {0}
+  IsLeft (next_state x pc m) = Q m
+  IsLeft (call_state x pc m) = Q m
+  IsLeft (stop_state cause) = Unit {0}
 
   -- the one outcome is the other on the other memory
   pub record AreAlike (there here : Outcome M) : Type 0 where
@@ -41,9 +41,9 @@ module _ {M : Type 0} (A : Access M) (g : M → M) (Q : M → Type 0) (alike : I
   jumped-alike : (pc target : ℕ) (x : List ℕ) (m : M) → Q m → AreAlike (jump_outcome pc target x (g m)) (jump_outcome pc target x m)
   jumped-alike pc target x m q = if_both AreAlike (target % 4 == 0) _ _ _ _ (record { same = refl; left = q }) (record { same = refl; left = tt })
 
-  stored_alike : (r' r : Result M Stop) (x : List ℕ) (pc : ℕ) → r' ≡ result_map g r → IfOk r Q → AreAlike (r' >>= went x pc) (r >>= went x pc)
-  stored_alike r' (Ok m) x pc same q = record { same = ap (λ r. r >>= went x pc) same; left = q }
-  stored_alike r' (Err cause) x pc same q = record { same = ap (λ r. r >>= went x pc) same; left = tt }
+  stored_alike : (r' r : Result M Stop) (x : List ℕ) (pc : ℕ) → r' ≡ result_map g r → IfOk r Q → AreAlike (r' >>= next_state x pc) (r >>= next_state x pc)
+  stored_alike r' (Ok m) x pc same q = record { same = ap (λ r. r >>= next_state x pc) same; left = q }
+  stored_alike r' (Err cause) x pc same q = record { same = ap (λ r. r >>= next_state x pc) same; left = tt }
 
   performed-alike : (inst : Inst) (x : List ℕ) (pc : ℕ) (m : M) → Q m → AreAlike (effect_of A inst x pc (g m)) (effect_of A inst x pc m)
   unfolding effect_of
@@ -54,8 +54,8 @@ module _ {M : Type 0} (A : Access M) (g : M → M) (Q : M → Type 0) (alike : I
   performed-alike (Branch op rs1 rs2 offset) x pc m q =
       if_both AreAlike (is_taken op (reg x rs1) (reg x rs2)) _ _ _ _ (jumped-alike pc (offset_by pc offset) x m q) (record { same = refl; left = q })
   performed-alike (Load op rd rs1 imm) x pc m q =
-      bound-alike _ (A.loaded m (offset_by (reg x rs1) imm) (load_size op))
-      (λ n. went (with_reg x rd (loaded_number op n)) (next_pc pc) (g m)) (λ n. went (with_reg x rd (loaded_number op n)) (next_pc pc) m)
+      bound-alike _ (A.load m (offset_by (reg x rs1) imm) (load_size op))
+      (λ n. next_state (with_reg x rd (loaded_number op n)) (next_pc pc) (g m)) (λ n. next_state (with_reg x rd (loaded_number op n)) (next_pc pc) m)
       (alike.loaded m (offset_by (reg x rs1) imm) (load_size op))
       (λ n. record { same = refl; left = q })
   performed-alike (Store op rs1 rs2 imm) x pc m q =
@@ -71,7 +71,7 @@ module _ {M : Type 0} (A : Access M) (g : M → M) (Q : M → Type 0) (alike : I
   pub exec-alike : (x : List ℕ) (pc : ℕ) (m : M) → Q m → AreAlike (exec A x pc (g m)) (exec A x pc m)
   unfolding exec
   exec-alike x pc m q =
-      bound-alike (A.fetched (g m) pc) (A.fetched m pc)
+      bound-alike (A.fetch (g m) pc) (A.fetch m pc)
       (λ word. ok_or (dec word) (Illegal pc word) >>= λ inst. effect_of A inst x pc (g m))
       (λ word. ok_or (dec word) (Illegal pc word) >>= λ inst. effect_of A inst x pc m)
       (alike.fetched m pc)

@@ -14,8 +14,8 @@ use Rattle.ce_model.specs.declared.topology.Place.{Place}
 use Rattle.ce_model.specs.declared.topology.BlockId.{BlockId}
 use Rattle.ce_model.specs.Limits.{window_base}
 use Rattle.ce_model.specs.Blocks.{Block}
-use Rattle.ce_model.specs.Space.{Space, window_of, offset_of, mapped_space, unmapped_space, emptied_space, mapped_ids, Spot, in_private, in_block, spot_in, spot, number_in, with_number_in, result_map, loaded_at, stored_at, named_in, is_window_start, block_named, and_then, place_at, places_at}
-use Rattle.ce_model.specs.Renaming.{block_with, space_with}
+use Rattle.ce_model.specs.Space.{Space, window_of, offset_of, mapped_space, unmapped_space, emptied_space, mapped_ids, AccessSite, in_private, in_block, site_in, access_site, number_in, with_number_in, result_map, loaded_at, stored_at, named_in, is_window_start, block_named, and_then, memory_place, places_at}
+use Rattle.ce_model.specs.Renaming.{renamed_block, renamed_space}
 use Rattle.ce_solo.proofs.Lists.{all-append, all-get}
 use Rattle.ce_solo.proofs.Renaming.Lists.{if_ap, if_each, all-set, set-map}
 
@@ -29,26 +29,26 @@ IsNamedSpace P space = AllByRecursion (IsNamedWindow P) space.windows
 
 -- a block and the number that stands before it, with another name
 abbrev pub found_with : (BlockId → BlockId) → ℕ × Block → ℕ × Block
-found_with rename found = (found.0, block_with rename found.1)
+found_with rename found = (found.0, renamed_block rename found.1)
 
 abbrev pub window_with : (BlockId → BlockId) → Option Block → Option Block
-window_with rename window = option_map (block_with rename) window
+window_with rename window = option_map (renamed_block rename) window
 
 module _ (rename : BlockId → BlockId) where
   -- ---- where an access is made
 
-  abbrev pub spot_with : Spot → Spot
+  abbrev pub spot_with : AccessSite → AccessSite
   spot_with (in_private offset) = in_private offset
-  spot_with (in_block k block offset) = in_block k (block_with rename block) offset
+  spot_with (in_block k block offset) = in_block k (renamed_block rename block) offset
 
   spot_in-renamed : (window : Option (Option Block)) (a size : ℕ)
-      → spot_in (option_map (window_with rename) window) a size ≡ result_map spot_with (spot_in window a size)
+      → site_in (option_map (window_with rename) window) a size ≡ result_map spot_with (site_in window a size)
   spot_in-renamed None a size = refl
   spot_in-renamed (Some None) a size = refl
   spot_in-renamed (Some (Some block)) a size = sym (if_ap (result_map spot_with) (nat_le (offset_of a + size) (length block.bytes)) _ _)
 
   -- an access is made behind three tests
-  tested : (misaligned private below : Bool) (a offset : ℕ) (there here : Result Spot Stop) → there ≡ result_map spot_with here
+  tested : (misaligned private below : Bool) (a offset : ℕ) (there here : Result AccessSite Stop) → there ≡ result_map spot_with here
       → (if misaligned then Err (Misaligned a) else (if private then Ok (in_private offset) else (if below then Err (Unmapped a) else there)))
       ≡ result_map spot_with
       (if misaligned then Err (Misaligned a) else (if private then Ok (in_private offset) else (if below then Err (Unmapped a) else here)))
@@ -57,28 +57,28 @@ module _ (rename : BlockId → BlockId) where
   tested false false true a offset there here same = refl
   tested false false false a offset there here same = same
 
-  pub spot-renamed : (space : Space) (a size : ℕ) → spot (space_with rename space) a size ≡ result_map spot_with (spot space a size)
-  unfolding spot
+  pub spot-renamed : (space : Space) (a size : ℕ) → access_site (renamed_space rename space) a size ≡ result_map spot_with (access_site space a size)
+  unfolding access_site
   spot-renamed space a size =
       tested (not (a % size == 0)) (is_private a) (nat_lt a window_base) a (a - PRIVATE_START) _ _
-      (ap (λ window. spot_in window a size) (slice_get-map (window_with rename) space.windows (window_of a))
+      (ap (λ window. site_in window a size) (slice_get-map (window_with rename) space.windows (window_of a))
       ∙ spot_in-renamed (slice_get space.windows (window_of a)) a size)
 
   -- ---- what is loaded and stored
 
-  loaded_by : (space : Space) (size : ℕ) (at : Result Spot Stop)
-      → result_map (number_in (space_with rename space) size) (result_map spot_with at) ≡ result_map (number_in space size) at
+  loaded_by : (space : Space) (size : ℕ) (at : Result AccessSite Stop)
+      → result_map (number_in (renamed_space rename space) size) (result_map spot_with at) ≡ result_map (number_in space size) at
   loaded_by space size (Ok (in_private offset)) = refl
   loaded_by space size (Ok (in_block k block offset)) = refl
   loaded_by space size (Err cause) = refl
 
-  pub loaded-renamed : (space : Space) (a size : ℕ) → loaded_at (space_with rename space) a size ≡ loaded_at space a size
+  pub loaded-renamed : (space : Space) (a size : ℕ) → loaded_at (renamed_space rename space) a size ≡ loaded_at space a size
   loaded-renamed space a size =
-      ap (result_map (number_in (space_with rename space) size)) (spot-renamed space a size) ∙ loaded_by space size (spot space a size)
+      ap (result_map (number_in (renamed_space rename space) size)) (spot-renamed space a size) ∙ loaded_by space size (access_site space a size)
 
-  stored_by : (space : Space) (size n : ℕ) (at : Result Spot Stop)
-      → result_map (with_number_in (space_with rename space) size n) (result_map spot_with at)
-      ≡ result_map (space_with rename) (result_map (with_number_in space size n) at)
+  stored_by : (space : Space) (size n : ℕ) (at : Result AccessSite Stop)
+      → result_map (with_number_in (renamed_space rename space) size n) (result_map spot_with at)
+      ≡ result_map (renamed_space rename) (result_map (with_number_in space size n) at)
   stored_by space size n (Ok (in_private offset)) = refl
   stored_by space size n (Ok (in_block k block offset)) =
       ap (λ windows. Ok (record space { windows = windows }))
@@ -86,9 +86,9 @@ module _ (rename : BlockId → BlockId) where
   stored_by space size n (Err cause) = refl
 
   pub stored-renamed : (space : Space) (a size n : ℕ)
-      → stored_at (space_with rename space) a size n ≡ result_map (space_with rename) (stored_at space a size n)
+      → stored_at (renamed_space rename space) a size n ≡ result_map (renamed_space rename) (stored_at space a size n)
   stored-renamed space a size n =
-      ap (result_map (with_number_in (space_with rename space) size n)) (spot-renamed space a size) ∙ stored_by space size n (spot space a size)
+      ap (result_map (with_number_in (renamed_space rename space) size n)) (spot-renamed space a size) ∙ stored_by space size n (access_site space a size)
 
   -- ---- what a kernel call reads
 
@@ -98,7 +98,7 @@ module _ (rename : BlockId → BlockId) where
   named_in-renamed (Some None) p = refl
   named_in-renamed (Some (Some block)) p = refl
 
-  pub named-renamed : (space : Space) (p : ℕ) → block_named (space_with rename space) p ≡ result_map (found_with rename) (block_named space p)
+  pub named-renamed : (space : Space) (p : ℕ) → block_named (renamed_space rename space) p ≡ result_map (found_with rename) (block_named space p)
   unfolding block_named
   named-renamed space p =
       ap (λ named. if is_window_start p then named else Err (NotABlock p))
@@ -106,30 +106,30 @@ module _ (rename : BlockId → BlockId) where
       ∙ named_in-renamed (slice_get space.windows (window_of p)) p)
       ∙ sym (if_ap (result_map (found_with rename)) (is_window_start p) _ _)
 
-  place-renamed : (space : Space) (a : ℕ) → place_at (space_with rename space) a ≡ place_at space a
+  place-renamed : (space : Space) (a : ℕ) → memory_place (renamed_space rename space) a ≡ memory_place space a
   place-renamed space a =
-      let word : (λ (a : ℕ). loaded_at (space_with rename space) a 4) ≡ (λ a. loaded_at space a 4) = fun_ext (λ a. loaded-renamed space a 4) in
+      let word : (λ (a : ℕ). loaded_at (renamed_space rename space) a 4) ≡ (λ a. loaded_at space a 4) = fun_ext (λ a. loaded-renamed space a 4) in
       ap (λ load. and_then (load a) (λ node. result_map (λ pid. record { node = node; pid = pid }) (load (wrapping_sum a 4)))) word
 
-  pub places-renamed : (space : Space) (a count : ℕ) → places_at (space_with rename space) a count ≡ places_at space a count
+  pub places-renamed : (space : Space) (a count : ℕ) → places_at (renamed_space rename space) a count ≡ places_at space a count
   places-renamed space a zero = refl
   places-renamed space a (suc count) =
       ap₂ (λ first rest. and_then first (λ (place : Place). result_map (λ places. place ∷ places) rest)) (place-renamed space a) (places-renamed space (wrapping_sum a 8) count)
 
   -- ---- windows
 
-  pub mapped-renamed : (block : Block) (space : Space) → mapped_space (block_with rename block) (space_with rename space) ≡ space_with rename (mapped_space block space)
+  pub mapped-renamed : (block : Block) (space : Space) → mapped_space (renamed_block rename block) (renamed_space rename space) ≡ renamed_space rename (mapped_space block space)
   mapped-renamed block space =
       ap (λ windows. record space { windows = windows }) (sym (map-append (window_with rename) space.windows (Some block ∷ [])))
 
-  pub unmapped-renamed : (k : ℕ) (space : Space) → unmapped_space k (space_with rename space) ≡ space_with rename (unmapped_space k space)
+  pub unmapped-renamed : (k : ℕ) (space : Space) → unmapped_space k (renamed_space rename space) ≡ renamed_space rename (unmapped_space k space)
   unmapped-renamed k space = ap (λ windows. record space { windows = windows }) (set-map (window_with rename) space.windows k None)
 
   emptied_all : (windows : List (Option Block)) → map (λ window. None) (map (window_with rename) windows) ≡ map (window_with rename) (map (λ window. None) windows)
   emptied_all [] = refl
   emptied_all (window ∷ windows) = ap (λ rest. None ∷ rest) (emptied_all windows)
 
-  pub emptied-renamed : (space : Space) → emptied_space (space_with rename space) ≡ space_with rename (emptied_space space)
+  pub emptied-renamed : (space : Space) → emptied_space (renamed_space rename space) ≡ renamed_space rename (emptied_space space)
   emptied-renamed space = ap (λ windows. record space { windows = windows }) (emptied_all space.windows)
 
   ids_of-renamed : (windows : List (Option Block))
@@ -138,7 +138,7 @@ module _ (rename : BlockId → BlockId) where
   ids_of-renamed (None ∷ windows) = ids_of-renamed windows
   ids_of-renamed (Some block ∷ windows) = ap (λ rest. rename block.id ∷ rest) (ids_of-renamed windows)
 
-  pub ids-renamed : (space : Space) → mapped_ids (space_with rename space) ≡ map rename (mapped_ids space)
+  pub ids-renamed : (space : Space) → mapped_ids (renamed_space rename space) ≡ map rename (mapped_ids space)
   ids-renamed space = ids_of-renamed space.windows
 
 -- ---- the names in a memory
@@ -188,29 +188,29 @@ module _ (P : BlockId → Type 0) where
 
   -- ---- a store changes no name
 
-  abbrev IsNamedSpot : Spot → Type 0
+  abbrev IsNamedSpot : AccessSite → Type 0
   IsNamedSpot (in_private offset) = Unit {0}
   IsNamedSpot (in_block k block offset) = P block.id
 
-  spot_in-named : (window : Option (Option Block)) (a size : ℕ) → IfSome window (IsNamedWindow P) → IfOk (spot_in window a size) IsNamedSpot
+  spot_in-named : (window : Option (Option Block)) (a size : ℕ) → IfSome window (IsNamedWindow P) → IfOk (site_in window a size) IsNamedSpot
   spot_in-named None a size named = tt
   spot_in-named (Some None) a size named = tt
   spot_in-named (Some (Some block)) a size named =
-      if_each (λ (r : Result Spot Stop). IfOk r IsNamedSpot) (nat_le (offset_of a + size) (length block.bytes)) _ _ named tt
+      if_each (λ (r : Result AccessSite Stop). IfOk r IsNamedSpot) (nat_le (offset_of a + size) (length block.bytes)) _ _ named tt
 
-  spot-named : (space : Space) (a size : ℕ) → IsNamedSpace P space → IfOk (spot space a size) IsNamedSpot
-  unfolding spot
+  spot-named : (space : Space) (a size : ℕ) → IsNamedSpace P space → IfOk (access_site space a size) IsNamedSpot
+  unfolding access_site
   spot-named space a size named =
-      if_each (λ (r : Result Spot Stop). IfOk r IsNamedSpot) (not (a % size == 0)) _ _ tt
-      (if_each (λ (r : Result Spot Stop). IfOk r IsNamedSpot) (is_private a) _ _ tt
-      (if_each (λ (r : Result Spot Stop). IfOk r IsNamedSpot) (nat_lt a window_base) _ _ tt
+      if_each (λ (r : Result AccessSite Stop). IfOk r IsNamedSpot) (not (a % size == 0)) _ _ tt
+      (if_each (λ (r : Result AccessSite Stop). IfOk r IsNamedSpot) (is_private a) _ _ tt
+      (if_each (λ (r : Result AccessSite Stop). IfOk r IsNamedSpot) (nat_lt a window_base) _ _ tt
       (spot_in-named (slice_get space.windows (window_of a)) a size (all-get (IsNamedWindow P) space.windows (window_of a) named))))
 
-  stored_named : (space : Space) (size n : ℕ) (at : Result Spot Stop) → IsNamedSpace P space → IfOk at IsNamedSpot
+  stored_named : (space : Space) (size n : ℕ) (at : Result AccessSite Stop) → IsNamedSpace P space → IfOk at IsNamedSpot
       → IfOk (result_map (with_number_in space size n) at) (IsNamedSpace P)
   stored_named space size n (Ok (in_private offset)) named is = named
   stored_named space size n (Ok (in_block k block offset)) named is = all-set (IsNamedWindow P) space.windows k _ named is
   stored_named space size n (Err cause) named is = tt
 
   pub stored-named : (space : Space) (a size n : ℕ) → IsNamedSpace P space → IfOk (stored_at space a size n) (IsNamedSpace P)
-  stored-named space a size n named = stored_named space size n (spot space a size) named (spot-named space a size named)
+  stored-named space a size n named = stored_named space size n (access_site space a size) named (spot-named space a size named)

@@ -11,8 +11,8 @@ use Rattle.ce_model.specs.Limits.{block_room, window_count, greatest_targets, tu
 use Rattle.ce_model.specs.Blocks.{Block, put}
 use Rattle.ce_model.specs.Space.{window_start, has_unused_window, block_named, mapped_space, result_map, places_at}
 use Rattle.ce_model.specs.Process.{Process, argument, call_number}
-use Rattle.ce_model.specs.Node.{Turn, Node, is_place, sends, spawns, kills, notes}
-use Rattle.ce_model.specs.Kernel.{CallOutcome, read_or_stop, with_space, gives_up, maps_least, xmalloc, frees, xfree, xlength, is_target, place_named, sends_block, xsend, sends_copies, xmsend_block, xmsend, spawn, ckill, KernelCall, kernel_calls, kernel_call, counted_does, kernel_does, kernel}
+use Rattle.ce_model.specs.Node.{Turn, Node, is_place, send_call, spawn_call, kill_call, note_call}
+use Rattle.ce_model.specs.Kernel.{CallOutcome, read_outcome, with_space, process_left_behind, map_outcome, xmalloc, free_outcome, xfree, xlength, is_target, place_named, send_outcome, xsend, copies_outcome, xmsend_block, xmsend, spawn, ckill, KernelCall, kernel_calls, kernel_call, counted_outcome, call_outcome, kernel}
 use Rattle.ce_solo.proofs.Instructions.{any_ok}
 use Rattle.ce_solo.proofs.Calls.{call_numbered}
 use Rattle.ce_solo.proofs.Renaming.Lists.{zip-map}
@@ -23,10 +23,10 @@ use Rattle.ce_solo.proofs.Renaming.Calls.{Names, node_by, process_by, AreDid, Ar
 module _ (names : Names) where
   -- ---- blocks
 
-  maps_least-alike : (node : Node) (turn : Turn) (p : Process) (len : ℕ) (store : List BlockId) → AreNamedBoth names node p → AreNamed names.P store
-      → AreDid names (maps_least (node_by names node) turn (process_by names p) len (map names.rename store)) (maps_least node turn p len store)
-  maps_least-alike node turn p len [] both named = answers-alike names node turn p 0 both
-  maps_least-alike node turn p len (id ∷ store) both named =
+  map_outcome-alike : (node : Node) (turn : Turn) (p : Process) (len : ℕ) (store : List BlockId) → AreNamedBoth names node p → AreNamed names.P store
+      → AreDid names (map_outcome (node_by names node) turn (process_by names p) len (map names.rename store)) (map_outcome node turn p len store)
+  map_outcome-alike node turn p len [] both named = answers-alike names node turn p 0 both
+  map_outcome-alike node turn p len (id ∷ store) both named =
       let block : Block = record { id = id; bytes = replicate len 0 } in
       returns-alike names _ (record node { store = store }) turn _ (with_space p (mapped_space block p.space)) _ (window_start (length p.space.windows))
       refl (ap (with_space p) (mapped-renamed names.rename block p.space)) (ap window_start (length-map p.space.windows _))
@@ -40,26 +40,26 @@ module _ (names : Names) where
     did = λ node turn p both.
         if-alike names _ (nat_lt block_room (argument p 0) || not (has_unused_window p.space)) _ _ _ _
         (ap (λ used. nat_lt block_room (argument p 0) || not (nat_lt used window_count)) (length-map p.space.windows _))
-        (answers-alike names node turn p 0 both) (maps_least-alike node turn p (argument p 0) node.store both both.around.store);
+        (answers-alike names node turn p 0 both) (map_outcome-alike node turn p (argument p 0) node.store both both.around.store);
   }
 
-  gives_up-same : (k : ℕ) (p : Process) → gives_up k (process_by names p) ≡ process_by names (gives_up k p)
-  gives_up-same k p = ap (with_space p) (unmapped-renamed names.rename k p.space)
+  process_without-same : (k : ℕ) (p : Process) → process_left_behind k (process_by names p) ≡ process_by names (process_left_behind k p)
+  process_without-same k p = ap (with_space p) (unmapped-renamed names.rename k p.space)
 
   -- a call that does so with the block that the process names
   named-alike : (node : Node) (turn : Turn) (p : Process) (there here : ℕ × Block → CallOutcome) → AreNamedBoth names node p
       → ((found : ℕ × Block) → names.P found.1.id → AreDid names (there (found_with names.rename found)) (here found))
-      → AreDid names (read_or_stop (node_by names node) turn (process_by names p) (block_named (process_by names p).space (argument p 0)) there) (read_or_stop node turn p (block_named p.space (argument p 0)) here)
+      → AreDid names (read_outcome (node_by names node) turn (process_by names p) (block_named (process_by names p).space (argument p 0)) there) (read_outcome node turn p (block_named p.space (argument p 0)) here)
   named-alike node turn p there here both each =
       reading-alike names node turn p (found_with names.rename) (λ found. names.P found.1.id) _ (block_named p.space (argument p 0)) there here both
       (named-renamed names.rename p.space (argument p 0)) (named-named names.P p.space (argument p 0) both.own) each
 
   frees-alike : (node : Node) (turn : Turn) (p : Process) (found : ℕ × Block) → AreNamedBoth names node p → names.P found.1.id
-      → AreDid names (frees (node_by names node) turn (process_by names p) (found_with names.rename found)) (frees node turn p found)
+      → AreDid names (free_outcome (node_by names node) turn (process_by names p) (found_with names.rename found)) (free_outcome node turn p found)
   frees-alike node turn p found both new =
-      returns-alike names _ (record node { store = put found.1.id node.store }) turn _ (gives_up found.0 p) 0 0
+      returns-alike names _ (record node { store = put found.1.id node.store }) turn _ (process_left_behind found.0 p) 0 0
       (ap (λ store. record (node_by names node) { store = store }) (put-renamed names.rename names.P found.1.id node.store names.order new both.around.store))
-      (gives_up-same found.0 p) refl
+      (process_without-same found.0 p) refl
       (record {
         around = record { store = put-named names.P found.1.id node.store new both.around.store; processes = both.around.processes };
         own = unmapped-named names.P found.0 p.space both.own;
@@ -77,32 +77,32 @@ module _ (names : Names) where
 
   -- ---- messages
 
-  sends_block-alike : (node : Node) (turn : Turn) (p : Process) (found : ℕ × Block) → AreNamedBoth names node p
-      → AreDid names (sends_block (node_by names node) turn (process_by names p) (found_with names.rename found)) (sends_block node turn p found)
-  sends_block-alike node turn p found both =
+  send_outcome-alike : (node : Node) (turn : Turn) (p : Process) (found : ℕ × Block) → AreNamedBoth names node p
+      → AreDid names (send_outcome (node_by names node) turn (process_by names p) (found_with names.rename found)) (send_outcome node turn p found)
+  send_outcome-alike node turn p found both =
       if-alike names _ (is_target node (place_named p 1)) _ _ _ _ refl
-      (says-alike names (node_by names node) node turn _ (gives_up found.0 p) _ (sends turn.pid ((place_named p 1, found.1.id) ∷ []) found.1.bytes) refl (gives_up-same found.0 p) refl)
+      (says-alike names (node_by names node) node turn _ (process_left_behind found.0 p) _ (send_call turn.pid ((place_named p 1, found.1.id) ∷ []) found.1.bytes) refl (process_without-same found.0 p) refl)
       (answers-alike names node turn p 1 both)
 
   xsend-alike : IsCallAlike names xsend
   xsend-alike = record {
-    did = λ node turn p both. named-alike node turn p _ _ both (λ found new. sends_block-alike node turn p found both);
+    did = λ node turn p both. named-alike node turn p _ _ both (λ found new. send_outcome-alike node turn p found both);
   }
 
-  sends_copies-alike : (node : Node) (turn : Turn) (p : Process) (found : ℕ × Block) (places : List Place) → AreNamedBoth names node p → names.P found.1.id
-      → AreDid names (sends_copies (node_by names node) turn (process_by names p) (found_with names.rename found) places) (sends_copies node turn p found places)
-  sends_copies-alike node turn p found [] both new = frees-alike node turn p found both new
-  sends_copies-alike node turn p found (to ∷ others) both new =
+  copies_outcome-alike : (node : Node) (turn : Turn) (p : Process) (found : ℕ × Block) (places : List Place) → AreNamedBoth names node p → names.P found.1.id
+      → AreDid names (copies_outcome (node_by names node) turn (process_by names p) (found_with names.rename found) places) (copies_outcome node turn p found places)
+  copies_outcome-alike node turn p found [] both new = frees-alike node turn p found both new
+  copies_outcome-alike node turn p found (to ∷ others) both new =
       if-alike names _ (not (list_all (is_target node) (to ∷ others))) _ _ _ _ refl
       (answers-alike names node turn p 1 both)
       (if-alike names _ (nat_lt (length node.store) (length others)) _ _ _ _ (ap (λ n. nat_lt n (length others)) (length-map node.store names.rename))
       (answers-alike names node turn p 2 both)
-      (says-alike names _ (record node { store = drop (length others) node.store }) turn _ (gives_up found.0 p) _
-      (sends turn.pid (zip (to ∷ others) (found.1.id ∷ take (length others) node.store)) found.1.bytes)
+      (says-alike names _ (record node { store = drop (length others) node.store }) turn _ (process_left_behind found.0 p) _
+      (send_call turn.pid (zip (to ∷ others) (found.1.id ∷ take (length others) node.store)) found.1.bytes)
       (ap (λ store. record (node_by names node) { store = store }) (drop-map names.rename (length others) node.store))
-      (gives_up-same found.0 p)
-      (ap (λ ids. sends turn.pid (zip (to ∷ others) (names.rename found.1.id ∷ ids)) found.1.bytes) (take-map names.rename (length others) node.store)
-      ∙ ap (λ targets. sends turn.pid targets found.1.bytes) (zip-map names.rename (to ∷ others) (found.1.id ∷ take (length others) node.store)))))
+      (process_without-same found.0 p)
+      (ap (λ ids. send_call turn.pid (zip (to ∷ others) (names.rename found.1.id ∷ ids)) found.1.bytes) (take-map names.rename (length others) node.store)
+      ∙ ap (λ targets. send_call turn.pid targets found.1.bytes) (zip-map names.rename (to ∷ others) (found.1.id ∷ take (length others) node.store)))))
 
   map_same : {X : Type 0} (r : Result X Stop) → r ≡ result_map (λ x. x) r
   map_same (Ok x) = refl
@@ -116,7 +116,7 @@ module _ (names : Names) where
       (reading-alike names node turn p (λ places. places) (λ places. Unit {0}) _ (places_at p.space (argument p 2) (argument p 1)) _ _ both
       (places-renamed names.rename p.space (argument p 2) (argument p 1) ∙ map_same (places_at p.space (argument p 2) (argument p 1)))
       (any_ok (places_at p.space (argument p 2) (argument p 1)))
-      (λ places is. sends_copies-alike node turn p found places both new))
+      (λ places is. copies_outcome-alike node turn p found places both new))
 
   xmsend-alike : IsCallAlike names xmsend
   xmsend-alike = record {
@@ -131,7 +131,7 @@ module _ (names : Names) where
         if-alike names _ (not (is_place node.dim (place_named p 1))) _ _ _ _ refl
         (answers-alike names node turn p 1 both)
         (if-alike names _ (nat_lt (argument p 0) node.images) _ _ _ _ refl
-        (says-alike names (node_by names node) node turn (process_by names p) p _ (spawns turn.pid (argument p 0) (place_named p 1)) refl refl refl)
+        (says-alike names (node_by names node) node turn (process_by names p) p _ (spawn_call turn.pid (argument p 0) (place_named p 1)) refl refl refl)
         (answers-alike names node turn p 3 both));
   }
 
@@ -139,13 +139,13 @@ module _ (names : Names) where
   ckill-alike = record {
     did = λ node turn p both.
         if-alike names _ (is_place node.dim (place_named p 0)) _ _ _ _ refl
-        (says-alike names (node_by names node) node turn (process_by names p) p _ (kills turn.pid (place_named p 0)) refl refl refl)
+        (says-alike names (node_by names node) node turn (process_by names p) p _ (kill_call turn.pid (place_named p 0)) refl refl refl)
         (answers-alike names node turn p 1 both);
   }
 
   -- ---- all calls
 
-  calls-alike : AllByRecursion (λ call. IsCallAlike names call.does) kernel_calls
+  calls-alike : AllByRecursion (λ call. IsCallAlike names call.outcome) kernel_calls
   unfolding kernel_calls
   calls-alike = (
     xmalloc-alike,
@@ -158,9 +158,9 @@ module _ (names : Names) where
           (
             xmsend-alike,
             (
-              record { did = λ node turn p both. waits-alike names node turn p Polling (node.polling ++ turn.pid ∷ []) },
+              record { did = λ node turn p both. waits-alike names node turn p Polling (node.polling_ids ++ turn.pid ∷ []) },
               (
-                record { did = λ node turn p both. waits-alike names node turn p Asking node.polling },
+                record { did = λ node turn p both. waits-alike names node turn p Asking node.polling_ids },
                 (
                   spawn-alike,
                   (
@@ -175,7 +175,7 @@ module _ (names : Names) where
                             record { did = λ node turn p both. stops-alike names node turn p (Exited (argument p 0)) both },
                             (
                               record {
-                                did = λ node turn p both. says-alike names (node_by names node) node turn (process_by names p) p _ (notes turn.pid (argument p 0)) refl refl refl;
+                                did = λ node turn p both. says-alike names (node_by names node) node turn (process_by names p) p _ (note_call turn.pid (argument p 0)) refl refl refl;
                               },
                               tt,
                             ),
@@ -193,14 +193,14 @@ module _ (names : Names) where
     ),
   )
 
-  counted-alike : (call : KernelCall) (node : Node) (turn : Turn) (p : Process) → IsCallAlike names call.does → AreNamedBoth names node p
-      → AreDid names (counted_does call (node_by names node) turn (process_by names p)) (counted_does call node turn p)
+  counted-alike : (call : KernelCall) (node : Node) (turn : Turn) (p : Process) → IsCallAlike names call.outcome → AreNamedBoth names node p
+      → AreDid names (counted_outcome call (node_by names node) turn (process_by names p)) (counted_outcome call node turn p)
   counted-alike call node turn p alike both =
       if-alike names _ (nat_lt turn.calls turn_calls) _ _ _ _ refl
       (alike.did node (record turn { calls = turn.calls + 1 }) p both) (stops-alike names node turn p TurnSpent both)
 
-  does-alike : (call : Option KernelCall) (node : Node) (turn : Turn) (p : Process) → IfSome call (λ call. IsCallAlike names call.does) → AreNamedBoth names node p
-      → AreDid names (kernel_does call (node_by names node) turn (process_by names p)) (kernel_does call node turn p)
+  does-alike : (call : Option KernelCall) (node : Node) (turn : Turn) (p : Process) → IfSome call (λ call. IsCallAlike names call.outcome) → AreNamedBoth names node p
+      → AreDid names (call_outcome call (node_by names node) turn (process_by names p)) (call_outcome call node turn p)
   does-alike None node turn p alike both = stops-alike names node turn p (NoCall (call_number p)) both
   does-alike (Some call) node turn p alike both =
       if-alike names _ call.is_counted _ _ _ _ refl (counted-alike call node turn p alike both) (alike.did node turn p both)
@@ -210,4 +210,4 @@ module _ (names : Names) where
   unfolding kernel
   kernel-alike node turn p both =
       does-alike (kernel_call (call_number p)) node turn p
-      (call_numbered (λ call. IsCallAlike names call.does) (call_number p) calls-alike) both
+      (call_numbered (λ call. IsCallAlike names call.outcome) (call_number p) calls-alike) both

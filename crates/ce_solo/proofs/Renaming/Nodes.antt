@@ -8,8 +8,8 @@ use Rattle.ce_model.specs.declared.topology.BlockId.{BlockId}
 use Rattle.ce_model.specs.Blocks.{put_all}
 use Rattle.ce_model.specs.Space.{mapped_ids}
 use Rattle.ce_model.specs.Process.{Process, unborn_process, ended_process, is_receiving, is_stopped}
-use Rattle.ce_model.specs.Node.{Node, process_at, with_process, without_poller, with_stopped, blocks_of, takes, ids_of, take_of}
-use Rattle.ce_model.specs.Renaming.{process_with}
+use Rattle.ce_model.specs.Node.{Node, process_at, with_process, without_poller, with_stopped, blocks_of, take_call, ids_of, take_of}
+use Rattle.ce_model.specs.Renaming.{renamed_process}
 use Rattle.ce_solo.proofs.Lists.{all-front, all-back, all-weaker}
 use Rattle.ce_solo.proofs.Renaming.Lists.{all-set, all-at, all-flat, at-map, set-map}
 use Rattle.ce_solo.proofs.Renaming.Memory.{IsNamedSpace, ids-renamed, emptied-renamed, ids-named, space-named}
@@ -24,7 +24,7 @@ pub record IsNamed (P : BlockId → Type 0) (node : Node) : Type 0 where
 abbrev pub node_with : (BlockId → BlockId) → (ℕ → ℕ) → Node → Node
 node_with rename home node = record node {
   home = home node.home;
-  processes = map (process_with rename) node.processes;
+  processes = map (renamed_process rename) node.processes;
   store = map rename node.store;
 }
 
@@ -51,24 +51,24 @@ module _ (P : BlockId → Type 0) where
 -- ---- changes
 
 module _ (rename : BlockId → BlockId) (home : ℕ → ℕ) where
-  pub process-renamed : (node : Node) (pid : ℕ) → process_at (node_with rename home node) pid ≡ process_with rename (process_at node pid)
-  process-renamed node pid = at-map (process_with rename) node.processes pid unborn_process
+  pub process-renamed : (node : Node) (pid : ℕ) → process_at (node_with rename home node) pid ≡ renamed_process rename (process_at node pid)
+  process-renamed node pid = at-map (renamed_process rename) node.processes pid unborn_process
 
   pub with_process-renamed : (node : Node) (pid : ℕ) (p : Process)
-      → with_process (node_with rename home node) pid (process_with rename p) ≡ node_with rename home (with_process node pid p)
+      → with_process (node_with rename home node) pid (renamed_process rename p) ≡ node_with rename home (with_process node pid p)
   with_process-renamed node pid p =
       ap (λ processes. record node { home = home node.home; processes = processes; store = map rename node.store })
-      (set-map (process_with rename) node.processes pid p)
+      (set-map (renamed_process rename) node.processes pid p)
 
-  ended-renamed : (cause : Stop) (p : Process) → ended_process cause (process_with rename p) ≡ process_with rename (ended_process cause p)
+  ended-renamed : (cause : Stop) (p : Process) → ended_process cause (renamed_process rename p) ≡ renamed_process rename (ended_process cause p)
   ended-renamed cause p = ap (λ space. record p { status = Stopped cause; space = space }) (emptied-renamed rename p.space)
 
   pub with_stopped-renamed : (P : BlockId → Type 0) (node : Node) (pid : ℕ) (p : Process) (cause : Stop) → IsOrderKept rename P → IsNamed P node → IsNamedSpace P p.space
-      → with_stopped (node_with rename home node) pid (process_with rename p) cause ≡ node_with rename home (with_stopped node pid p cause)
+      → with_stopped (node_with rename home node) pid (renamed_process rename p) cause ≡ node_with rename home (with_stopped node pid p cause)
   with_stopped-renamed P node pid p cause order named own =
       ap₂ (λ processes store. node_stopped processes store)
-      (ap (λ q. slice_set (map (process_with rename) node.processes) pid q) (ended-renamed cause p)
-      ∙ set-map (process_with rename) node.processes pid (ended_process cause p))
+      (ap (λ q. slice_set (map (renamed_process rename) node.processes) pid q) (ended-renamed cause p)
+      ∙ set-map (renamed_process rename) node.processes pid (ended_process cause p))
       (ap (λ ids. put_all ids (map rename node.store)) (ids-renamed rename p.space)
       ∙ put_all-renamed rename P (mapped_ids p.space) node.store order (ids-named P p.space own) named.store)
     where
@@ -77,14 +77,14 @@ module _ (rename : BlockId → BlockId) (home : ℕ → ℕ) where
         home = home node.home;
         processes = processes;
         store = store;
-        polling = without_poller pid node.polling;
+        polling_ids = without_poller pid node.polling_ids;
         turn = None;
       }
 
-  ids-same : (test : Status → Bool) (ps : List Process) → ids_of test (map (process_with rename) ps) ≡ ids_of test ps
+  ids-same : (test : Status → Bool) (ps : List Process) → ids_of test (map (renamed_process rename) ps) ≡ ids_of test ps
   ids-same test [] = refl
   ids-same test (p ∷ ps) = ap (λ n. (if test p.status then 1 else 0) + 2 * n) (ids-same test ps)
 
   pub take-renamed : (node : Node) → take_of (node_with rename home node) ≡ take_of node
   take-renamed node =
-      ap₂ (λ asking dead. takes asking dead (slice_get node.polling 0)) (ids-same is_receiving node.processes) (ids-same is_stopped node.processes)
+      ap₂ (λ asking dead. take_call asking dead (slice_get node.polling_ids 0)) (ids-same is_receiving node.processes) (ids-same is_stopped node.processes)

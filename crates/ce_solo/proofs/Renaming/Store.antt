@@ -2,12 +2,12 @@
 use Rattle.std.proofs.Common.{◌≡◌, Bool, if◌then◌else◌, List, [], ◌∷◌, map, refl, ap, ap₂, sym, ◌∙◌}
 use Rattle.std.specs.List.{AllByRecursion}
 use Rattle.ce_model.specs.declared.topology.BlockId.{BlockId}
-use Rattle.ce_model.specs.Blocks.{precedes, put, put_all}
+use Rattle.ce_model.specs.Blocks.{is_lower, put, put_all}
 use Rattle.ce_solo.proofs.Renaming.Lists.{if_ap, if_each}
 
 -- the names with the property stay in order when they are renamed
 pub record IsOrderKept (rename : BlockId → BlockId) (P : BlockId → Type 0) : Type 0 where
-  pub kept : (a b : BlockId) → P a → P b → precedes (rename a) (rename b) ≡ precedes a b
+  pub kept : (a b : BlockId) → P a → P b → is_lower (rename a) (rename b) ≡ is_lower a b
 
 -- the property holds of each name
 abbrev pub AreNamed : (BlockId → Type 0) → List BlockId → Type 0
@@ -16,7 +16,7 @@ AreNamed P ids = AllByRecursion P ids
 pub put-named : (P : BlockId → Type 0) (id : BlockId) (ids : List BlockId) → P id → AreNamed P ids → AreNamed P (put id ids)
 put-named P id [] new named = (new, tt)
 put-named P id (other ∷ ids) new named =
-    if_each (AreNamed P) (precedes id other) _ _ (new, named) (named.0, put-named P id ids new named.1)
+    if_each (AreNamed P) (is_lower id other) _ _ (new, named) (named.0, put-named P id ids new named.1)
 
 pub put_all-named : (P : BlockId → Type 0) (ids store : List BlockId) → AreNamed P ids → AreNamed P store → AreNamed P (put_all ids store)
 put_all-named P [] store new named = named
@@ -28,7 +28,7 @@ put-renamed rename P id [] order new named = refl
 put-renamed rename P id (other ∷ ids) order new named =
     ap₂ (λ (first : Bool) rest. if first then rename id ∷ rename other ∷ map rename ids else rename other ∷ rest)
     (order.kept id other new named.0) (put-renamed rename P id ids order new named.1)
-    ∙ sym (if_ap (map rename) (precedes id other) _ _)
+    ∙ sym (if_ap (map rename) (is_lower id other) _ _)
 
 pub put_all-renamed : (rename : BlockId → BlockId) (P : BlockId → Type 0) (ids store : List BlockId) → IsOrderKept rename P → AreNamed P ids → AreNamed P store
     → put_all (map rename ids) (map rename store) ≡ map rename (put_all ids store)

@@ -1,6 +1,7 @@
 //! What a node that is driven by hand says and hears, worked by hand.
 
 use ce_model::{Status, Stop};
+use rk_programs::{ALL_WINDOWS, BLOCK_SIZES, GONE_BLOCK, MULTICAST, UNREADABLE_LIST, WAIT};
 
 /// What the driver does.
 #[derive(Clone, Copy, Debug)]
@@ -23,35 +24,7 @@ pub(super) struct Row {
 /// The greatest block, one byte more than it, and an empty one.
 pub(super) const SIZES: Row = Row {
     title: "sizes",
-    images: &[
-        "\
-                li a0, 4096\n\
-                li a7, 1\n\
-                ecall\n\
-                mv s0, a0\n\
-                li a7, 14\n\
-                ecall\n\
-                li t0, 4092\n\
-                add t0, s0, t0\n\
-                li t1, 5\n\
-                sw t1, 0(t0)\n\
-                mv a0, s0\n\
-                li a7, 3\n\
-                ecall\n\
-                li a7, 14\n\
-                ecall\n\
-                li a0, 4097\n\
-                li a7, 1\n\
-                ecall\n\
-                li a7, 14\n\
-                ecall\n\
-                li a0, 0\n\
-                li a7, 1\n\
-                ecall\n\
-                li a7, 14\n\
-                ecall\n\
-                lb t0, 0(a0)\n",
-    ],
+    images: &[BLOCK_SIZES],
     steps: &[Step::Spawn { image: 0, pid: 0 }, Step::Run],
     transcript: "\
         take 0 0 - start 0 0\n\
@@ -98,26 +71,7 @@ const TAKES_ALL: &str = "\
 /// A process has 32,768 windows; a message that finds none left is its end, and the message's block goes to the store.
 pub(super) const WINDOWS: Row = Row {
     title: "windows",
-    images: &[
-        "\
-                li s0, 32768\n\
-        loop:   li a0, 4\n\
-                li a7, 1\n\
-                ecall\n\
-                li a7, 2\n\
-                ecall\n\
-                addi s0, s0, -1\n\
-                bne s0, zero, loop\n\
-                li a0, 4\n\
-                li a7, 1\n\
-                ecall\n\
-                li a7, 14\n\
-                ecall\n\
-                li a7, 7\n\
-                ecall\n",
-        SENDER,
-        TAKES_ALL,
-    ],
+    images: &[ALL_WINDOWS, SENDER, TAKES_ALL],
     steps: &[
         Step::Spawn { image: 0, pid: 0 },
         Step::Run,
@@ -187,73 +141,7 @@ pub(super) const JUMPS: Row = Row {
 /// One block to several places, and each refusal, in its order.
 pub(super) const XMSEND: Row = Row {
     title: "xmsend",
-    images: &[
-        "\
-                li a0, 4\n\
-                li a7, 1\n\
-                ecall\n\
-                mv s0, a0\n\
-                li a1, 0\n\
-                li a7, 5\n\
-                ecall\n\
-                li a7, 14\n\
-                ecall\n\
-                li a0, 4\n\
-                li a7, 1\n\
-                ecall\n\
-                li a1, 2\n\
-                la a2, same\n\
-                li a7, 5\n\
-                ecall\n\
-                li a7, 14\n\
-                ecall\n\
-                li a0, 4\n\
-                li a7, 1\n\
-                ecall\n\
-                mv s1, a0\n\
-                li a1, 2\n\
-                la a2, other\n\
-                li a7, 5\n\
-                ecall\n\
-                li a7, 14\n\
-                ecall\n\
-                mv a0, s1\n\
-                li a1, 34\n\
-                la a2, same\n\
-                li a7, 5\n\
-                ecall\n\
-                li a7, 14\n\
-                ecall\n\
-                mv a0, s1\n\
-                li a1, 31\n\
-                li a7, 5\n\
-                ecall\n\
-                li a7, 14\n\
-                ecall\n\
-                mv a0, s1\n\
-                li a1, 65\n\
-                li a7, 5\n\
-                ecall\n\
-                li a7, 14\n\
-                ecall\n\
-                mv a0, s1\n\
-                li a7, 3\n\
-                ecall\n\
-                li a7, 14\n\
-                ecall\n\
-                mv a0, s1\n\
-                li a1, 30\n\
-                li a7, 5\n\
-                ecall\n\
-                li a7, 14\n\
-                ecall\n\
-                mv a0, s0\n\
-                li a7, 3\n\
-                ecall\n\
-        other:  .word 0, 1, 9, 0\n\
-        same:   .word 0, 1, 0, 1, 0, 1, 0, 1, 0, 1, 0, 1, 0, 1, 0, 1, 0, 1, 0, 1, 0, 1, 0, 1, 0, 1, 0, 1, 0, 1, 0, 1, 0, 1\n\
-                .word 0, 1, 0, 1, 0, 1, 0, 1, 0, 1, 0, 1, 0, 1, 0, 1, 0, 1, 0, 1, 0, 1, 0, 1, 0, 1, 0, 1, 0, 1, 0, 1, 0, 1\n",
-    ],
+    images: &[MULTICAST],
     steps: &[Step::Spawn { image: 0, pid: 0 }, Step::Run],
     transcript: "\
         take 0 0 - start 0 0\n\
@@ -276,18 +164,7 @@ pub(super) const XMSEND: Row = Row {
 /// A list that can't be read to its end stops the process, though its first place is none.
 pub(super) const UNREAD: Row = Row {
     title: "unread",
-    images: &[
-        "\
-                li a0, 4\n\
-                li a7, 1\n\
-                ecall\n\
-                li a2, 0x2FFF8\n\
-                li t0, 9\n\
-                sw t0, 0(a2)\n\
-                li a1, 2\n\
-                li a7, 5\n\
-                ecall\n",
-    ],
+    images: &[UNREADABLE_LIST],
     steps: &[Step::Spawn { image: 0, pid: 0 }, Step::Run],
     transcript: "\
         take 0 0 - start 0 0\n\
@@ -380,9 +257,7 @@ pub(super) const CAUSES_OF_INSTRUCTIONS: Row = Row {
 pub(super) const CAUSES_OF_CALLS: Row = Row {
     title: "causes_of_calls",
     images: &[
-        "\
-                li a7, 7\n\
-                ecall\n",
+        WAIT,
         "\
                 li a0, 3\n\
                 li a7, 3\n\
@@ -392,18 +267,7 @@ pub(super) const CAUSES_OF_CALLS: Row = Row {
                 li a7, 1\n\
                 ecall\n\
                 lb t1, 0(a0)\n",
-        "\
-                li a0, 8\n\
-                li a7, 1\n\
-                ecall\n\
-                mv s0, a0\n\
-                li t0, 7\n\
-                sw t0, 0(s0)\n\
-                li a1, -1\n\
-                li a2, 0\n\
-                li a7, 4\n\
-                ecall\n\
-                lw t1, 0(s0)\n",
+        GONE_BLOCK,
         "loop: j loop\n",
     ],
     steps: &[
@@ -558,11 +422,7 @@ pub(super) const MAIL_FOR_ONE_THAT_HAS_STOPPED: Row = Row {
 /// A process that waits is killed.
 pub(super) const KILLED: Row = Row {
     title: "killed",
-    images: &[
-        "\
-                li a7, 7\n\
-                ecall\n",
-    ],
+    images: &[WAIT],
     steps: &[
         Step::Spawn { image: 0, pid: 0 },
         Step::Run,
@@ -621,9 +481,7 @@ pub(super) const POLLED: Row = Row {
 pub(super) const ANSWERS: Row = Row {
     title: "answers",
     images: &[
-        "\
-                li a7, 7\n\
-                ecall\n",
+        WAIT,
         "\
                 li a0, 0\n\
                 li a1, 0\n\

@@ -4,11 +4,11 @@ ghost use Rattle.std.specs.Prelude.{◌≡◌, ◌+◌, ◌≤◌, IfOk, length}
 ghost use Rattle.std.specs.Result.{result_err};
 ghost use Rattle.rv_model.specs.Image.{ImageParts, image_parts};
 ghost use Rattle.rv_image.specs.Fault.{named_cause, IsValueOf};
-ghost use Rattle.rv_image.specs.Rki1.{IsRki1, number_at, fields_of, fault_of};
+ghost use Rattle.rv_image.specs.Rki1.{IsRki1, fields_of, fault_of};
 
 use super::{Image, is_entry, is_too_large};
 use crate::ImageFault;
-use rv_model::NoMemory;
+use rv_model::{NoMemory, word_in};
 use std::alloc::Global;
 
 /// With these bytes RKI1 begins.
@@ -34,19 +34,6 @@ struct Fields<'a> {
     zero: u32,
 }
 
-/// The little-endian number in the four bytes from this place on.
-fn number_at(bytes: &[u8], place: usize) -> u32
-    requires { place + 4 ≤ length bytes.now }
-    ensures { result ≡ number_at place bytes.now }
-{
-    u32::from_le_bytes([
-        bytes[place],
-        bytes[place + 1],
-        bytes[place + 2],
-        bytes[place + 3],
-    ])
-}
-
 /// What the bytes hold, or why they are no RKI1.
 fn fields_in(bytes: &[u8]) -> Result<Fields<'_>, ImageFault>
     ensures found { IfOk result
@@ -59,15 +46,15 @@ fn fields_in(bytes: &[u8]) -> Result<Fields<'_>, ImageFault>
     if !bytes.starts_with(&MAGIC) {
         return Err(ImageFault::Magic);
     }
-    let loaded_len = number_at(bytes, LOADED_LEN_AT) as usize;
-    let zero = number_at(bytes, ZERO_LEN_AT);
+    let loaded_len = word_in(bytes, LOADED_LEN_AT) as usize;
+    let zero = word_in(bytes, ZERO_LEN_AT);
     if is_too_large(loaded_len, zero as usize) {
         return Err(ImageFault::TooLarge);
     }
     if bytes.len() != HEADER_LEN + loaded_len {
         return Err(ImageFault::Length);
     }
-    let entry = number_at(bytes, ENTRY_AT);
+    let entry = word_in(bytes, ENTRY_AT);
     if !is_entry(entry, loaded_len) {
         return Err(ImageFault::Entry);
     }

@@ -8,7 +8,7 @@ use Rattle.ce_model.specs.Space.{mapped_ids}
 use Rattle.ce_model.specs.Node.{Node, blocks_of}
 use Rattle.ce_model.specs.Kernel.{with_store}
 use Rattle.xm_block.specs.Stores.{ids_of}
-use Rattle.rk_node.specs.Boxes.{Box, HasRoomFor}
+use Rattle.rk_node.specs.Boxes.{Box, HasRoomForBlock}
 use Rattle.ce_cube.specs.Homecoming.{HasPrefix, IsEmptied}
 use Rattle.ce_cube.proofs.Gathering.{name_at, home-of_name, first_names, all-names, length-names, put-next, next-new, next-first}
 use Rattle.ce_cube.proofs.rehoming.send_home.Goals as goal
@@ -65,7 +65,7 @@ module _ (box now : Box) (store : List BlockId) (i : ℕ) (block : Block) (held 
   apart : Contains (blocks_of now.node) block.id → ⊥
   apart there = next-new box.node.home i (subst (λ ids. Contains ids (name_at box.node.home i)) blocks-are (subst (Contains (blocks_of now.node)) id-is there))
 
-  room : HasRoomFor now
+  room : HasRoomForBlock now
   room =
       omega (
         arith,

@@ -6,11 +6,11 @@ pub overflow_add-crew : goal.overflow_add-crew
 overflow_add-crew c =
     omega (
       arith,
-      entries-few c.args.machine.now c.take_turn.new.machine c.args.crew.now c.args.crew.now c.args.r c.in_ok-turn.turn.entries c.take_turn.new.node c.in_ok-turn.turn.work
+      entries-few c.args.machine.now c.take_turn.new.machine c.args.crew.now c.args.crew.now c.args.r c.in_ok-turn.turn.entries c.take_turn.new.node c.in_ok-turn.turn.has_work
           c.requires.crew c.requires.node c.in_ok-turn.ensures.turn c.in_ok-turn.ensures.in_step,
     )
 
 pub returns : goal.returns
 returns c =
-    turn-taken c.args.machine.now c.take_turn.new.machine c.args.crew.now _ c.args.r c.in_ok-turn.turn.entries c.take_turn.new.node c.in_ok-turn.turn.work
+    turn-taken c.args.machine.now c.take_turn.new.machine c.args.crew.now _ c.args.r c.in_ok-turn.turn.entries c.take_turn.new.node c.in_ok-turn.turn.has_work
     c.requires.crew c.requires.node c.in_ok-turn.ensures.turn c.in_ok-turn.ensures.in_step refl refl refl refl

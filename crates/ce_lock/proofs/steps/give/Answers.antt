@@ -4,4 +4,4 @@ use Rattle.ce_lock.proofs.steps.give.Goals as goal
 
 pub load-requires : goal.load-requires
 load-requires g c = let e = c.requires.object in
-    (c.requires.chair, omega (arith, c.requires.sized.0), gives_back _ _ _ _ _ _ _ e.0 e.1 c.requires.sized.1 c.requires.holds.1 e.2 e.3 e.4 e.5)
+    (c.requires.chair, omega (arith, c.args.board.now.sized.0), gives_back _ _ _ _ _ _ _ e.0 e.1 c.args.board.now.sized.1 c.requires.holds.1 e.2 e.3 e.4 e.5)

@@ -6,5 +6,5 @@ use Rattle.ce_lock.proofs.steps.worker_seat.Goals as goal
 
 pub split_seat-requires : goal.split_seat-requires
 split_seat-requires g c = let free = c.requires.free in let small : c.args.actor < 2 ^ 32 = search rules in
-    let fine = subst (λ (a : ℕ). (a ≢ HOST) × (a < 2 ^ 32) × (¬ IsIn a c.args.chair.now.me.0.right.away)) (sym c.requires.name) (free.0, small, free.1) in
-    (c.requires.chair, omega (arith, c.requires.sized.0), sends_out _ _ _ _ _ _ c.requires.draws c.requires.host fine.0 fine.1 fine.2)
+    let fine = subst (λ (a : ℕ). (a ≢ HOST) × (a < 2 ^ 32) × (¬ IsIn a c.args.chair.now.me.0.right.absent_actors)) (sym c.requires.name) (free.0, small, free.1) in
+    (c.requires.chair, omega (arith, c.args.board.now.sized.0), sends_out _ _ _ _ _ _ c.requires.may_draw c.requires.host fine.0 fine.1 fine.2)

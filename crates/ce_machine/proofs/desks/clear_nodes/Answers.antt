@@ -16,7 +16,7 @@ clear-requires c =
     let sub = c.args.grant.now.sub in
     let r = c.loop-r.r in
     let below : r < 2 ^ c.args.grant.now.dim = omega (arith, c.loop-r-test.true, c.node_count-r-end.ensures) in
-    ap (λ (kept : NodeRecord). kept.waiting)
+    ap (λ (kept : NodeRecord). kept.waiting_items)
     (first-read sub c.args.grant.now.dim r c.requires.sub.sub_is below clear c.args.desks.now.items c.loop-r.desks.items _ c.index_mut-desk.result.now (c.requires.sub.within r below) c.loop-r.invariant c.node_at.ensures c.index_mut-desk.ensures.value)
     ∙ c.requires.empty r below
 

@@ -1,5 +1,5 @@
 use Rattle.std.proofs.Common.{◌≡◌, ◌+◌, ◌≤◌, ◌++◌, map, flat_map, length, vec_capacity}
-use Rattle.ce_model.specs.Parcels.{Parcel, parcels_among}
+use Rattle.ce_model.specs.Parcels.{Parcel, item_parcels}
 use Rattle.ce_machine.specs.Tables.{desk_at}
 use Rattle.ce_machine.specs.Desks.{AreChanged, without_items}
 use Rattle.ce_machine.proofs.Loops.{rest_from, at_first}
@@ -9,8 +9,8 @@ use Rattle.ce_machine.proofs.desks.drain_nodes.Given as goal
 abbrev pub invariant-loop-r : goal.invariant-loop-r
 invariant-loop-r l = record {
   desks : AreChanged l.initial.desks.items l.desks.items (at_first l.grant.sub l.r without_items);
-  blocks : l.blocks.items ++ map (λ (p : Parcel). p.block) (parcels_among (flat_map (λ node. (desk_at l.initial.desks.items node).waiting) (rest_from l.grant.sub l.r l.r-end)))
-      ≡ l.initial.blocks.items ++ map (λ (p : Parcel). p.block) (parcels_among (flat_map (λ node. (desk_at l.initial.desks.items node).waiting) (rest_from l.grant.sub 0 l.r-end)));
-  room : length l.blocks.items + length (flat_map (λ node. (desk_at l.initial.desks.items node).waiting) (rest_from l.grant.sub l.r l.r-end)) ≤ vec_capacity l.initial.blocks;
+  blocks : l.blocks.items ++ map (λ (p : Parcel). p.block) (item_parcels (flat_map (λ node. (desk_at l.initial.desks.items node).waiting_items) (rest_from l.grant.sub l.r l.r-end)))
+      ≡ l.initial.blocks.items ++ map (λ (p : Parcel). p.block) (item_parcels (flat_map (λ node. (desk_at l.initial.desks.items node).waiting_items) (rest_from l.grant.sub 0 l.r-end)));
+  room : length l.blocks.items + length (flat_map (λ node. (desk_at l.initial.desks.items node).waiting_items) (rest_from l.grant.sub l.r l.r-end)) ≤ vec_capacity l.initial.blocks;
   capacity : vec_capacity l.blocks ≡ vec_capacity l.initial.blocks;
 }

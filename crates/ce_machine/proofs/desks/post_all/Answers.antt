@@ -5,7 +5,7 @@ use Rattle.ce_model.specs.declared.topology.TheConstants.{HOST}
 use Rattle.ce_model.specs.declared.topology.Place.{Place}
 use Rattle.ce_model.specs.declared.topology.BlockId.{BlockId}
 use Rattle.ce_model.specs.Blocks.{Block}
-use Rattle.ce_model.specs.Renaming.{place_outward, targets_renamed}
+use Rattle.ce_model.specs.Renaming.{place_outward, renamed_targets}
 use Rattle.rk_mail.specs.Targets.{targets_of}
 use Rattle.ce_machine.proofs.Letters.{posted-none, posted-more, out-apart, out-own, node-left, host-left}
 use Rattle.ce_machine.proofs.desks.post_all.Goals as goal
@@ -36,15 +36,15 @@ loop-to-preserved c =
     let inv = c.loop-to.invariant in
     let taken : c.loop-to.batch ≡ (c.in-Some.to, c.in-Some.block) ∷ c.take_first.new.self = c.in-Some.ensures.taken in
     let places = rw taken at inv.places in
-    let named : List (Place × Block) → List (Place × BlockId) = λ b. targets_renamed (place_outward c.args.grant.now.sub) (λ id. id) (targets_of b) in
+    let named : List (Place × Block) → List (Place × BlockId) = λ b. renamed_targets (place_outward c.args.grant.now.sub) (λ id. id) (targets_of b) in
     let rest = named c.take_first.new.self in
-    let one : List (Place × BlockId) = (c.outward.result, c.id.result) ∷ [] in
+    let one : List (Place × BlockId) = (c.place_outward.result, c.id.result) ∷ [] in
     record {
       posted = posted-more (rw taken at inv.posted) c.post.ensures.desks c.post.ensures.host (out-apart c.in-Some.to c.requires.sub places.0);
       places = places.1;
       numbers = omega (arith, inv.numbers, ap length taken);
       targets = ap (λ front. front ++ rest) c.push_reserved.ensures.items ∙ append_assoc c.loop-to.targets.items one rest
-          ∙ (λ i. c.loop-to.targets.items ++ (c.outward.ensures i, c.id.ensures i) ∷ rest) ∙ sym (ap (λ b. c.loop-to.targets.items ++ named b) taken) ∙ inv.targets;
+          ∙ (λ i. c.loop-to.targets.items ++ (c.place_outward.ensures i, c.id.ensures i) ∷ rest) ∙ sym (ap (λ b. c.loop-to.targets.items ++ named b) taken) ∙ inv.targets;
       room = omega (arith, inv.room, ap length taken, ap length c.push_reserved.ensures.items, length-append c.loop-to.targets.items one);
       capacity = c.push_reserved.ensures.capacity ∙ inv.capacity;
     }

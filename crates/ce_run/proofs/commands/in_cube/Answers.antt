@@ -9,12 +9,12 @@ use Rattle.ce_run.proofs.commands.in_cube.Goals as goal
 pub returns-in-Getcube : goal.returns-in-Getcube
 returns-in-Getcube c =
     subst (λ command. HasDone c.args.machine.now c.args.machine.now c.args.crew.now.grant.user command Held (Holding c.args.crew.now)) (sym c.in-Getcube.is)
-    (held-done c.args.machine.now c.args.crew.now c.requires.user.book c.requires.crew c.in-Getcube.field-0)
+    (held-done c.args.machine.now c.args.crew.now c.requires.crew.user.book c.requires.crew.in_step c.in-Getcube.field-0)
 
 pub returns-in-Trace : goal.returns-in-Trace
 returns-in-Trace c =
     subst (λ command. HasDone c.args.machine.now c.args.machine.now c.args.crew.now.grant.user command (Entries c.args.crew.now.entries) (Holding c.args.crew.now))
-    (sym c.in-Trace.is) (trace-done c.args.machine.now c.args.crew.now c.requires.user.book c.requires.crew)
+    (sym c.in-Trace.is) (trace-done c.args.machine.now c.args.crew.now c.requires.crew.user.book c.requires.crew.in_step)
 
 pub start-requires-clause-image : goal.start-requires-clause-image
 start-requires-clause-image c = subst (IsCommandWithin _) c.in-Spawn.is c.requires.within

@@ -1,72 +1,46 @@
-use Rattle.std.proofs.Common.{◌≡◌, ◌+◌, ◌∷◌, sym, ap, subst, refl, arith, false, Some, List}
+use Rattle.std.proofs.Common.{◌≡◌, ◌∷◌, subst, false, Some, List}
 use Rattle.std.proofs.lemmas.Result.{err_from_is_err_and}
-use Rattle.std.specs.List.{slice_split}
-use Rattle.ce_text.specs.Bytes.{is_line_feed}
-use Rattle.ce_script.specs.declared.reader.rest.Rest.{Rest}
-use Rattle.ce_script.specs.declared.reader.state.Reader.{Reader}
 use Rattle.ce_script.specs.Lines.{Line}
 use Rattle.ce_script.specs.Statements.{statements}
-use Rattle.ce_script.specs.ReadLines.{numbered_lines, lines_left, statements_from}
-use Rattle.ce_script.specs.Places.{AreIndexed}
-use Rattle.ce_script.specs.Standing.{AreFew, HasReadUpTo, fault_among}
-use Rattle.ce_script.proofs.BodyLines.{left}
-use Rattle.ce_script.proofs.BodyEnds.{reach_shorter}
-use Rattle.ce_script.proofs.Further.{next_line, begins_reading, few_at_first, ends_reading, is_known, is_no_want, first_is}
+use Rattle.ce_script.specs.ReadLines.{lines_left, remaining_statements}
+use Rattle.ce_script.specs.Standing.{HasReadUpTo, first_statement_fault}
+use Rattle.ce_script.proofs.BodyLines.{line_at}
+use Rattle.ce_script.proofs.BodyEnds.{next_line}
+use Rattle.ce_script.proofs.Further.{begins_reading, ends_reading, is_known, is_no_want, first_is}
 use Rattle.ce_script.proofs.WithinLimits.{within_limits}
 use Rattle.ce_script.proofs.reader.read_script.Goals as goal
-use Rattle.ce_script.proofs.reader.read_script.Goals.{After-cut_at}
+use Rattle.ce_script.proofs.reader.read_script.Goals.{In-Some}
 
-pub loop-rest-init : goal.loop-rest-init
-loop-rest-init c = record {
-  stands = subst (λ (reader : Reader). HasReadUpTo (statements c.args.bytes.now) reader (statements_from false (numbered_lines 1 (slice_split is_line_feed c.args.bytes.now)))) (sym c.new-reader.ensures) (begins_reading c.args.bytes.now);
-  few = subst AreFew (sym c.new-reader.ensures) few_at_first;
-  indexed =
-      subst (AreIndexed c.new-indexes.result) (sym c.new-reader.ensures)
-      (record { users = c.new-indexes.ensures.users; images = c.new-indexes.ensures.images });
-  reach = omega arith;
-}
+pub loop-line-init : goal.loop-line-init
+loop-line-init c = begins_reading c.args.bytes.now c.new-reader.result.so_far c.new-rest.result c.new-reader.ensures c.new-rest.ensures.before c.new-rest.ensures.text
 
--- what is left behind the line that was cut off
-abbrev behind : After-cut_at → Rest
-behind c = record { before = c.loop-rest.rest.before + 1; text = c.cut_at.result.1 }
-
--- the reader stands at that line
-at : (c : After-cut_at) → HasReadUpTo (statements c.args.bytes.now) c.loop-rest.reader (statements_from false (record { number = (behind c).before; text = c.cut_at.result.0.now } ∷ lines_left (behind c)))
+-- the reader stands at the line that was cut off
+at : (c : In-Some) → HasReadUpTo (statements c.args.bytes.now) c.loop-line.reader.so_far (remaining_statements false (line_at c.in-Some.next.line_count c.in-Some.line.now ∷ lines_left c.in-Some.next))
 at c =
-    subst (λ (lines : List Line). HasReadUpTo (statements c.args.bytes.now) c.loop-rest.reader (statements_from false lines))
-    (next_line c.loop-rest.rest (behind c) c.in-Some.text.now c.cut_at.result.0.now (ap left c.in-Some.is) c.cut_at.ensures.parts refl) c.loop-rest.invariant.stands
+    subst (λ (lines : List Line). HasReadUpTo (statements c.args.bytes.now) c.loop-line.reader.so_far (remaining_statements false lines))
+    (next_line c.loop-line.rest c.in-Some.line.now c.in-Some.next c.in-Some.ensures) c.loop-line.invariant
 
-pub returns-in_err-rest-clause-fault : goal.returns-in_err-rest-clause-fault
-returns-in_err-rest-clause-fault c =
+pub returns-in_err-reader-clause-fault : goal.returns-in_err-reader-clause-fault
+returns-in_err-reader-clause-fault c =
     let all = statements c.args.bytes.now in
-    let fault = c.in_err-rest.field-0.0 in
-    let known = c.in_err-rest.ensures.stands all (at (goal.at.returns-in_err-rest-clause-fault c).After-cut_at) in
+    let fault = c.in_err-reader.field-0.0 in
+    let known = c.in_err-reader.ensures.stands all (at (goal.at.returns-in_err-reader-clause-fault c).In-Some) in
     let p = err_from_is_err_and c.from_residual.result c.from_residual.ensures.1 in
-    rw (p.1, p.2) (λ other. first_is c.args.bytes.now fault (is_known fault.kind (fault_among all ≡ Some fault) known other))
+    rw (p.1, p.2) (λ other. first_is c.args.bytes.now fault (is_known fault.kind (first_statement_fault all ≡ Some fault) known other))
 
-pub returns-in_err-rest-clause-told : goal.returns-in_err-rest-clause-told
-returns-in_err-rest-clause-told c =
+pub returns-in_err-reader-clause-told : goal.returns-in_err-reader-clause-told
+returns-in_err-reader-clause-told c =
     let all = statements c.args.bytes.now in
-    let fault = c.in_err-rest.field-0.0 in
-    let known = c.in_err-rest.ensures.stands all (at (goal.at.returns-in_err-rest-clause-told c).After-cut_at) in
+    let fault = c.in_err-reader.field-0.0 in
+    let known = c.in_err-reader.ensures.stands all (at (goal.at.returns-in_err-reader-clause-told c).In-Some) in
     let p = err_from_is_err_and c.from_residual.result c.from_residual.ensures.1 in
-    rw (p.1, p.2) (is_no_want fault.kind (fault_among all ≡ Some fault) known)
+    rw (p.1, p.2) (is_no_want fault.kind (first_statement_fault all ≡ Some fault) known)
 
-pub loop-rest-preserved : goal.loop-rest-preserved
-loop-rest-preserved c =
-    let cut = (goal.at.loop-rest-preserved c).After-cut_at in
-    let shorter = reach_shorter c.loop-rest.rest (behind cut) c.in-Some.text.now (ap left c.in-Some.is) refl c.cut_at.ensures.shorter in
-    let later = c.in_ok-rest.ensures.later in
-    record {
-      stands = c.in_ok-rest.ensures.stands (statements c.args.bytes.now) (at cut);
-      few = c.in_ok-rest.ensures.few;
-      indexed = c.in_ok-rest.ensures.indexed;
-      reach = let reach = later.reach in let before = c.loop-rest.invariant.reach in omega (arith, reach, shorter, before);
-    }
+pub loop-line-preserved : goal.loop-line-preserved
+loop-line-preserved c = c.in_ok-reader.ensures.stands (statements c.args.bytes.now) (at (goal.at.loop-line-preserved c).In-Some)
 
 pub returns-clause-script : goal.returns-clause-script
-returns-clause-script c =
-    ends_reading c.args.bytes.now c.loop-rest.reader c.loop-rest.rest (ap left c.in_default.is) c.loop-rest.invariant.stands
+returns-clause-script c = ends_reading c.args.bytes.now c.loop-line.reader.so_far c.loop-line.rest c.in_default.ensures c.loop-line.invariant
 
 pub returns-clause-within : goal.returns-clause-within
-returns-clause-within c = within_limits c.args.bytes.now c.loop-rest.reader.script (returns-clause-script c)
+returns-clause-within c = within_limits c.args.bytes.now c.loop-line.reader.so_far.script (returns-clause-script c)

@@ -1,17 +1,12 @@
-use Rattle.std.proofs.Common.{◌+◌, ◌≤◌, length, false}
+use Rattle.ce_script.specs.Lines.{size_of}
 use Rattle.ce_script.specs.Statements.{statements}
-use Rattle.ce_script.specs.ReadLines.{left_of, size_of, reach_of, lines_left, statements_from}
-use Rattle.ce_script.specs.Places.{AreIndexed}
-use Rattle.ce_script.specs.Standing.{AreFew, HasReadUpTo}
+use Rattle.ce_script.specs.ReadLines.{left_of, lines_left, remaining_statements}
+use Rattle.ce_script.specs.Standing.{HasReadUpTo}
+use Rattle.std.proofs.Common.{false}
 use Rattle.ce_script.proofs.reader.read_script.Given as goal
 
-abbrev pub invariant-loop-rest : goal.invariant-loop-rest
-invariant-loop-rest l = record {
-  stands : HasReadUpTo (statements l.fn.bytes) l.reader (statements_from false (lines_left l.rest));
-  few : AreFew l.reader;
-  indexed : AreIndexed l.indexes l.reader;
-  reach : reach_of l.rest ≤ length l.fn.bytes + 1;
-}
+abbrev pub invariant-loop-line : goal.invariant-loop-line
+invariant-loop-line l = HasReadUpTo (statements l.fn.bytes) l.reader.so_far (remaining_statements false (lines_left l.rest))
 
-abbrev pub decreases-loop-rest : goal.decreases-loop-rest
-decreases-loop-rest l = size_of (left_of l.rest)
+abbrev pub decreases-loop-line : goal.decreases-loop-line
+decreases-loop-line l = size_of (left_of l.rest)

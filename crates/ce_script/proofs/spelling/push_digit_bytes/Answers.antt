@@ -11,7 +11,7 @@ loop-rest-preserved c =
     let rest = c.loop-rest.rest.now in
     let others = take (length rest - 2) (drop 2 rest) in
     let pair = pair_of rest c.in-len2-up.len_at_least c.loop-rest.invariant.digits in
-    let pushed = rw (c.digit_of.ensures, c.digit_of-in-len2-up.ensures) at c.in_ok-push.ensures.items in
+    let pushed = rw (c.hex_digit.ensures, c.hex_digit-in-len2-up.ensures) at c.in_ok-push.ensures.items in
     record {
       digits = pair.others;
       bytes =

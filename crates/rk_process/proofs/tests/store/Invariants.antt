@@ -4,8 +4,8 @@ use Rattle.rk_process.proofs.tests.store.Given as goal
 
 abbrev pub invariant-loop-k : goal.invariant-loop-k
 invariant-loop-k g l = record {
-  used : l.process.used ≤ l.k;
+  used_count : l.process.used_count ≤ l.k;
   room : 40 ≤ l.held.spare + l.k;
-  vacant : (k : ℕ) → l.process.used ≤ k → held_at l.held.mappings 0 k ≡ None;
+  vacant : (k : ℕ) → l.process.used_count ≤ k → held_at l.held.mappings 0 k ≡ None;
   spare : 1 ≤ l.store.spare;
 }

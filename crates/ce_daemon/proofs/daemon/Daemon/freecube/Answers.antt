@@ -58,9 +58,9 @@ invariant_of-self g c =
     let are = boxes_of g.N.Homed.home g.N.Homed.clean c.args.boxes.items grant _ c.requires c.in-Some.ensures in
     let left = filter_same _ (λ (other : Grant). not (other.user == c.args.user)) _ (λ x b q k. search (rules, tests)) _ _ c.retain.ensures.filtered in
     rw left
-    (IsSound-freed g.N.Homed.home g.N.Homed.clean d.dim c.args.user d.free c.union-self-inside.result d.grants.items d.places.items c.put_home.new.places.items c.args.boxes.items grant c.self.invariant (sym found) (λ count of_free of_nodes.
+    (IsSound-freed g.N.Homed.home g.N.Homed.clean d.dim c.args.user d.free_nodes c.union-self-inside.result d.grants.items d.places.items c.put_home.new.places.items c.args.boxes.items grant c.self.invariant (sym found) (λ count of_free of_nodes.
     c.union-self-inside.ensures.within count of_free (word-below c.nodes_of.result.0 count (λ node there. of_nodes node (sym (c.nodes_of.ensures node) ∙ there)))) (λ node.
-    c.union-self-inside.ensures.nodes node ∙ ap (λ (t : Bool). has_node d.free node || t) (c.nodes_of.ensures node)) are c.put_home.ensures.put c.put_home.ensures.others c.put_home.ensures.all)
+    c.union-self-inside.ensures.nodes node ∙ ap (λ (t : Bool). has_node d.free_nodes node || t) (c.nodes_of.ensures node)) are c.put_home.ensures.put c.put_home.ensures.others c.put_home.ensures.all)
 
 pub returns : goal.returns
 returns g c =

@@ -7,7 +7,7 @@ use Rattle.ce_lock.proofs.Endings.{table_of, next_closed, one_of}
 use Rattle.ce_lock.proofs.book.Book.join_heads.Goals as goal
 
 pub unreachable-requires : goal.unreachable-requires
-unreachable-requires g c = let e = ap (λ b. b.families) c.self.view_is in let some_families : 0 < c.args.self.now.families = omega (arith, e, c.self.invariant.1) in
+unreachable-requires g c = let e = ap (λ b. b.families) c.self.view_is in let some_families : 0 < c.args.self.now.families = omega (arith, e, c.self.invariant) in
     let empty : length c.args.heads.items ≡ 0 = sym c.args.heads.ok.0 ∙ c.in_default.ensures.cases.0 in
     subst (λ (l : List (Sitting g.row.O.Denot g.row.O-Entry.Denot)). IsIn 0 (map (λ (s : Sitting g.row.O.Denot g.row.O-Entry.Denot). (who s).family) l)) (nil_from_length c.args.heads.items empty) (c.requires.all 0 some_families)
 
@@ -23,7 +23,7 @@ join_last-requires-clause-chairs g c = let head = one_of _ _ c.pop.new.self.item
 pub join_last-requires-clause-head : goal.join_last-requires-clause-head
 join_last-requires-clause-head g c = let head = one_of _ _ c.pop.new.self.items c.in-Some.last [] c.args.heads.items (sym c.in-Some.ensures.items) c.requires.each in
     let view = ap (λ me. me.0) c.copy_seat-closer.ensures.chair.1 ∙ ap (λ s. s.1) c.into_chair-chair.ensures.chair in
-    (ap (λ v. v.right.actor) view ∙ head.host, ap (λ v. v.right.away) view ∙ head.nobody_out)
+    (ap (λ v. v.right.actor) view ∙ head.host, ap (λ v. v.right.absent_actors) view ∙ head.nobody_out)
 
 pub loop-head-init : goal.loop-head-init
 loop-head-init g c = let head = one_of _ _ c.pop.new.self.items c.in-Some.last [] c.args.heads.items (sym c.in-Some.ensures.items) c.requires.each in
@@ -32,17 +32,17 @@ loop-head-init g c = let head = one_of _ _ c.pop.new.self.items c.in-Some.last [
       chair = c.join_last.ensures.chair.0 ∙ (c.copy_seat-closer.ensures.made.0 ∙ table);
       place = c.join_last.ensures.copied.0;
       right = c.join_last.ensures.copied.1;
-      lasts = (
+      joined_heads = (
         c.in-Some.last ∷ [],
         sym c.in-Some.ensures.items,
-        c.join_last.ensures.lasts ∙ (λ k. last_of (view k) ∷ ap (λ me. me.0.page.lasts) c.copy_seat-closer.ensures.made.1 k),
+        c.join_last.ensures.joined_heads ∙ (λ k. last_of (view k) ∷ ap (λ me. me.0.page.joined_heads) c.copy_seat-closer.ensures.made.1 k),
       );
     }
 
 pub join_last-requires-in-Some-pop-clause-chairs : goal.join_last-requires-in-Some-pop-clause-chairs
 join_last-requires-in-Some-pop-clause-chairs g c = let i = c.loop-head.invariant in
-    let whole = next_closed c.pop-in-loop-head.new.self.items c.in-Some-pop.head i.lasts.0 c.args.heads.items c.loop-head.heads.items i.lasts.1 c.in-Some-pop.ensures.items in
-    let head = one_of _ _ c.pop-in-loop-head.new.self.items c.in-Some-pop.head i.lasts.0 c.args.heads.items whole c.requires.each in
+    let whole = next_closed c.pop-in-loop-head.new.self.items c.in-Some-pop.head i.joined_heads.0 c.args.heads.items c.loop-head.heads.items i.joined_heads.1 c.in-Some-pop.ensures.items in
+    let head = one_of _ _ c.pop-in-loop-head.new.self.items c.in-Some-pop.head i.joined_heads.0 c.args.heads.items whole c.requires.each in
     (i.chair, ap (λ s. s.0) c.into_chair.ensures.chair ∙ table_of c.args.self.now c.in-Some-pop.head head.of_book)
 
 pub join_last-requires-in-Some-pop-clause-copied : goal.join_last-requires-in-Some-pop-clause-copied
@@ -50,19 +50,19 @@ join_last-requires-in-Some-pop-clause-copied g c = (c.loop-head.invariant.place,
 
 pub join_last-requires-in-Some-pop-clause-head : goal.join_last-requires-in-Some-pop-clause-head
 join_last-requires-in-Some-pop-clause-head g c = let i = c.loop-head.invariant in
-    let whole = next_closed c.pop-in-loop-head.new.self.items c.in-Some-pop.head i.lasts.0 c.args.heads.items c.loop-head.heads.items i.lasts.1 c.in-Some-pop.ensures.items in
-    let head = one_of _ _ c.pop-in-loop-head.new.self.items c.in-Some-pop.head i.lasts.0 c.args.heads.items whole c.requires.each in
-    (ap (λ s. s.1.right.actor) c.into_chair.ensures.chair ∙ head.host, ap (λ s. s.1.right.away) c.into_chair.ensures.chair ∙ head.nobody_out)
+    let whole = next_closed c.pop-in-loop-head.new.self.items c.in-Some-pop.head i.joined_heads.0 c.args.heads.items c.loop-head.heads.items i.joined_heads.1 c.in-Some-pop.ensures.items in
+    let head = one_of _ _ c.pop-in-loop-head.new.self.items c.in-Some-pop.head i.joined_heads.0 c.args.heads.items whole c.requires.each in
+    (ap (λ s. s.1.right.actor) c.into_chair.ensures.chair ∙ head.host, ap (λ s. s.1.right.absent_actors) c.into_chair.ensures.chair ∙ head.nobody_out)
 
 pub loop-head-preserved : goal.loop-head-preserved
 loop-head-preserved g c = let i = c.loop-head.invariant in let j = c.join_last-in-Some-pop.ensures in record {
   chair = j.chair.0 ∙ i.chair;
   place = j.copied.0;
   right = j.copied.1;
-  lasts = (
-    c.in-Some-pop.head ∷ i.lasts.0,
-    next_closed c.pop-in-loop-head.new.self.items c.in-Some-pop.head i.lasts.0 c.args.heads.items c.loop-head.heads.items i.lasts.1 c.in-Some-pop.ensures.items,
-    j.lasts ∙ (λ k. last_of (ap (λ s. s.1) c.into_chair.ensures.chair k) ∷ i.lasts.2 k),
+  joined_heads = (
+    c.in-Some-pop.head ∷ i.joined_heads.0,
+    next_closed c.pop-in-loop-head.new.self.items c.in-Some-pop.head i.joined_heads.0 c.args.heads.items c.loop-head.heads.items i.joined_heads.1 c.in-Some-pop.ensures.items,
+    j.joined_heads ∙ (λ k. last_of (ap (λ s. s.1) c.into_chair.ensures.chair k) ∷ i.joined_heads.2 k),
   );
 }
 
@@ -70,10 +70,10 @@ pub returns-clause-chair : goal.returns-clause-chair
 returns-clause-chair g c = c.loop-head.invariant.chair
 
 pub returns-clause-live : goal.returns-clause-live
-returns-clause-live g c = ap (λ r. r.spent) c.loop-head.invariant.right
+returns-clause-live g c = ap (λ r. r.is_spent) c.loop-head.invariant.right
 
-pub returns-clause-lasts : goal.returns-clause-lasts
-returns-clause-lasts g c = let i = c.loop-head.invariant in
+pub returns-clause-joined_heads : goal.returns-clause-joined_heads
+returns-clause-joined_heads g c = let i = c.loop-head.invariant in
     let empty : length c.loop-head.heads.items ≡ 0 = sym c.loop-head.heads.ok.0 ∙ c.in_default-pop.ensures.cases.0 in
-    let all : i.lasts.0 ≡ c.args.heads.items = ap (λ (l : List (Sitting g.row.O.Denot g.row.O-Entry.Denot)). l ++ i.lasts.0) (sym (nil_from_length c.loop-head.heads.items empty)) ∙ i.lasts.1 in
-    i.lasts.2 ∙ ap (map (λ (s : Sitting g.row.O.Denot g.row.O-Entry.Denot). last_of s.1)) all
+    let all : i.joined_heads.0 ≡ c.args.heads.items = ap (λ (l : List (Sitting g.row.O.Denot g.row.O-Entry.Denot)). l ++ i.joined_heads.0) (sym (nil_from_length c.loop-head.heads.items empty)) ∙ i.joined_heads.1 in
+    i.joined_heads.2 ∙ ap (map (λ (s : Sitting g.row.O.Denot g.row.O-Entry.Denot). last_of s.1)) all

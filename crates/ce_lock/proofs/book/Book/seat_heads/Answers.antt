@@ -20,7 +20,7 @@ pub next_seat-next-requires-clause-chair : goal.next_seat-next-requires-clause-c
 next_seat-next-requires-clause-chair g c = c.loop-family.invariant.chair ∙ sym (ap (λ b. b.table) c.self.view_is)
 
 pub next_seat-next-requires-clause-live : goal.next_seat-next-requires-clause-live
-next_seat-next-requires-clause-live g c = ap (λ me. me.0.right.spent) c.loop-family.invariant.view
+next_seat-next-requires-clause-live g c = ap (λ me. me.0.right.is_spent) c.loop-family.invariant.view
 
 pub next_seat-next-requires-clause-made : goal.next_seat-next-requires-clause-made
 next_seat-next-requires-clause-made g c = let e = ap (λ me. me.0.right.heads) c.loop-family.invariant.view in omega (arith, e)

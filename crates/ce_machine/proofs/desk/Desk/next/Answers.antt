@@ -1,5 +1,5 @@
 use Rattle.ce_model.specs.Parcels.{is_eligible}
-use Rattle.ce_machine.specs.Rooms.{node_room}
+use Rattle.ce_model.specs.Limits.{node_room}
 use Rattle.ce_machine.proofs.Firsts.{next-kept}
 use Rattle.ce_machine.proofs.desk.Desk.next.Goals as goal
 

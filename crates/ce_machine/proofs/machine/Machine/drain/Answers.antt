@@ -20,7 +20,7 @@ drain_nodes-requires-clause-sub g c = let m = begun c.self.invariant c.in_ok-mak
 
 pub drain-requires : goal.drain-requires
 drain-requires g c =
-    let items = flat_map (λ node. (desk_at c.self.inside.desks.items node).waiting) (map (node_of c.grant_of-grant.result.sub) (range_with_len 0 (2 ^ c.grant_of-grant.result.dim))) in
+    let items = flat_map (λ node. (desk_at c.self.inside.desks.items node).waiting_items) (map (node_of c.grant_of-grant.result.sub) (range_with_len 0 (2 ^ c.grant_of-grant.result.dim))) in
     omega (arith, few-blocks c.in_ok-blocks.blocks.items c.drain_nodes.new.blocks.items items c.in_ok-blocks.ensures.items c.drain_nodes.ensures.blocks, c.in_ok-blocks.ensures.capacity, c.drain_nodes.ensures.capacity, c.waiting_count.ensures.count, c.count.ensures.value)
 
 pub invariant_of-self-2 : goal.invariant_of-self-2

@@ -9,8 +9,8 @@ use Rattle.ce_machine.proofs.machine.Machine.send.Goals as goal
 pub grant_of-grant-requires : goal.grant_of-grant-requires
 grant_of-grant-requires g c = let m = begun c.self.invariant c.in-Ok.ensures.few in caller-grant m (sending m _ (fits-inside c.self.view_is c.requires))
 
-pub relative-requires : goal.relative-requires
-relative-requires g c = let m = begun c.self.invariant c.in-Ok.ensures.few in (caller-desks m (sending m _ (fits-inside c.self.view_is c.requires)) c.grant_of-grant.ensures).sub_is.mask_within
+pub relative_number-requires : goal.relative_number-requires
+relative_number-requires g c = let m = begun c.self.invariant c.in-Ok.ensures.few in (caller-desks m (sending m _ (fits-inside c.self.view_is c.requires)) c.grant_of-grant.ensures).sub_is.mask_within
 
 pub add_parcels-first-requires : goal.add_parcels-first-requires
 add_parcels-first-requires g c =
@@ -26,7 +26,7 @@ post_all-batch-requires-clause-places g c =
 pub post_all-batch-requires-clause-room : goal.post_all-batch-requires-clause-room
 post_all-batch-requires-clause-room g c =
     send-room (begun c.self.invariant c.in-Ok.ensures.few) _ (fits-inside c.self.view_is c.requires) c.in-Ok-room_for.ensures.equal c.in-Ok-room_for.ensures.few c.grant_of-grant.ensures
-    c.index_mut-host.ensures.value c.add_parcels-first.ensures.first (ap (λ (host : HostRecord). host.mail) c.add_parcels-first.ensures.host) c.relative.ensures
+    c.index_mut-host.ensures.value c.add_parcels-first.ensures.first (ap (λ (host : HostRecord). host.mail) c.add_parcels-first.ensures.host) c.relative_number.ensures
 
 pub post_all-batch-requires-clause-numbers : goal.post_all-batch-requires-clause-numbers
 post_all-batch-requires-clause-numbers g c =
@@ -41,12 +41,12 @@ mark_busy-requires-clause-few g c = few-still (begun c.self.invariant c.in-Ok.en
 pub invariant_of-self-2 : goal.invariant_of-self-2
 invariant_of-self-2 g c =
     (sent (begun c.self.invariant c.in-Ok.ensures.few) _ (fits-inside c.self.view_is c.requires) c.in-Ok-room_for.ensures.equal c.in-Ok-room_for.ensures.few c.grant_of-grant.ensures (ap Posted c.post_all-batch.ensures.empty) c.index_mut-host.ensures.value
-    c.add_parcels-first.ensures.first c.count.ensures.value c.add_parcels-first.ensures.host c.relative.ensures c.post_all-batch.ensures.desks c.post_all-batch.ensures.host c.mark_busy.ensures
+    c.add_parcels-first.ensures.first c.count.ensures.value c.add_parcels-first.ensures.host c.relative_number.ensures c.post_all-batch.ensures.desks c.post_all-batch.ensures.host c.mark_busy.ensures
     (c.from_vec-to.ensures ∙ joined-none _ _ _ c.in-Ok-room_for.ensures.none c.post_all-batch.ensures.targets) c.in-Ok-room_for.ensures.bytes (history-is _ c.add_entry.ensures c.make_room.ensures.same)).sound
 
 pub returns-clause-answered : goal.returns-clause-answered
 returns-clause-answered g c =
     answered-outside c.self.view_is
     (sent (begun c.self.invariant c.in-Ok.ensures.few) _ (fits-inside c.self.view_is c.requires) c.in-Ok-room_for.ensures.equal c.in-Ok-room_for.ensures.few c.grant_of-grant.ensures (ap Posted c.post_all-batch.ensures.empty) c.index_mut-host.ensures.value
-    c.add_parcels-first.ensures.first c.count.ensures.value c.add_parcels-first.ensures.host c.relative.ensures c.post_all-batch.ensures.desks c.post_all-batch.ensures.host c.mark_busy.ensures
+    c.add_parcels-first.ensures.first c.count.ensures.value c.add_parcels-first.ensures.host c.relative_number.ensures c.post_all-batch.ensures.desks c.post_all-batch.ensures.host c.mark_busy.ensures
     (c.from_vec-to.ensures ∙ joined-none _ _ _ c.in-Ok-room_for.ensures.none c.post_all-batch.ensures.targets) c.in-Ok-room_for.ensures.bytes (history-is _ c.add_entry.ensures c.make_room.ensures.same)).answered

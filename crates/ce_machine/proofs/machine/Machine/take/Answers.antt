@@ -10,7 +10,7 @@ index_mut-desk-requires g c =
 
 pub dispatch-requires : goal.dispatch-requires
 dispatch-requires g c =
-    work-left (begun c.self.invariant c.in_ok-make_room.ensures.few) _ (fits-inside c.self.view_is c.requires) c.index_mut-desk.result.now.waiting c.offer-heard.result
+    work-left (begun c.self.invariant c.in_ok-make_room.ensures.few) _ (fits-inside c.self.view_is c.requires) c.index_mut-desk.result.now.waiting_items c.offer-heard.result
     c.is_used_up.ensures.value c.given_of-given.ensures c.is_work.ensures c.offer-heard.ensures.given
 
 pub invariant_of-self-2 : goal.invariant_of-self-2

@@ -1,4 +1,4 @@
-use Rattle.ce_rows.specs.Steps.{IsAt}
+use Rattle.ce_rows.specs.RowEntries.{IsAt}
 use Rattle.ce_rows.specs.Rows.{row_of}
 use Rattle.ce_rows.proofs.tests.running.run.Given as goal
 

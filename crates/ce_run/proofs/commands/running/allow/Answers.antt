@@ -4,10 +4,10 @@ use Rattle.ce_run.proofs.commands.running.allow.Goals as goal
 
 pub ask_in_cube-requires-clause-call : goal.ask_in_cube-requires-clause-call
 ask_in_cube-requires-clause-call c =
-    may-allow c.args.machine.now.parts c.args.machine.now.history c.args.crew.now c.requires.user.book.within c.requires.user.book.lawful c.requires.crew.held
+    may-allow c.args.machine.now.parts c.args.machine.now.history c.args.crew.now c.requires.crew.user.book.within c.requires.crew.user.book.lawful c.requires.crew.in_step.held
     c.args.count c.requires.count
 
 pub returns : goal.returns
 returns c =
-    allowed c.args.machine.now c.ask_in_cube.new.machine c.args.crew.now c.ask_in_cube.new.crew c.requires.user.book c.requires.crew
+    allowed c.args.machine.now c.ask_in_cube.new.machine c.args.crew.now c.ask_in_cube.new.crew c.requires.crew.user.book c.requires.crew.in_step
     c.in_ok-ask_in_cube.field-0 c.args.count c.requires.count c.in_ok-ask_in_cube.ensures

@@ -1,6 +1,6 @@
 use Rattle.std.proofs.Common.{[], ◌∷◌, ◌<◌, ap, sym, subst}
 use Rattle.ce_model.specs.declared.entry.What.TheVariants.{Arm}
-use Rattle.ce_host.specs.declared.answer.Answer.TheVariants.{None as Nothing, Spent}
+use Rattle.ce_host.specs.declared.answer.Answer.TheVariants as answers
 use Rattle.ce_cube.proofs.Crewing.{still-sound}
 use Rattle.ce_script.specs.Commands.{by_host, no_message_reply}
 use Rattle.ce_run.proofs.Answering.{HasWaited, rounds_left, waits-first, waits-on, waits-shorter, took, took-none, message-done, none-not-busy, none-done}
@@ -10,19 +10,19 @@ pub waiting-init : goal.waiting-init
 waiting-init c =
     waits-first c.allow.new.machine c.allow.new.crew
     (still-sound c.args.machine.now c.allow.new.machine c.args.crew.now c.allow.new.crew (by_host c.args.crew.now.grant.user (Arm c.args.count) ∷ [])
-    c.requires.user.book c.in_ok-allow.ensures) c.in_ok-allow.ensures.in_step
+    c.requires.crew.user.book c.in_ok-allow.ensures) c.in_ok-allow.ensures.in_step
 
 pub returns-in-Some : goal.returns-in-Some
 returns-in-Some c =
-    message-done c.args.machine.now c.allow.new.machine c.waiting.machine c.args.crew.now c.allow.new.crew c.waiting.crew c.args.count c.requires.user.book
-    c.requires.crew c.in_ok-allow.ensures c.waiting.working c.waiting.invariant c.take_message.new.machine c.take_message.new.crew c.in-Some.from c.in-Some.bytes
+    message-done c.args.machine.now c.allow.new.machine c.waiting.machine c.args.crew.now c.allow.new.crew c.waiting.crew c.args.count c.requires.crew.user.book
+    c.requires.crew.in_step c.in_ok-allow.ensures c.waiting.working c.waiting.invariant c.take_message.new.machine c.take_message.new.crew c.in-Some.from c.in-Some.bytes
     (took c.waiting.machine c.take_message.new.machine c.waiting.crew c.take_message.new.crew c.in_ok-from.field-0 c.in-Some.from c.in-Some.bytes c.in-Some.is
     c.in_ok-from.ensures)
 
 pub waiting-smaller : goal.waiting-smaller
 waiting-smaller c =
     let sound = still-sound c.args.machine.now c.allow.new.machine c.args.crew.now c.allow.new.crew (by_host c.args.crew.now.grant.user (Arm c.args.count) ∷ [])
-    c.requires.user.book c.in_ok-allow.ensures in
+    c.requires.crew.user.book c.in_ok-allow.ensures in
     let so_far = subst (HasWaited c.allow.new.machine c.waiting.machine c.allow.new.crew c.waiting.crew) c.if-not-working.false c.waiting.invariant in
     let none = took-none c.waiting.machine c.take_message.new.machine c.waiting.crew c.take_message.new.crew c.in_ok-from.field-0 c.in_default.is
     c.in_ok-from.ensures in
@@ -36,15 +36,15 @@ waiting-preserved c =
     waits-on c.allow.new.machine c.waiting.machine c.take_message.new.machine c.round_serial.new.machine c.allow.new.crew c.waiting.crew c.take_message.new.crew
     c.round_serial.new.crew
     (still-sound c.args.machine.now c.allow.new.machine c.args.crew.now c.allow.new.crew (by_host c.args.crew.now.grant.user (Arm c.args.count) ∷ [])
-    c.requires.user.book c.in_ok-allow.ensures)
+    c.requires.crew.user.book c.in_ok-allow.ensures)
     (subst (HasWaited c.allow.new.machine c.waiting.machine c.allow.new.crew c.waiting.crew) c.if-not-working.false c.waiting.invariant)
     (took-none c.waiting.machine c.take_message.new.machine c.waiting.crew c.take_message.new.crew c.in_ok-from.field-0 c.in_default.is c.in_ok-from.ensures)
     c.in_ok-working.working c.in_ok-working.ensures
 
 pub unreachable-requires : goal.unreachable-requires
 unreachable-requires c =
-    none-not-busy c.args.machine.now c.allow.new.machine c.waiting.machine c.args.crew.now c.allow.new.crew c.waiting.crew c.args.count c.requires.user.book
-    c.requires.crew c.in_ok-allow.ensures
+    none-not-busy c.args.machine.now c.allow.new.machine c.waiting.machine c.args.crew.now c.allow.new.crew c.waiting.crew c.args.count c.requires.crew.user.book
+    c.requires.crew.in_step c.in_ok-allow.ensures
     (subst (HasWaited c.allow.new.machine c.waiting.machine c.allow.new.crew c.waiting.crew) c.if-not-working.true c.waiting.invariant)
     c.take_message.new.machine c.look.new.machine c.take_message.new.crew c.look.new.crew c.in_ok-look.field-0
     (took-none c.waiting.machine c.take_message.new.machine c.waiting.crew c.take_message.new.crew c.in_ok-from.field-0 c.in_default.is c.in_ok-from.ensures)
@@ -52,18 +52,18 @@ unreachable-requires c =
 
 pub returns-in-Quiet : goal.returns-in-Quiet
 returns-in-Quiet c =
-    none-done c.args.machine.now c.allow.new.machine c.waiting.machine c.args.crew.now c.allow.new.crew c.waiting.crew c.args.count c.requires.user.book
-    c.requires.crew c.in_ok-allow.ensures
+    none-done c.args.machine.now c.allow.new.machine c.waiting.machine c.args.crew.now c.allow.new.crew c.waiting.crew c.args.count c.requires.crew.user.book
+    c.requires.crew.in_step c.in_ok-allow.ensures
     (subst (HasWaited c.allow.new.machine c.waiting.machine c.allow.new.crew c.waiting.crew) c.if-not-working.true c.waiting.invariant)
     c.take_message.new.machine c.look.new.machine c.take_message.new.crew c.look.new.crew c.in_ok-look.field-0
     (took-none c.waiting.machine c.take_message.new.machine c.waiting.crew c.take_message.new.crew c.in_ok-from.field-0 c.in_default.is c.in_ok-from.ensures)
-    c.in_ok-look.ensures Nothing (ap no_message_reply c.in-Quiet.is)
+    c.in_ok-look.ensures answers.None (ap no_message_reply c.in-Quiet.is)
 
 pub returns-in-Spent : goal.returns-in-Spent
 returns-in-Spent c =
-    none-done c.args.machine.now c.allow.new.machine c.waiting.machine c.args.crew.now c.allow.new.crew c.waiting.crew c.args.count c.requires.user.book
-    c.requires.crew c.in_ok-allow.ensures
+    none-done c.args.machine.now c.allow.new.machine c.waiting.machine c.args.crew.now c.allow.new.crew c.waiting.crew c.args.count c.requires.crew.user.book
+    c.requires.crew.in_step c.in_ok-allow.ensures
     (subst (HasWaited c.allow.new.machine c.waiting.machine c.allow.new.crew c.waiting.crew) c.if-not-working.true c.waiting.invariant)
     c.take_message.new.machine c.look.new.machine c.take_message.new.crew c.look.new.crew c.in_ok-look.field-0
     (took-none c.waiting.machine c.take_message.new.machine c.waiting.crew c.take_message.new.crew c.in_ok-from.field-0 c.in_default.is c.in_ok-from.ensures)
-    c.in_ok-look.ensures Spent (ap no_message_reply c.in-Spent.is)
+    c.in_ok-look.ensures answers.Spent (ap no_message_reply c.in-Spent.is)

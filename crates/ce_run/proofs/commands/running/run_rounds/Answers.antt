@@ -5,11 +5,11 @@ use Rattle.ce_run.proofs.Going.{images-stay, no-round, one-round-more, rounds-ov
 use Rattle.ce_run.proofs.commands.running.run_rounds.Goals as goal
 
 pub rounds-init : goal.rounds-init
-rounds-init c = no-round c.args.machine.now c.args.crew.now c.requires.user.book c.requires.crew
+rounds-init c = no-round c.args.machine.now c.args.crew.now c.requires.crew.user.book c.requires.crew.in_step
 
 pub round_serial-requires-clause-machine : goal.round_serial-requires-clause-machine
 round_serial-requires-clause-machine c =
-    still-sound c.args.machine.now c.rounds.machine c.args.crew.now c.rounds.crew _ c.requires.user.book c.rounds.invariant.goes_on
+    still-sound c.args.machine.now c.rounds.machine c.args.crew.now c.rounds.crew _ c.requires.crew.user.book c.rounds.invariant.goes_on
 
 pub round_serial-requires-clause-images : goal.round_serial-requires-clause-images
 round_serial-requires-clause-images c =

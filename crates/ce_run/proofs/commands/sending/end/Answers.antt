@@ -1,5 +1,5 @@
 use Rattle.std.proofs.Common.{refl, sym, ◌∙◌}
-use Rattle.ce_model.specs.Node.{kills}
+use Rattle.ce_model.specs.Node.{kill_call}
 use Rattle.ce_host.specs.declared.command.Command.TheVariants.{Kill}
 use Rattle.ce_run.specs.declared.seat.Seat.TheVariants.{Holding}
 use Rattle.ce_run.specs.Seats.{HasDone, HasTold}
@@ -8,16 +8,16 @@ use Rattle.ce_run.proofs.commands.sending.end.Goals as goal
 
 pub tell-requires-clause-call : goal.tell-requires-clause-call
 tell-requires-clause-call c =
-    may-end c.args.machine.now.parts c.args.machine.now.history c.args.crew.now c.requires.user.book.within c.requires.user.book.lawful c.requires.crew.held
+    may-end c.args.machine.now.parts c.args.machine.now.history c.args.crew.now c.requires.user.book.within c.requires.user.book.lawful c.requires.in_step.held
     c.args.to (sym c.has_place.ensures ∙ c.if-not-has_place.false)
 
 pub returns-then-not-has_place : goal.returns-then-not-has_place
 returns-then-not-has_place c =
-    no-place-done c.args.machine.now c.args.crew.now c.requires.user.book c.requires.crew (Kill c.args.to) c.args.to refl
+    no-place-done c.args.machine.now c.args.crew.now c.requires.user.book c.requires.in_step (Kill c.args.to) c.args.to refl
     (sym c.has_place.ensures ∙ c.if-not-has_place.true)
 
 pub returns : goal.returns
 returns c =
-    if-ok c.tell.result (λ answer. HasTold c.args.machine.now c.tell.new.machine c.args.crew.now.grant.user (kills 0 c.args.to) answer c.tell.new.crew)
+    if-ok c.tell.result (λ answer. HasTold c.args.machine.now c.tell.new.machine c.args.crew.now.grant.user (kill_call 0 c.args.to) answer c.tell.new.crew)
     (λ answer. HasDone c.args.machine.now c.tell.new.machine c.args.crew.now.grant.user (Kill c.args.to) answer (Holding c.tell.new.crew))
     (λ answer told. told (Kill c.args.to) (record { home = 0; index = 0 }) refl) c.tell.ensures

@@ -1,5 +1,5 @@
 use Rattle.std.proofs.Common.{refl, sym, ◌∙◌}
-use Rattle.ce_model.specs.Node.{spawns}
+use Rattle.ce_model.specs.Node.{spawn_call}
 use Rattle.ce_host.specs.declared.command.Command.TheVariants.{Spawn}
 use Rattle.ce_run.specs.declared.seat.Seat.TheVariants.{Holding}
 use Rattle.ce_run.specs.Seats.{HasDone, HasTold}
@@ -8,16 +8,16 @@ use Rattle.ce_run.proofs.commands.sending.start.Goals as goal
 
 pub tell-requires-clause-call : goal.tell-requires-clause-call
 tell-requires-clause-call c =
-    may-start c.args.machine.now.parts c.args.machine.now.history c.args.crew.now c.requires.user.book.within c.requires.user.book.lawful c.requires.crew.held
+    may-start c.args.machine.now.parts c.args.machine.now.history c.args.crew.now c.requires.crew.user.book.within c.requires.crew.user.book.lawful c.requires.crew.in_step.held
     c.args.image c.args.to (sym c.has_place.ensures ∙ c.if-not-has_place.false) c.requires.image
 
 pub returns-then-not-has_place : goal.returns-then-not-has_place
 returns-then-not-has_place c =
-    no-place-done c.args.machine.now c.args.crew.now c.requires.user.book c.requires.crew (Spawn c.args.image c.args.to) c.args.to refl
+    no-place-done c.args.machine.now c.args.crew.now c.requires.crew.user.book c.requires.crew.in_step (Spawn c.args.image c.args.to) c.args.to refl
     (sym c.has_place.ensures ∙ c.if-not-has_place.true)
 
 pub returns : goal.returns
 returns c =
-    if-ok c.tell.result (λ answer. HasTold c.args.machine.now c.tell.new.machine c.args.crew.now.grant.user (spawns 0 c.args.image c.args.to) answer c.tell.new.crew)
+    if-ok c.tell.result (λ answer. HasTold c.args.machine.now c.tell.new.machine c.args.crew.now.grant.user (spawn_call 0 c.args.image c.args.to) answer c.tell.new.crew)
     (λ answer. HasDone c.args.machine.now c.tell.new.machine c.args.crew.now.grant.user (Spawn c.args.image c.args.to) answer (Holding c.tell.new.crew))
     (λ answer told. told (Spawn c.args.image c.args.to) (record { home = 0; index = 0 }) refl) c.tell.ensures

@@ -1,7 +1,8 @@
 use Rattle.std.proofs.Common.{◌≡◌, ◌+◌, ◌≤◌, ◌++◌, length}
 use Rattle.std.specs.Prelude.{find}
-use Rattle.ce_script.specs.Bodies.{has_bad_word, bytes_of}
-use Rattle.ce_script.specs.ReadLines.{numbered_lines, texts_left, size_of, lines_shown}
+use Rattle.ce_script.specs.Bodies.{has_bad_word, body_bytes}
+use Rattle.ce_script.specs.Lines.{size_of}
+use Rattle.ce_script.specs.ReadLines.{numbered_lines, texts_left, lines_shown}
 use Rattle.ce_script.specs.ReadWords.{read_as}
 use Rattle.ce_script.proofs.BodyLines.{left}
 use Rattle.ce_script.proofs.reader.body.bytes_of.Given as goal
@@ -9,8 +10,8 @@ use Rattle.ce_script.proofs.reader.body.bytes_of.Given as goal
 abbrev pub invariant-loop-rest : goal.invariant-loop-rest
 invariant-loop-rest l = record {
   found : find (has_bad_word (read_as l.kind)) (numbered_lines (l.number + 1) (texts_left (left l.rest))) ≡ find (has_bad_word (read_as l.kind)) (lines_shown l.fn.body);
-  bytes : l.bytes.items ++ bytes_of (read_as l.kind) (numbered_lines (l.number + 1) (texts_left (left l.rest))) ≡ bytes_of (read_as l.kind) (lines_shown l.fn.body);
-  count : l.number + size_of (left l.rest) ≤ l.fn.body.at + length l.fn.body.text.now + 1;
+  bytes : l.bytes.items ++ body_bytes (read_as l.kind) (numbered_lines (l.number + 1) (texts_left (left l.rest))) ≡ body_bytes (read_as l.kind) (lines_shown l.fn.body);
+  count : l.number + size_of (left l.rest) ≤ l.fn.body.line + length l.fn.body.text.now + 1;
 }
 
 abbrev pub decreases-loop-rest : goal.decreases-loop-rest

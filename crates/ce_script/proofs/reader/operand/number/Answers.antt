@@ -1,6 +1,6 @@
 use Rattle.std.proofs.Common.{◌∙◌, sym, ap, arith}
 use Rattle.ce_script.specs.declared.script.ScriptKind.TheVariants.{BadNumber}
-use Rattle.ce_script.specs.Spellings.{number_to}
+use Rattle.ce_script.specs.Spellings.{bounded_number}
 use Rattle.ce_script.specs.Statements.{operand}
 use Rattle.ce_script.specs.ReadLines.{here_of}
 use Rattle.ce_script.proofs.Numbers.{number_there}
@@ -8,5 +8,5 @@ use Rattle.ce_script.proofs.reader.operand.number.Goals as goal
 
 pub returns-in-Some : goal.returns-in-Some
 returns-in-Some c =
-    let found = sym c.in-Some.is ∙ c.number_to.ensures ∙ ap (number_to c.args.most) c.operand.ensures in
+    let found = sym c.in-Some.is ∙ c.number_to.ensures ∙ ap (bounded_number c.args.most) c.operand.ensures in
     number_there BadNumber (operand c.args.place (here_of c.args.line.now)) c.in-Some.number c.args.most (omega arith) found

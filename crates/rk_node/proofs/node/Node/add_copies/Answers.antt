@@ -14,7 +14,6 @@ loop-to-preserved c =
     let block = c.in-Some.block in
     let rest = ids_of c.take_least.new.self.blocks in
     let next : drop c.loop-to.to-index before.store ≡ block.id ∷ rest = sym (ap (λ (n : model.Node). n.store) was.node) ∙ ap ids_of c.in-Some.ensures.taken in
-    let s = was.stocked in
     record {
       node = ap (with_store rest) was.node ∙ ap (λ store. with_store store before) (sym (drop-next before.store c.loop-to.to-index block.id rest next));
       targets = ap targets_of c.add.ensures
@@ -22,16 +21,6 @@ loop-to-preserved c =
           ∙ ap (λ more. targets_of c.args.batch.now ++ more) (sym (zip-more c.args.places.now before.store c.loop-to.to-index _ block.id rest c.loop-to-test.true next));
       bytes = ap bytes_of c.add.ensures ∙ bytes-more c.loop-to.batch _ (omega (arith, was.count, c.requires.some)) ∙ was.bytes;
       count = ap {B = ℕ} length c.add.ensures ∙ count-more c.loop-to.batch _ (length c.args.batch.now) c.loop-to.to-index was.count;
-      stocked = record {
-        processes = s.processes;
-        rising = s.rising;
-        windows = s.windows;
-        store = omega (arith, s.store, ap {B = ℕ} length c.in-Some.ensures.taken, c.in-Some.ensures.room);
-        held = s.held;
-        within = omega (arith, s.within, ap {B = ℕ} length c.in-Some.ensures.taken);
-        polling = s.polling;
-        dim = s.dim;
-      };
       batch = was.batch;
       room = was.room;
     }

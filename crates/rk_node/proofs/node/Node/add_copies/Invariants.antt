@@ -2,7 +2,6 @@ use Rattle.std.proofs.Common.{◌≡◌, ◌+◌, ◌++◌, length, take, drop, 
 use Rattle.ce_model.specs.Kernel.{with_store}
 use Rattle.rk_mail.specs.Targets.{bytes_of, targets_of}
 use Rattle.rk_node.specs.Standing.{node_of}
-use Rattle.rk_node.specs.Stocked.{IsStocked}
 use Rattle.rk_node.proofs.node.Node.add_copies.Given as goal
 
 abbrev pub invariant-loop-to : goal.invariant-loop-to
@@ -11,7 +10,6 @@ invariant-loop-to l = record {
   targets : targets_of l.batch ≡ targets_of l.fn.batch ++ zip (take l.to-index l.places) (take l.to-index (node_of l.fn.self).store);
   bytes : bytes_of l.batch ≡ bytes_of l.fn.batch;
   count : length l.batch ≡ length l.fn.batch + l.to-index;
-  stocked : IsStocked l.self;
   batch : l.self.batch ≡ l.fn.self.batch;
   room : l.self.room ≡ l.fn.self.room;
 }

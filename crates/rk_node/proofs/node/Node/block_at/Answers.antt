@@ -8,16 +8,16 @@ pub returns-then-window-windows : goal.returns-then-window-windows
 returns-then-window-windows c =
     let node = c.args.self.now in
     ap (λ o. named_in o c.args.address)
-    (past-windows node.held.mappings node.processes.items c.args.pid c.index.result.now c.args.window (omega arith) c.index.ensures (omega (arith, c.windows.ensures)))
+    (past-windows node.held.mappings node.processes.items c.args.pid.number c.index.result.now c.args.window (omega arith) c.index.ensures (omega (arith, c.windows.ensures)))
 
 pub returns-in-Some : goal.returns-in-Some
 returns-in-Some c =
     let node = c.args.self.now in
-    let at = at-window node.held.mappings node.processes.items c.args.pid c.index.result.now c.args.window (omega arith) c.index.ensures (omega (arith, c.windows.ensures)) in
-    named_here (held_at node.held.mappings c.args.pid) _ c.args.window c.args.address _ (sym c.in-Some.ensures) at c.requires.window
+    let at = at-window node.held.mappings node.processes.items c.args.pid.number c.index.result.now c.args.window (omega arith) c.index.ensures (omega (arith, c.windows.ensures)) in
+    named_here (held_at node.held.mappings c.args.pid.number) _ c.args.window c.args.address _ (sym c.in-Some.ensures) at c.requires
 
 pub returns-in-None : goal.returns-in-None
 returns-in-None c =
     let node = c.args.self.now in
-    let at = at-window node.held.mappings node.processes.items c.args.pid c.index.result.now c.args.window (omega arith) c.index.ensures (omega (arith, c.windows.ensures)) in
-    gone_here (held_at node.held.mappings c.args.pid) _ c.args.window c.args.address (sym c.in-None.ensures) at
+    let at = at-window node.held.mappings node.processes.items c.args.pid.number c.index.result.now c.args.window (omega arith) c.index.ensures (omega (arith, c.windows.ensures)) in
+    gone_here (held_at node.held.mappings c.args.pid.number) _ c.args.window c.args.address (sym c.in-None.ensures) at

@@ -26,7 +26,6 @@ loop-block-preserved c =
     let taken : c.loop-block.self.store.blocks ≡ block ∷ rest = c.in-Some.ensures.taken in
     let fewer : length c.loop-block.self.store.blocks ≡ suc (length rest) = ap (λ (blocks : List Block). length blocks) taken in
     let spare = ap (λ (store : KeptBlock). store.spare) c.give.ensures.after in
-    let s = was.stocked in
     record {
       node = ap (λ (n : Node). record n { store = ids_of rest }) was.node;
       moved = ap (put_all (ids_of rest)) c.give.ensures.ids
@@ -34,16 +33,6 @@ loop-block-preserved c =
       apart = apart-next (block.id ∷ []) (ids_of rest) out c.give.new.self c.give.ensures.ids
           (subst (λ ids. AreApartFrom ids out) (ap ids_of taken) was.apart);
       spare = omega (arith, was.spare, spare, fewer, c.requires.room, length-ids_of c.args.self.now.store.blocks);
-      stocked = record {
-        processes = s.processes;
-        rising = s.rising;
-        windows = s.windows;
-        store = omega (arith, s.store, fewer, c.in-Some.ensures.room);
-        held = s.held;
-        within = omega (arith, s.within, fewer);
-        polling = s.polling;
-        dim = s.dim;
-      };
       batch = was.batch;
       room = was.room;
     }

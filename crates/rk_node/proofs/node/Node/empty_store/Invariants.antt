@@ -3,7 +3,6 @@ use Rattle.ce_model.specs.Blocks.{put_all}
 use Rattle.ce_model.specs.Kernel.{with_store}
 use Rattle.xm_block.specs.Stores.{ids_of}
 use Rattle.rk_node.specs.Standing.{node_of}
-use Rattle.rk_node.specs.Stocked.{IsStocked}
 use Rattle.rk_node.specs.Hearings.{AreApartFrom}
 use Rattle.rk_node.proofs.node.Node.empty_store.Given as goal
 
@@ -13,7 +12,6 @@ invariant-loop-block l = record {
   moved : put_all (ids_of l.self.store.blocks) (ids_of l.out.blocks) ≡ put_all (ids_of l.fn.self.store.blocks) (ids_of l.fn.out.blocks);
   apart : AreApartFrom (ids_of l.self.store.blocks) l.out;
   spare : l.out.spare + length l.fn.self.store.blocks ≡ l.fn.out.spare + length l.self.store.blocks;
-  stocked : IsStocked l.self;
   batch : l.self.batch ≡ l.fn.self.batch;
   room : l.self.room ≡ l.fn.self.room;
 }

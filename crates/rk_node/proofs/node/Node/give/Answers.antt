@@ -1,4 +1,4 @@
-use Rattle.std.proofs.Common.{◌≡◌, length, suc, ap, ◌∙◌, arith}
+use Rattle.std.proofs.Common.{length, ap, ◌∙◌, arith}
 use Rattle.xm_block.specs.Stores.{KeptBlock}
 use Rattle.rk_node.specs.Standing.{node_of}
 use Rattle.rk_node.proofs.Names.{not_contained, length-with_block}
@@ -10,19 +10,20 @@ give-requires-clause-apart c = not_contained c.args.block.id _ c.requires.apart
 pub returns-clause-node : goal.returns-clause-node
 returns-clause-node c = ap (λ store. record (node_of c.args.self.now) { store = store }) c.give.ensures.ids
 
-pub returns-clause-stocked : goal.returns-clause-stocked
-returns-clause-stocked c =
-    let s = c.requires.stocked in
-    let more : length c.give.new.self.blocks ≡ suc (length c.args.self.now.store.blocks) =
-    ap (λ (store : KeptBlock). length store.blocks) c.give.ensures.after ∙ length-with_block c.args.block c.args.self.now.store.blocks in
+pub invariant_of-self : goal.invariant_of-self
+invariant_of-self c =
+    let s = c.args.self.now.stocked in
+    let more = ap (λ (store : KeptBlock). length store.blocks) c.give.ensures.after ∙ length-with_block c.args.block c.args.self.now.store.blocks in
     let spare = ap (λ (store : KeptBlock). store.spare) c.give.ensures.after in
     record {
-      processes = s.processes;
-      rising = s.rising;
-      windows = s.windows;
-      store = omega (arith, more, spare, s.store, c.requires.room);
-      held = s.held;
-      within = omega (arith, more, c.requires.room);
-      polling = s.polling;
-      dim = s.dim;
+      stocked = record {
+        few_nodes = s.few_nodes;
+        every_id = s.every_id;
+        windows = s.windows;
+        rising = s.rising;
+        held_room = s.held_room;
+        store_room = omega (arith, more, spare, s.store_room, c.requires.room);
+        within = omega (arith, more, c.requires.room);
+        poll_room = s.poll_room;
+      };
     }

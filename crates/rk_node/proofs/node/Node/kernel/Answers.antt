@@ -40,9 +40,9 @@ unfolding kernel_calls
 returns-in-13-clause-made c = made-call c.exit.ensures c.argument-number.ensures c.in-13.is (λ node p. refl)
 
 pub returns-in-4-clause-made : goal.returns-in-4-clause-made
-returns-in-4-clause-made c = made-number c.counted.ensures.made c.argument-number.ensures
+returns-in-4-clause-made c = made-number c.counted_call.ensures.made c.argument-number.ensures
 
 pub returns-in_default-clause-made : goal.returns-in_default-clause-made
 returns-in_default-clause-made c =
-    made-none c.stops.ensures c.argument-number.ensures
+    made-none c.stop_outcome.ensures c.argument-number.ensures
     (call_none c.argument-number.result (omega arith) (omega arith) (omega arith) (omega arith) (omega arith) (omega arith) (omega arith) (omega arith) (omega arith) (omega arith) (omega arith) (omega arith) (omega arith) (omega arith))

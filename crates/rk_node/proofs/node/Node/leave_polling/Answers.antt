@@ -6,12 +6,12 @@ use Rattle.rk_node.proofs.node.Node.leave_polling.Goals as goal
 
 pub returns-in-Some-clause-node : goal.returns-in-Some-clause-node
 returns-in-Some-clause-node c =
-    let polling = c.args.self.now.polling.items in
+    let polling = c.args.self.now.polling_ids.items in
     let at = sym c.in-Some.ensures in
-    let within = place_within c.args.pid polling c.in-Some.place at in
+    let within = place_within c.args.pid.number polling c.in-Some.place at in
     let gone = at_some c.remove.result _ (c.remove.ensures.variant.1 (omega arith)) c.remove.ensures.items in
-    ap (λ polling. record (node_of c.args.self.now) { polling = polling }) (gone ∙ removed c.args.pid polling c.in-Some.place at)
+    ap (λ polling. record (node_of c.args.self.now) { polling_ids = polling }) (gone ∙ removed c.args.pid.number polling c.in-Some.place at)
 
 pub returns-in-None-clause-node : goal.returns-in-None-clause-node
 returns-in-None-clause-node c =
-    ap (λ polling. record (node_of c.args.self.now) { polling = polling }) (sym (not_there c.args.pid c.args.self.now.polling.items (sym c.in-None.ensures)))
+    ap (λ polling. record (node_of c.args.self.now) { polling_ids = polling }) (sym (not_there c.args.pid.number c.args.self.now.polling_ids.items (sym c.in-None.ensures)))

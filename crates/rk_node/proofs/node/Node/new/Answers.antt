@@ -1,7 +1,7 @@
 use Rattle.std.proofs.Common.{◌≡◌, ℕ, [], length, map, replicate, Some, refl, ap, sym, ◌∙◌, subst, arith}
 use Rattle.std.proofs.lemmas.List.{length-replicate}
 use Rattle.ce_model.specs.Limits.{process_count, process_count_lem, home_blocks}
-use Rattle.xm_owner.specs.Holdings.{Holding}
+use Rattle.xm_owner.specs.Holdings.{MappingTable}
 use Rattle.rk_process.specs.Seen.{place_of, unborn_own}
 use Rattle.rk_node.specs.Standing.{processes_of}
 use Rattle.rk_node.specs.Stocked.{AreRising, AreWithin}
@@ -11,31 +11,36 @@ use Rattle.xm_block.proofs.HomeBlocks.{length-blocks_of_home}
 use Rattle.rk_node.proofs.Fresh.{all-unborn}
 use Rattle.rk_node.proofs.node.Node.new.Goals as goal
 
-pub returns : goal.returns
-returns c =
+pub invariant_of-result : goal.invariant_of-result
+invariant_of-result c =
     let owns = c.in_ok-unborn_processes.field-0.items in
     let store = c.in_ok-of_home.field-0 in
-    let none : c.in_ok-new.field-0.mappings ≡ [] = ap (λ (held : Holding). held.mappings) c.in_ok-new.ensures in
-    let spare : c.in_ok-new.field-0.spare ≡ c.args.room = ap (λ (held : Holding). held.spare) c.in_ok-new.ensures in
-    let all : owns ≡ replicate process_count unborn_own = c.in_ok-unborn_processes.ensures in
-    let processes : processes_of c.in_ok-new.field-0.mappings owns ≡ replicate process_count _ =
-    ap (processes_of c.in_ok-new.field-0.mappings) all ∙ all-unborn c.in_ok-new.field-0.mappings 0 process_count in
+    let none : c.in_ok-new.field-0.mappings ≡ [] = ap (λ (held : MappingTable). held.mappings) c.in_ok-new.ensures in
+    let spare : c.in_ok-new.field-0.spare ≡ c.args.room = ap (λ (held : MappingTable). held.spare) c.in_ok-new.ensures in
     let many : length store.blocks ≡ home_blocks =
     sym (length-ids_of store.blocks) ∙ ap {B = ℕ} length c.in_ok-of_home.ensures.blocks ∙ length-blocks_of_home c.args.home in
     let room = c.in_ok-of_home.ensures.room in
     let no_mapping : length c.in_ok-new.field-0.mappings ≡ 0 = ap {B = ℕ} length none in
     record {
-      fresh = λ i. record (fresh_at c.args.home 0 0 0) { processes = processes i; store = c.in_ok-of_home.ensures.blocks i; polling = c.in_ok-with_capacity.ensures.items i };
-      has_room = refl;
       stocked = record {
-        processes = ap {B = ℕ} length all ∙ length-replicate process_count unborn_own;
-        rising = subst (λ m. AreRising (map place_of m)) (sym none) tt;
+        few_nodes = omega arith;
+        every_id = ap {B = ℕ} length c.in_ok-unborn_processes.ensures ∙ length-replicate process_count unborn_own;
         windows = subst (λ m. AreWithin owns (map place_of m)) (sym none) tt;
-        store = omega (arith, many, room);
-        held = omega (arith, no_mapping, spare);
+        rising = subst (λ m. AreRising (map place_of m)) (sym none) tt;
+        held_room = omega (arith, no_mapping, spare);
+        store_room = omega (arith, many, room);
         within = omega (arith, many, no_mapping, room);
-        polling = omega (arith, process_count_lem, c.in_ok-with_capacity.ensures.capacity);
-        dim = omega arith;
+        poll_room = omega (arith, process_count_lem, c.in_ok-with_capacity.ensures.capacity);
       };
+    }
+
+pub returns : goal.returns
+returns c =
+    let m = c.in_ok-new.field-0.mappings in
+    let processes : processes_of m c.in_ok-unborn_processes.field-0.items ≡ replicate process_count _ =
+    ap (processes_of m) c.in_ok-unborn_processes.ensures ∙ all-unborn m 0 process_count in
+    record {
+      fresh = λ i. record (fresh_at c.args.home 0 0 0) { processes = processes i; store = c.in_ok-of_home.ensures.blocks i; polling_ids = c.in_ok-with_capacity.ensures.items i };
+      has_room = refl;
       batch = ap Some c.in_ok-new-2.ensures;
     }

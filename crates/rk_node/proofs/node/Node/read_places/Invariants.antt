@@ -7,5 +7,5 @@ use Rattle.rk_node.proofs.node.Node.read_places.Given as goal
 
 abbrev pub invariant-loop-place : goal.invariant-loop-place
 invariant-loop-place l =
-    let space = (process_at (node_of l.self) l.pid).space in
+    let space = (process_at (node_of l.self) l.pid.number).space in
     read_on space l.at l.place-index (length l.fn.places - l.place-index) l.places ≡ places_at space l.fn.address (length l.fn.places)

@@ -27,7 +27,6 @@ loop-pid-init c =
       moved = ap (put_all rest) c.empty_store.ensures.moved ∙ sym (put_all-append n.store rest (ids_of c.args.out.now.blocks));
       apart = apart-next n.store rest c.args.out.now c.empty_store.new.out c.empty_store.ensures.moved c.requires.apart;
       spare = omega (arith, c.empty_store.ensures.spare, length-append n.store rest);
-      stocked = c.empty_store.ensures.stocked;
       batch = c.empty_store.ensures.batch;
       room = c.empty_store.ensures.room;
     }
@@ -35,13 +34,13 @@ loop-pid-init c =
 pub scrub_process-requires-clause-apart : goal.scrub_process-requires-clause-apart
 scrub_process-requires-clause-apart c =
     let n = node_of c.args.self.now in
-    let split = ids-split n (node_of c.loop-pid.self) c.loop-pid.pid c.loop-pid.invariant.node (omega (arith, length-processes c.args.self.now c.requires.stocked, process_count_lem)) in
+    let split = ids-split n (node_of c.loop-pid.self) c.loop-pid.pid c.loop-pid.invariant.node (omega (arith, length-processes c.args.self.now, process_count_lem)) in
     apart-first _ (ids_from (c.loop-pid.pid + 1) n.processes) c.loop-pid.out (subst (λ ids. AreApartFrom ids c.loop-pid.out) split c.loop-pid.invariant.apart)
 
 pub scrub_process-requires-clause-room : goal.scrub_process-requires-clause-room
 scrub_process-requires-clause-room c =
     let n = node_of c.args.self.now in
-    let split = ids-split n (node_of c.loop-pid.self) c.loop-pid.pid c.loop-pid.invariant.node (omega (arith, length-processes c.args.self.now c.requires.stocked, process_count_lem)) in
+    let split = ids-split n (node_of c.loop-pid.self) c.loop-pid.pid c.loop-pid.invariant.node (omega (arith, length-processes c.args.self.now, process_count_lem)) in
     omega (arith, c.requires.room, c.loop-pid.invariant.spare, ap {B = ℕ} length split, length-append (ids_in c.loop-pid.pid (node_of c.loop-pid.self)) (ids_from (c.loop-pid.pid + 1) n.processes))
 
 pub loop-pid-preserved : goal.loop-pid-preserved
@@ -50,7 +49,7 @@ loop-pid-preserved c =
     let n = node_of c.args.self.now in
     let now = node_of c.loop-pid.self in
     let k = c.loop-pid.pid in
-    let fewer : k < length n.processes = omega (arith, length-processes c.args.self.now c.requires.stocked, process_count_lem) in
+    let fewer : k < length n.processes = omega (arith, length-processes c.args.self.now, process_count_lem) in
     let first = ids_in k now in
     let rest = ids_from (k + 1) n.processes in
     let split = ids-split n now k was.node fewer in
@@ -62,29 +61,28 @@ loop-pid-preserved c =
           ∙ sym (ap (λ ids. put_all ids (ids_of out.blocks)) split) ∙ was.moved;
       apart = apart-next first rest out c.scrub_process.new.out done.moved (subst (λ ids. AreApartFrom ids out) split was.apart);
       spare = omega (arith, was.spare, done.spare, ap {B = ℕ} length split, length-append first rest);
-      stocked = done.stocked;
       batch = done.batch ∙ was.batch;
       room = done.room ∙ was.room;
     }
 
-pub scrub_process-requires-clause-pid : goal.scrub_process-requires-clause-pid
-scrub_process-requires-clause-pid c = omega (arith, process_count_lem)
+pub invariant_of-scrub_process : goal.invariant_of-scrub_process
+invariant_of-scrub_process c = omega (arith, process_count_lem)
 
 pub returns-clause-node : goal.returns-clause-node
 returns-clause-node c =
     let n = node_of c.args.self.now in
     let now = node_of c.loop-pid.self in
-    ap (λ polling. record now { polling = polling; turn = None }) c.clear.ensures.items
-    ∙ node-scrubbed n now c.loop-pid.pid c.loop-pid.invariant.node (omega (arith, process_count_lem)) (omega (arith, length-processes c.args.self.now c.requires.stocked))
+    ap (λ polling. record now { polling_ids = polling; turn = None }) c.clear.ensures.items
+    ∙ node-scrubbed n now c.loop-pid.pid c.loop-pid.invariant.node (omega (arith, process_count_lem)) (omega (arith, length-processes c.args.self.now))
 
 pub returns-clause-moved : goal.returns-clause-moved
 returns-clause-moved c =
     let n = node_of c.args.self.now in
-    let none = ids-past c.loop-pid.pid n.processes (omega (arith, process_count_lem, length-processes c.args.self.now c.requires.stocked)) in
+    let none = ids-past c.loop-pid.pid n.processes (omega (arith, process_count_lem, length-processes c.args.self.now)) in
     sym (ap (λ ids. put_all ids (ids_of c.loop-pid.out.blocks)) none) ∙ c.loop-pid.invariant.moved
 
 pub returns-clause-spare : goal.returns-clause-spare
 returns-clause-spare c =
     let n = node_of c.args.self.now in
-    let none = ids-past c.loop-pid.pid n.processes (omega (arith, process_count_lem, length-processes c.args.self.now c.requires.stocked)) in
+    let none = ids-past c.loop-pid.pid n.processes (omega (arith, process_count_lem, length-processes c.args.self.now)) in
     omega (arith, c.loop-pid.invariant.spare, ap {B = ℕ} length none)

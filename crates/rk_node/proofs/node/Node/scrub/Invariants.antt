@@ -3,7 +3,6 @@ use Rattle.ce_model.specs.Blocks.{put_all}
 use Rattle.ce_model.specs.Node.{blocks_of}
 use Rattle.xm_block.specs.Stores.{ids_of}
 use Rattle.rk_node.specs.Standing.{node_of}
-use Rattle.rk_node.specs.Stocked.{IsStocked}
 use Rattle.rk_node.specs.Hearings.{AreApartFrom}
 use Rattle.rk_node.proofs.Moved.{reset_first, ids_from}
 use Rattle.rk_node.proofs.node.Node.scrub.Given as goal
@@ -14,7 +13,6 @@ invariant-loop-pid l = record {
   moved : put_all (ids_from l.pid (node_of l.fn.self).processes) (ids_of l.out.blocks) ≡ put_all (blocks_of (node_of l.fn.self)) (ids_of l.fn.out.blocks);
   apart : AreApartFrom (ids_from l.pid (node_of l.fn.self).processes) l.out;
   spare : l.out.spare + length (blocks_of (node_of l.fn.self)) ≡ l.fn.out.spare + length (ids_from l.pid (node_of l.fn.self).processes);
-  stocked : IsStocked l.self;
   batch : l.self.batch ≡ l.fn.self.batch;
   room : l.self.room ≡ l.fn.self.room;
 }

@@ -1,4 +1,4 @@
-use Rattle.std.proofs.Common.{refl, ap, arith}
+use Rattle.std.proofs.Common.{ap, arith}
 use Rattle.rk_node.specs.Moves.{with_status}
 use Rattle.rk_process.specs.Seen.{Own}
 use Rattle.rk_node.specs.Standing.{process_in}
@@ -8,10 +8,11 @@ use Rattle.rk_node.proofs.node.Node.set_status.Goals as goal
 pub returns-clause-node : goal.returns-clause-node
 returns-clause-node c =
     let node = c.args.self.now in
-    node-change node c.args.pid c.index_mut-process.result.now c.set_status.new.self (with_status c.args.status) (omega arith) c.index_mut-process.ensures.value
-    (ap (λ o. process_in node.held.mappings c.args.pid o) c.set_status.ensures)
+    node-change node c.args.pid.number c.index_mut-process.result.now c.set_status.new.self (with_status c.args.status) (omega arith) c.index_mut-process.ensures.value
+    (ap (λ o. process_in node.held.mappings c.args.pid.number o) c.set_status.ensures)
 
-pub returns-clause-stocked : goal.returns-clause-stocked
-returns-clause-stocked c =
-    stocked-change c.args.self.now _ c.args.pid c.index_mut-process.result.now c.set_status.new.self (omega arith) c.index_mut-process.ensures.value
-    (ap (λ (o : Own). o.used) c.set_status.ensures) refl refl c.requires.stocked
+pub invariant_of-self : goal.invariant_of-self
+invariant_of-self c = record {
+  stocked = stocked-change c.args.self.now c.args.pid.number c.index_mut-process.result.now c.set_status.new.self (omega arith) c.index_mut-process.ensures.value
+      (ap (λ (o : Own). o.used_count) c.set_status.ensures);
+}

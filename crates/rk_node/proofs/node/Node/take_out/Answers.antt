@@ -1,51 +1,55 @@
-use Rattle.std.proofs.Common.{◌≡◌, suc, List, length, slice_index_or, Some, ap, ◌∙◌, sym, arith}
-use Rattle.ce_model.specs.Kernel.{gives_up}
-use Rattle.xm_owner.specs.Holdings.{Mapping, held_at}
-use Rattle.rk_process.specs.Seen.{unborn_own}
+use Rattle.std.proofs.Common.{◌≡◌, ℕ, suc, List, length, map, slice_index_or, IsSome, ap, ◌∙◌, sym, arith}
+use Rattle.ce_model.specs.Kernel.{process_left_behind}
+use Rattle.xm_owner.specs.Holdings.{Mapping, held_at, without}
+use Rattle.rk_process.specs.Seen.{unborn_own, place_of}
 use Rattle.rk_node.specs.Standing.{node_of}
+use Rattle.rk_node.specs.Stocked.{AreRising}
 use Rattle.rk_node.proofs.Windows.{windows-unmapped, used-held}
+use Rattle.rk_node.proofs.Made.{some_held, at-some}
 use Rattle.rk_node.proofs.Maps.{all-filter, rising-filter, length-without}
 use Rattle.rk_node.proofs.Processes.{processes-held, same-changed}
 use Rattle.rk_node.proofs.node.Node.take_out.Goals as goal
 
-module _ (c : goal.In-Some) where
-  abbrev m : List Mapping
-  m = c.args.self.now.held.mappings
-
-  abbrev m' : List Mapping
-  m' = c.unmap.new.self.mappings
-
-  held : held_at m c.args.pid c.args.window ≡ Some c.in-Some.block
-  held = sym c.unmap.ensures.block ∙ c.in-Some.is
-
-  one_less : suc (length m') ≡ length m
-  one_less = ap (λ (ms : List Mapping). suc (length ms)) c.unmap.ensures.after ∙ length-without c.args.pid c.args.window c.in-Some.block m c.requires.stocked.rising held
+-- the window holds a block, so the map is one shorter
+one_less : (m m' : List Mapping) (pid window : ℕ) → AreRising (map place_of m) → IsSome (held_at m pid window) → m' ≡ without pid window m → suc (length m') ≡ length m
+one_less m m' pid window rising held after =
+    let there = some_held held in
+    ap (λ (ms : List Mapping). suc (length ms)) after ∙ length-without pid window there.0 m rising there.1
 
 pub returns-clause-node : goal.returns-clause-node
 returns-clause-node c =
+    let m = c.args.self.now.held.mappings in
+    let m' = c.unmap.new.self.mappings in
     let owns = c.args.self.now.processes.items in
-    let own = slice_index_or owns c.args.pid unborn_own in
-    let used = used-held owns (m c) c.args.pid c.args.window c.in-Some.block c.requires.stocked.windows (held c) in
+    let own = slice_index_or owns c.args.pid.number unborn_own in
+    let used = used-held owns m c.args.pid.number c.args.window c.in-Some.block c.args.self.now.stocked.windows (sym c.unmap.ensures.block ∙ c.in-Some.is) in
     ap (λ ps. record (node_of c.args.self.now) { processes = ps })
-    (processes-held (m c) (m' c) owns c.args.pid (gives_up c.args.window) (omega arith) (same-changed c.args.pid c.args.window _ (m c) (m' c) owns c.unmap.ensures.change)
+    (processes-held m m' owns c.args.pid.number (process_left_behind c.args.window) (omega arith) (same-changed c.args.pid.number c.args.window _ m m' owns c.unmap.ensures.change)
     (ap (λ windows. record { status = own.status; regs = own.regs; pc = own.pc; space = record { private = own.private; windows = windows } })
-    (windows-unmapped (m c) (m' c) c.args.pid own.used c.args.window used c.unmap.ensures.change)))
+    (windows-unmapped m m' c.args.pid.number own.used_count c.args.window used c.unmap.ensures.change)))
 
 pub returns-clause-room : goal.returns-clause-room
-returns-clause-room c = let less = one_less c in omega (arith, c.requires.stocked.within)
+returns-clause-room c =
+    let node = c.args.self.now in
+    omega (arith, node.stocked.within, one_less node.held.mappings c.unmap.new.self.mappings c.args.pid.number c.args.window node.stocked.rising c.requires c.unmap.ensures.after)
 
-pub returns-clause-stocked : goal.returns-clause-stocked
-returns-clause-stocked c =
-    let s = c.requires.stocked in
-    let less = one_less c in
+pub invariant_of-self : goal.invariant_of-self
+invariant_of-self c =
+    let node = c.args.self.now in
+    let m = node.held.mappings in
     let after = c.unmap.ensures.after in
+    let fewer = one_less m c.unmap.new.self.mappings c.args.pid.number c.args.window node.stocked.rising c.requires after in
+    let there = some_held c.requires in
+    let spare = at-some c.unmap.result there.0 _ (c.unmap.ensures.block ∙ there.1) c.unmap.ensures.room in
     record {
-      processes = s.processes;
-      rising = rw after (rising-filter _ (m c) s.rising);
-      windows = rw after (all-filter _ _ (m c) s.windows);
-      store = s.store;
-      held = omega (arith, s.held, c.in-Some.ensures.room);
-      within = omega (arith, s.within);
-      polling = s.polling;
-      dim = s.dim;
+      stocked = record {
+        few_nodes = node.stocked.few_nodes;
+        every_id = node.stocked.every_id;
+        windows = rw after (all-filter _ _ m node.stocked.windows);
+        rising = rw after (rising-filter _ m node.stocked.rising);
+        held_room = omega (arith, node.stocked.held_room, fewer, spare);
+        store_room = node.stocked.store_room;
+        within = omega (arith, node.stocked.within, fewer);
+        poll_room = node.stocked.poll_room;
+      };
     }

@@ -9,4 +9,4 @@ pub returns-in-Ok : goal.returns-in-Ok
 returns-in-Ok c = made-named (λ node turn p found. xmsend_block node turn p found) c.argument.ensures c.in-Ok.ensures.1 c.in-Ok.ensures.2 c.xmsend_block.ensures
 
 pub returns-in-Err : goal.returns-in-Err
-returns-in-Err c = made-refused (λ node turn p found. xmsend_block node turn p found) c.argument.ensures c.in-Err.ensures c.stops.ensures
+returns-in-Err c = made-refused (λ node turn p found. xmsend_block node turn p found) c.argument.ensures c.in-Err.ensures c.stop_outcome.ensures

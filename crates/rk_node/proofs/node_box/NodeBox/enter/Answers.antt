@@ -5,26 +5,14 @@ use Rattle.rk_node.proofs.node_box.NodeBox.enter.Goals as goal
 pub invariant_of-self : goal.invariant_of-self
 invariant_of-self c =
     let whole = c.self.invariant in
-    let s = whole.stocked in
     record {
-      stocked = record {
-        processes = s.processes;
-        rising = s.rising;
-        windows = s.windows;
-        store = s.store;
-        held = s.held;
-        within = s.within;
-        polling = s.polling;
-        dim = c.requires.dim;
-      };
       well = record {
         process_ids = whole.well.process_ids;
         processes = whole.well.processes;
-        polling = whole.well.polling;
+        polling_ids = whole.well.polling_ids;
         store = whole.well.store;
         once = whole.well.once;
       };
-      sound = whole.sound;
       batch = whole.batch;
     }
 

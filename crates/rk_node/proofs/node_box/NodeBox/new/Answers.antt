@@ -1,7 +1,6 @@
-use Rattle.std.proofs.Common.{◌≤◌, IfSome, refl, ap, sym, ◌∙◌, subst, arith}
+use Rattle.std.proofs.Common.{◌≤◌, refl, ap, sym, ◌∙◌, subst, arith}
 use Rattle.ce_model.specs.Limits.{home_blocks_lem, greatest_blocks, greatest_blocks_lem}
 use Rattle.ce_model.specs.Node.{Node}
-use Rattle.ce_model.specs.Sound.{IsSoundTurn}
 use Rattle.ce_solo.proofs.Nodes.{IsWell}
 use Rattle.rk_node.specs.Boxes.{fresh_at}
 use Rattle.rk_node.proofs.Sorted.{idle-well, idle-fresh}
@@ -23,8 +22,6 @@ pub invariant_of-result : goal.invariant_of-result
 invariant_of-result c =
     let made = c.in_ok-new.ensures in
     record {
-      stocked = made.stocked;
       well = subst (λ (n : Node). IsWell n.turn n) (sym made.fresh) (idle-well (fresh_at c.args.home 0 0 0) (idle-fresh c.args.home 0 0 0));
-      sound = subst (λ (n : Node). IfSome n.turn IsSoundTurn) (sym made.fresh) tt;
       batch = made.batch;
     }

@@ -1,11 +1,10 @@
-use Rattle.std.proofs.Common.{◌≡◌, ◌<◌, length, sym, subst, arith, IfSome}
+use Rattle.std.proofs.Common.{◌≡◌, ◌<◌, length, sym, subst, arith}
 use Rattle.std.specs.List.{Contains}
 use Rattle.ce_model.specs.Node.{Node, blocks_of}
-use Rattle.ce_model.specs.Sound.{IsSoundTurn}
 use Rattle.ce_solo.proofs.Counting.{count}
 use Rattle.ce_solo.proofs.Nodes.{IsWell}
 use Rattle.rk_node.specs.Standing.{node_of}
-use Rattle.rk_node.specs.Boxes.{Box, HasRoomFor}
+use Rattle.rk_node.specs.Boxes.{Box, HasRoomForBlock}
 use Rattle.rk_node.specs.Wording.{HasBatch}
 use Rattle.rk_node.proofs.Heard.{apart-stored}
 use Rattle.rk_node.proofs.Counted.{count-blocks}
@@ -14,8 +13,8 @@ use Rattle.rk_node.proofs.node_box.NodeBox.put_home.Goals as goal
 
 pub give-requires-clause-room : goal.give-requires-clause-room
 give-requires-clause-room c =
-    let room : length (blocks_of (node_of c.self.inside.node)) < c.self.inside.node.room = subst HasRoomFor (sym c.self.view_is) c.requires.room in
-    omega (arith, room, count-blocks c.self.inside.node c.self.invariant.stocked)
+    let room : length (blocks_of (node_of c.self.inside.node)) < c.self.inside.node.room = subst HasRoomForBlock (sym c.self.view_is) c.requires.room in
+    omega (arith, room, count-blocks c.self.inside.node)
 
 pub give-requires-clause-apart : goal.give-requires-clause-apart
 give-requires-clause-apart c =
@@ -30,8 +29,6 @@ invariant_of-self c =
     let whole = c.self.invariant in
     let none : count id (blocks_of n) ≡ 0 = not-counted id (blocks_of n) (subst (λ (b : Box). ¬ (Contains (blocks_of b.node) id)) (sym c.self.view_is) c.requires.apart) in
     record {
-      stocked = c.give.ensures.stocked;
       well = subst (λ (n : Node). IsWell n.turn n) (sym c.give.ensures.node) (put-well n.turn n id whole.well none);
-      sound = subst (λ (n : Node). IfSome n.turn IsSoundTurn) (sym c.give.ensures.node) whole.sound;
       batch = subst (HasBatch c.self.inside.out) (sym c.give.ensures.batch) whole.batch;
     }

@@ -12,7 +12,7 @@ pub says-said-requires : goal.says-said-requires
 says-said-requires c =
     let whole = c.self.invariant in
     record {
-      ready = record { stocked = whole.stocked; well = whole.well; sound = whole.sound };
+      ready = whole.well;
       batch = has_batch _ _ whole (ap (λ (b : Box). b.out) c.self.view_is ∙ c.requires.idle);
     }
 
@@ -21,9 +21,7 @@ invariant_of-self c =
     let said = c.says-said.ensures in
     let after = said-whole _ _ c.says-said.new.self (call_said c.says-said.result) c.self.invariant said.call said.node in
     record {
-      stocked = said.stocked;
       well = after.well;
-      sound = after.sound;
       batch = subst (λ out. HasBatch out c.says-said.new.self.batch) (sym c.out_by-self-inside.ensures) said.batch;
     }
 

@@ -1,6 +1,5 @@
-use Rattle.std.proofs.Common.{sym, subst, IfSome}
+use Rattle.std.proofs.Common.{sym, subst}
 use Rattle.ce_model.specs.Node.{Node}
-use Rattle.ce_model.specs.Sound.{IsSoundTurn}
 use Rattle.ce_solo.proofs.Nodes.{IsWell}
 use Rattle.rk_node.specs.Standing.{node_of}
 use Rattle.rk_node.specs.Boxes.{scrubbed_node}
@@ -13,8 +12,6 @@ invariant_of-self c =
     let n = node_of c.self.inside.node in
     let done = c.scrub.ensures in
     record {
-      stocked = done.stocked;
       well = subst (λ (n : Node). IsWell n.turn n) (sym done.node) (idle-well (scrubbed_node n) (idle-scrubbed n));
-      sound = subst (λ (n : Node). IfSome n.turn IsSoundTurn) (sym done.node) tt;
       batch = subst (HasBatch c.self.inside.out) (sym done.batch) c.self.invariant.batch;
     }

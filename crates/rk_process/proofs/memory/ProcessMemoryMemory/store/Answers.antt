@@ -2,18 +2,18 @@ use Rattle.std.proofs.Common.{◌≡◌, ◌%◌, ◌==◌, if◌then◌else◌,
 use Rattle.ce_model.specs.Space.{Space, result_map, stored_at}
 use Rattle.rk_process.specs.Seen.{space_of, windows_of}
 use Rattle.rk_process.specs.Windows.{windows_left}
-use Rattle.rk_process.proofs.Spots.{stored-private, stored-elsewhere, stored-then, refused-then}
+use Rattle.rk_process.proofs.Sites.{stored-private, stored-elsewhere, stored-then, refused-then}
 use Rattle.rk_process.proofs.memory.ProcessMemoryMemory.store.Goals as goal
 
 pub returns-in-Ok-clause-stored : goal.returns-in-Ok-clause-stored
 returns-in-Ok-clause-stored c =
     let memory = c.args.self.now in
-    let space : Space = space_of memory.private memory.held.mappings memory.windows.pid memory.windows.used in
+    let space : Space = space_of memory.private memory.held.mappings memory.windows.pid memory.windows.used_count in
     stored-private space c.args.addr c.args.size c.args.value c.store.new.self c.in-Ok.ensures.stored
 
 module _ (c : goal.After-store_elsewhere) where
   abbrev space : Space
-  space = space_of c.args.self.now.private c.args.self.now.held.mappings c.args.self.now.windows.pid c.args.self.now.windows.used
+  space = space_of c.args.self.now.private c.args.self.now.held.mappings c.args.self.now.windows.pid c.args.self.now.windows.used_count
 
   made : stored_at space c.args.addr c.args.size c.args.value
       ≡ result_map (λ windows. record space { windows = windows })
@@ -22,7 +22,7 @@ module _ (c : goal.After-store_elsewhere) where
 
 pub returns-in-Err-clause-stored : goal.returns-in-Err-clause-stored
 returns-in-Err-clause-stored c =
-    stored-then (space c) _ _ (made c) c.store.new.self (windows_of c.store_elsewhere.new.held.mappings c.args.self.now.windows.pid c.args.self.now.windows.used)
+    stored-then (space c) _ _ (made c) c.store.new.self (windows_of c.store_elsewhere.new.held.mappings c.args.self.now.windows.pid c.args.self.now.windows.used_count)
     c.in-Err.ensures.unchanged c.store_elsewhere.result c.store_elsewhere.ensures.stored
 
 pub returns-in-Err-clause-refused : goal.returns-in-Err-clause-refused

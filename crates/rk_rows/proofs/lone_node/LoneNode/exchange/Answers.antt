@@ -1,15 +1,15 @@
 use Rattle.std.proofs.Common.{List, length, ap, ◌∙◌, subst}
 use Rattle.rv_model.specs.Image.{ImageParts}
-use Rattle.ce_model.specs.Hearing.{hears}
+use Rattle.ce_model.specs.Hearing.{node_after_hearing}
 use Rattle.rk_mail.specs.Talk.{heard_as}
-use Rattle.rk_rows.specs.Lone.{IsAnswered}
+use Rattle.rk_rows.specs.Lone.{IsAnsweredAlone}
 use Rattle.rk_rows.proofs.Steps.{said-images, heard-rests}
 use Rattle.rk_rows.proofs.lone_node.LoneNode.exchange.Goals as goal
 
 pub hears-requires-clause-images : goal.hears-requires-clause-images
 hears-requires-clause-images c =
     ap (λ (images : List ImageParts). length images) c.as_slice-2.ensures.value
-    ∙ said-images c.self.inside.images.items c.self.inside.node c.says-said.new.self c.self.inside.desk.mailbox c.self.inside.desk.spare
+    ∙ said-images c.self.inside.images.items c.self.inside.node c.says-said.new.self c.self.inside.desk.mailbox
     (c.self.invariant c.if-self.false) c.says-said.ensures.node
 
 pub invariant_of-self-2 : goal.invariant_of-self-2
@@ -17,9 +17,9 @@ invariant_of-self-2 c = λ same.
     let before = c.self.inside in
     let said = c.says-said.new.self in
     let heard = c.in_ok-heard.heard in
-    let after = c.answers.new.self in
-    heard-rests before.images.items before.node said c.hears.new.self heard before.desk.mailbox after.mailbox before.desk.spare after.spare
+    let after = c.answer.new.self in
+    heard-rests before.images.items before.node said c.hears.new.self heard before.desk.mailbox after.mailbox
     (c.self.invariant c.if-self.false) c.says-said.ensures.node c.says-said.ensures.room
-    (subst (λ images. IsAnswered images said heard after.mailbox.items) c.as_slice.ensures.value c.in_ok-heard.ensures.heard)
-    (c.hears.ensures.node ∙ ap (λ images. hears images said.node (heard_as heard)) c.as_slice-2.ensures.value)
-    c.hears.ensures.room c.hears.ensures.out c.in_ok-heard.ensures.spare
+    (subst (λ images. IsAnsweredAlone images said heard after.mailbox.items) c.as_slice.ensures.value c.in_ok-heard.ensures)
+    (c.hears.ensures.node ∙ ap (λ images. node_after_hearing images said.node (heard_as heard)) c.as_slice-2.ensures.value)
+    c.hears.ensures.room c.hears.ensures.out

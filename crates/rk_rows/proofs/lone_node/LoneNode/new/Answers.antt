@@ -14,8 +14,8 @@ pub invariant_of-result : goal.invariant_of-result
 invariant_of-result c = λ same.
     let made = c.in_ok-node in
     let desk = c.in_ok-new in
-    fresh-rests c.enter.new.self c.args.images.items desk.field-0.mailbox desk.field-0.spare c.len-2.result
+    fresh-rests c.enter.new.self c.args.images.items desk.field-0.mailbox c.len-2.result
     (ap (λ (box : Box). box.node) c.enter.ensures ∙ ap (λ home. fresh_at home 0 0 c.len-2.result) made.ensures.home)
     (ap (λ (box : Box). box.out) c.enter.ensures ∙ made.ensures.clean.out)
     (omega (arith, ap (λ (box : Box). box.room) c.enter.ensures, made.ensures.clean.room))
-    (sym (c.len-2.ensures ∙ c.args.images.ok.0)) desk.ensures.empty desk.ensures.spare
+    (sym (c.len-2.ensures ∙ c.args.images.ok.0)) desk.ensures

@@ -1,5 +1,0 @@
-use Rattle.ce_solo.proofs.Ordered.{in_order}
-use Rattle.ce_solo.proofs.laws.prefix_law.Goals as goal
-
-pub returns : goal.returns
-returns c = record { law = in_order }

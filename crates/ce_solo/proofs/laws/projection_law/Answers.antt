@@ -1,5 +1,0 @@
-use Rattle.ce_solo.proofs.Projection.Law.{projection}
-use Rattle.ce_solo.proofs.laws.projection_law.Goals as goal
-
-pub returns : goal.returns
-returns c = record { law = projection }

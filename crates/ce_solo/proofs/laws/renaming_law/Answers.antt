@@ -1,5 +1,0 @@
-use Rattle.ce_solo.proofs.Renaming.Grants.{renaming}
-use Rattle.ce_solo.proofs.laws.renaming_law.Goals as goal
-
-pub returns : goal.returns
-returns c = record { law = renaming }

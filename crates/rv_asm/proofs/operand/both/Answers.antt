@@ -1,9 +1,0 @@
-use Rattle.std.proofs.Common.{refl}
-use Rattle.rv_asm.specs.Faults.{both}
-use Rattle.rv_asm.proofs.KindOrder.{least_is_earlier}
-use Rattle.rv_asm.proofs.operand.both.Goals as goal
-
-pub returns-in-Err-Err-clause-joined : goal.returns-in-Err-Err-clause-joined
-unfolding both
-returns-in-Err-Err-clause-joined g c =
-    rw (c.in-Err-Err.is-0, c.in-Err-Err.is-1, c.min.ensures, least_is_earlier c.in-Err-Err.first c.in-Err-Err.second) refl
