@@ -20,7 +20,7 @@ use Rattle.ce_solo.proofs.Projection.Held.{held-own}
 use Rattle.ce_solo.proofs.Projection.Numbers.{relative_out, relative_host, node_no_host}
 use Rattle.ce_solo.proofs.Projection.Invariant.{other_way}
 use Rattle.ce_solo.proofs.Projection.Own.{IsOwnEntry, actor_back}
-use Rattle.ce_solo.proofs.Projection.Law.{projected, after-more, own-called, lawful-step}
+use Rattle.ce_solo.proofs.Projection.Law.{projected, after-more, own-called, lawful-entry}
 use Rattle.ce_solo.proofs.Projection.Kinds.{and_false}
 use Rattle.ce_cube.specs.Boxes.{trace_node, IsMadeBy, IsOneMore, IsAside}
 use Rattle.ce_cube.specs.Laws.{CallsAdd, OthersKeep}
@@ -148,7 +148,7 @@ module _ (parts : MachineParts) (history : List Entry) (cube : HeldCube) (now : 
 
   others_keep : ((entry.user == cube.grant.user) ≡ false) ⊎ (entry.what ≡ Peek) → IsAside parts history cube.number cube.grant entry
   others_keep (inl other) =
-      aside ((lawful-step parts now.machine history (projected parts history now.machine now.lawful) entry is).others cube.grant.user other)
+      aside ((lawful-entry parts now.machine history (projected parts history now.machine now.lawful) entry is).others cube.grant.user other)
       (ap (λ b. b && is_some (recorded_call entry.what)) other)
   others_keep (inr peek) =
       aside (ap (λ state. cube_held_by state cube.grant.user) (after-more history entry

@@ -12,7 +12,7 @@ use Rattle.ce_model.specs.Node.{Call}
 use Rattle.ce_model.specs.Answers.{recorded_call}
 use Rattle.ce_model.specs.Subcubes.{extract, node_of, is_inside}
 use Rattle.ce_model.specs.Renaming.{CubeGrant, entry_inward}
-use Rattle.ce_model.specs.Views.{view}
+use Rattle.ce_model.specs.Views.{view, cube_entries}
 use Rattle.ce_model.specs.Machine.{MachineParts, IsMachine, HeldCube, IsLawful, IsLawfulEntry, IsFitting, Request, peek, in_cube, what_of_request, after, cube_held_by}
 use Rattle.ce_model.proofs.Subcubes.{node_of-extract}
 use Rattle.ce_model.proofs.Walked.{each_behind, each-more}
@@ -23,7 +23,7 @@ use Rattle.ce_solo.proofs.Lists.{all-append}
 use Rattle.ce_solo.proofs.Projection.Numbers.{inside_below}
 use Rattle.ce_solo.proofs.Projection.Kinds.{and_false}
 use Rattle.ce_cube.specs.Boxes.{IsHeldAs, trace_node, trace_store, IsMadeBy, IsOneMore, IsAside}
-use Rattle.ce_cube.specs.Beside.{actor_entries, cube_entries, AreNotMadeAlone, IsByHostOrNode, IsHeldBeside}
+use Rattle.ce_cube.specs.Beside.{actor_entries, AreNotMadeAlone, IsByHostOrNode, IsHeldBeside}
 use Rattle.ce_cube.specs.Laws.{BesideKeeps}
 use Rattle.ce_cube.proofs.Held.{seen, by_cube}
 use Rattle.ce_cube.proofs.Adds.{call-of, is-called, one-more, others-keep}

@@ -27,7 +27,7 @@ use Rattle.ce_model.specs.Views.{view}
 use Rattle.ce_model.specs.Machine.{MachineParts, HeldCube, after, nodes_of, cube_standing, with_places_outward, cube_of}
 use Rattle.rk_mail.specs.declared.talk.Hearing as program
 use Rattle.rk_mail.specs.declared.talk.Hearing.TheVariants as hearing
-use Rattle.rk_mail.specs.Talk.{heard_as, is_of_take, IsAnswerTo, IsGiven, heard_of_kill, IsHeardIn}
+use Rattle.rk_mail.specs.Talk.{hearing_model, is_of_take, IsAnswerTo, IsGiven, kill_hearing, IsHeardIn}
 use Rattle.ce_script.specs.Rounds.{asks_for_work}
 use Rattle.ce_solo.proofs.Words.{HasMadeCall}
 use Rattle.ce_solo.proofs.Made.{by_node}
@@ -68,7 +68,7 @@ fresh-answers : (fresh : Bool) (heard : program.Hearing) → heard ≡ (if fresh
 fresh-answers true heard is = inl is
 fresh-answers false heard is = inr is
 
-kill-answers : (found : KillFound) (heard : program.Hearing) → heard ≡ heard_of_kill found → (heard ≡ hearing.Killed) ⊎ ((heard ≡ hearing.Unused) ⊎ (heard ≡ hearing.Already))
+kill-answers : (found : KillFound) (heard : program.Hearing) → heard ≡ kill_hearing found → (heard ≡ hearing.Killed) ⊎ ((heard ≡ hearing.Unused) ⊎ (heard ≡ hearing.Already))
 kill-answers kill_found.Killed heard is = inl is
 kill-answers kill_found.Unused heard is = inr (inl is)
 kill-answers kill_found.Already heard is = inr (inr is)
@@ -162,7 +162,7 @@ module _ (parts : MachineParts) (history : List Entry) (cube : HeldCube) (now : 
     heard_own : IsHeardIn outward entry.what heard
     heard_own = heard-own parts history cube now r below box stands entry heard is
 
-    heard_is : heard_as heard ≡ renamed_hearing (block_outward cube.grant) (hearing_of_entry items inner)
+    heard_is : hearing_model heard ≡ renamed_hearing (block_outward cube.grant) (hearing_of_entry items inner)
     heard_is =
         reply-heard (block_outward cube.grant) (λ place. place) (λ id. id) items entry.what heard heard_own
         ∙ ap (renamed_hearing (block_outward cube.grant)) (hearing_of_entry-renamed (λ place. place) (λ id. id) items entry.what ∙ ap (hearing_of_entry items) entry-is
@@ -181,7 +181,7 @@ module _ (parts : MachineParts) (history : List Entry) (cube : HeldCube) (now : 
 
     -- ---- the turn
 
-    turn_behind : asks_for_work call ≡ false → (node_after_hearing parts.images (says box).node (heard_as heard)).turn ≡ (says (s.node r)).node.turn
+    turn_behind : asks_for_work call ≡ false → (node_after_hearing parts.images (says box).node (hearing_model heard)).turn ≡ (says (s.node r)).node.turn
     turn_behind other =
         ap (λ heard. (node_after_hearing parts.images (says box).node heard).turn) heard_is
         ∙ turn-kept parts.images (block_outward cube.grant) (says box).node (node_numbers cube.grant.dim) s.standing r items call other
@@ -191,7 +191,7 @@ module _ (parts : MachineParts) (history : List Entry) (cube : HeldCube) (now : 
     box_turn other box (inl same) = ap (λ (node : Node). node.turn) same
     box_turn other box (inr step) = absurd (both_ways _ other step.asks)
 
-    turn-ends : IsFalse (asks_for_work (says box).call) → calls_left (node_after_hearing parts.images (says box).node (heard_as heard)) < calls_left box
+    turn-ends : IsFalse (asks_for_work (says box).call) → calls_left (node_after_hearing parts.images (says box).node (hearing_model heard)) < calls_left box
     turn-ends no_work =
         let other : asks_for_work call ≡ false = sym (asks-renamed (block_outward cube.grant) call) ∙ ap asks_for_work (sym said.call) ∙ no_work in
         let calling = says-calling (s.node r) other in
@@ -216,5 +216,5 @@ turns-end parts history number grant machine lawful held r box entry heard below
     by_seen
     (λ number grant. r < 2 ^ grant.dim → IsStandIn grant (trace_node parts history number grant r) box
     → IsMadeBy parts history grant (node_of grant.sub r) (says box).call entry → IsHeardByNode history grant r entry.what heard
-    → IsFalse (asks_for_work (says box).call) → calls_left (node_after_hearing parts.images (says box).node (heard_as heard)) < calls_left box) parts history number grant machine lawful
+    → IsFalse (asks_for_work (says box).call) → calls_left (node_after_hearing parts.images (says box).node (hearing_model heard)) < calls_left box) parts history number grant machine lawful
     (λ cube now below stands made is. turn-ends parts history cube now r below box stands entry made heard is) held below stands made is

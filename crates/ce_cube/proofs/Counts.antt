@@ -21,7 +21,7 @@ use Rattle.ce_model.specs.Views.{view}
 use Rattle.ce_model.specs.Machine.{MachineParts, HeldCube, cube_of}
 use Rattle.ce_model.proofs.OneMore.{armed-more, dispatched-more}
 use Rattle.rk_mail.specs.declared.talk.Hearing.{Hearing}
-use Rattle.rk_mail.specs.Talk.{IsGiven, heard_of_kill, IsHeardIn}
+use Rattle.rk_mail.specs.Talk.{IsGiven, kill_hearing, IsHeardIn}
 use Rattle.ce_script.specs.Rounds.{is_take, is_dispatch, asks_for_work}
 use Rattle.ce_solo.proofs.Projection.Numbers.{relative_out}
 use Rattle.ce_cube.specs.Boxes.{trace_node, IsStandIn, IsMadeBy, IsHeardByNode}
@@ -73,7 +73,7 @@ fresh-work : (fresh : Bool) (items : List Item) (to : Place) (heard : Hearing) �
 fresh-work true items to heard is = ap is_work_heard is
 fresh-work false items to heard is = ap is_work_heard is
 
-kill-work : (found : KillFound) (heard : Hearing) → heard ≡ heard_of_kill found → is_work_heard heard ≡ false
+kill-work : (found : KillFound) (heard : Hearing) → heard ≡ kill_hearing found → is_work_heard heard ≡ false
 kill-work kill_found.Killed heard is = ap is_work_heard is
 kill-work kill_found.Unused heard is = ap is_work_heard is
 kill-work kill_found.Already heard is = ap is_work_heard is

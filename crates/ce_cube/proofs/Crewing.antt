@@ -21,8 +21,9 @@ use Rattle.ce_script.specs.Rounds.{has_work, IsTurn}
 use Rattle.ce_cube.specs.declared.crew.SerialCrew.{SerialCrew}
 use Rattle.ce_cube.specs.Boxes.{IsHeldAs, IsInStep}
 use Rattle.ce_cube.specs.Rounds.{IsPartOfRound}
-use Rattle.ce_cube.specs.Crews.{HasStopped, IsLawfulMachine, IsReady, AreBoxesInStep, IsHostInStep, IsCrewInStep, HasGoneOn, HasMadeRound, AreCallsOf, box_at, cube_grant}
-use Rattle.ce_cube.specs.Exchanges.{HasNode, IsTurning, HasTakenTurn, IsRoundUnderWay, machine_node, left_in}
+use Rattle.ce_cube.specs.Crews.{HasStopped, IsLawfulMachine, IsReady, AreBoxesInStep, IsHostInStep, IsCrewInStep, HasGoneOn, HasMadeRound, AreCallsOf, box_at}
+use Rattle.ce_daemon.specs.Peeks.{cube_grant}
+use Rattle.ce_cube.specs.Exchanges.{HasNode, IsTurning, HasTakenTurn, IsRoundUnderWay, machine_node, cube_dispatches_left}
 use Rattle.ce_cube.proofs.Held.{placed-of}
 use Rattle.ce_cube.proofs.Rounds.{are-made}
 
@@ -148,8 +149,8 @@ module _ (m m' : MachineFacts) (crew crew' : SerialCrew) (r count : ℕ) (box : 
         step.entries,
         turn.count_is,
         ap {B = ℕ} (λ (t : List Entry). length t) turn.goes_on.trace,
-        length-append (view m.history crew.grant.number) (map (entry_inward crew.grant.sub) turn.made),
-        length-map turn.made (entry_inward crew.grant.sub),
+        length-append (view m.history crew.grant.number) (map (entry_inward crew.grant.sub) turn.new_entries),
+        length-map turn.new_entries (entry_inward crew.grant.sub),
       )
 
   -- so many entries are counted
@@ -159,7 +160,7 @@ module _ (m m' : MachineFacts) (crew crew' : SerialCrew) (r count : ℕ) (box : 
   pub turn-taken : crew'.grant ≡ crew.grant → crew'.nodes.items ≡ set crew.nodes.items r box → crew'.host ≡ crew.host → crew'.entries ≡ crew.entries + count
       → HasTakenTurn m m' crew crew' r work
   turn-taken grant nodes host entries = record {
-    turn = turn.made;
+    turn = turn.new_entries;
     goes_on = record {
       parts = turn.goes_on.parts;
       history = turn.goes_on.history;
@@ -204,7 +205,7 @@ stands-still m crew sound step = record {
 
 pub round-starts : (m : MachineFacts) (crew : SerialCrew) → IsLawfulMachine m → IsCrewInStep m.parts m.history crew → IsRoundUnderWay m m crew crew 0 false
 round-starts m crew sound step = record {
-  made = [];
+  new_entries = [];
   goes_on = stands-still m crew sound step;
   part = are-made.round_begins;
   works = refl;
@@ -234,16 +235,16 @@ pub round-goes_on : (m now now' : MachineFacts) (crew crew' crew'' : SerialCrew)
     → HasTakenTurn now now' crew' crew'' r more → IsRoundUnderWay m now' crew crew'' (r + 1) (work || more)
 round-goes_on m now now' crew crew' crew'' r work more way taken =
     let inner = entry_inward crew.grant.sub in
-    let split = map-append inner way.made taken.turn in
-    let left : left_in now' crew.grant + (if more then 1 else 0) ≡ left_in now crew.grant =
-    subst (λ (g : Grant). left_in now' g + (if more then 1 else 0) ≡ left_in now g) way.goes_on.grant taken.left in
+    let split = map-append inner way.new_entries taken.turn in
+    let left : cube_dispatches_left now' crew.grant + (if more then 1 else 0) ≡ cube_dispatches_left now crew.grant =
+    subst (λ (g : Grant). cube_dispatches_left now' g + (if more then 1 else 0) ≡ cube_dispatches_left now g) way.goes_on.grant taken.left in
     record {
-      made = way.made ++ taken.turn;
-      goes_on = gone-both m now now' crew crew' crew'' way.made taken.turn way.goes_on taken.goes_on;
+      new_entries = way.new_entries ++ taken.turn;
+      goes_on = gone-both m now now' crew crew' crew'' way.new_entries taken.turn way.goes_on taken.goes_on;
       part = subst (IsPartOfRound (r + 1)) (sym split)
-          (are-made.round_goes_on r (map inner way.made) (map inner taken.turn) way.part
+          (are-made.round_goes_on r (map inner way.new_entries) (map inner taken.turn) way.part
           (subst (λ (g : Grant). IsTurn r (map (entry_inward g.sub) taken.turn)) way.goes_on.grant taken.is_turn));
-      works = ap has_work split ∙ are-made.work_adds (map inner way.made) (map inner taken.turn)
+      works = ap has_work split ∙ are-made.work_adds (map inner way.new_entries) (map inner taken.turn)
           ∙ ap₂ (λ a b. a || b) way.works (subst (λ (g : Grant). has_work (map (entry_inward g.sub) taken.turn) ≡ more) way.goes_on.grant taken.works);
       left = omega (arith, way.left, left, or_count work more);
       host = taken.host ∙ way.host;
@@ -253,20 +254,20 @@ round-goes_on m now now' crew crew' crew'' r work more way taken =
 pub stopped-round : (m now now' : MachineFacts) (crew crew' : SerialCrew) (r : ℕ) (work : Bool) → IsRoundUnderWay m now crew crew' r work
     → HasStopped now now' crew'.grant.user → HasStopped m now' crew.grant.user
 stopped-round m now now' crew crew' r work way stopped = record {
-  made = way.made ++ stopped.made;
+  new_entries = way.new_entries ++ stopped.new_entries;
   parts = stopped.parts ∙ way.goes_on.parts;
-  history = stopped.history ∙ ap (λ h. h ++ stopped.made) way.goes_on.history ∙ append_assoc m.history way.made stopped.made;
+  history = stopped.history ∙ ap (λ h. h ++ stopped.new_entries) way.goes_on.history ∙ append_assoc m.history way.new_entries stopped.new_entries;
   lawful = stopped.lawful;
-  calls = all-append (λ (entry : Entry). (entry.user ≡ crew.grant.user) × IsTrue (is_some (recorded_call entry.what))) way.made stopped.made way.goes_on.calls
-      (subst (λ (g : Grant). AreCallsOf g.user stopped.made) way.goes_on.grant stopped.calls);
+  calls = all-append (λ (entry : Entry). (entry.user ≡ crew.grant.user) × IsTrue (is_some (recorded_call entry.what))) way.new_entries stopped.new_entries way.goes_on.calls
+      (subst (λ (g : Grant). AreCallsOf g.user stopped.new_entries) way.goes_on.grant stopped.calls);
 }
 
 pub round-stops : (m now : MachineFacts) (crew crew' : SerialCrew) (work : Bool) → IsRoundUnderWay m now crew crew' (2 ^ crew.grant.dim) work
     → HasMadeRound m now crew crew' work
 round-stops m now crew crew' work way = record {
-  round = way.made;
+  round = way.new_entries;
   goes_on = way.goes_on;
-  is_round = are-made.round_ends crew.grant.dim (map (entry_inward crew.grant.sub) way.made) way.part;
+  is_round = are-made.round_ends crew.grant.dim (map (entry_inward crew.grant.sub) way.new_entries) way.part;
   works = way.works;
   left = way.left;
   host = way.host;

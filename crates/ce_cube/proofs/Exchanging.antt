@@ -19,7 +19,7 @@ use Rattle.ce_model.proofs.AloneByEntries.{call_of-answer}
 use Rattle.ce_solo.proofs.Counting.{count-is}
 use Rattle.ce_solo.proofs.Projection.Numbers.{IsPlaced, out_no_host}
 use Rattle.ce_solo.proofs.Renaming.Grants.{few_nodes}
-use Rattle.ce_model.specs.Node.{Node, Call, process_at, blocks_of, ids_of}
+use Rattle.ce_model.specs.Node.{Node, Call, process_at, blocks_of, process_set}
 use Rattle.ce_model.specs.Saying.{says}
 use Rattle.ce_model.specs.Sound.{is_unborn}
 use Rattle.ce_model.specs.Renaming.{CubeGrant}
@@ -28,7 +28,7 @@ use Rattle.ce_daemon.specs.declared.grant.Grant.{Grant}
 use Rattle.rk_mail.specs.declared.talk.Hearing.{Hearing}
 use Rattle.rk_mail.specs.declared.talk.Hearing.TheVariants as hearing
 use Rattle.rk_mail.specs.Items.{parcel_of}
-use Rattle.rk_mail.specs.Talk.{IsHeardIn, IsAnswerTo, call_said, heard_as}
+use Rattle.rk_mail.specs.Talk.{IsHeardIn, IsAnswerTo, call_said, hearing_model}
 use Rattle.rk_node.specs.Boxes.{Box}
 use Rattle.rk_node.specs.declared.out.Out.TheVariants.{Nothing}
 use Rattle.rk_node.proofs.Names.{not_contained}
@@ -48,7 +48,7 @@ use Rattle.ce_script.specs.Rounds.{asks_for_work}
 use Rattle.ce_cube.specs.Boxes.{IsSaidBy, IsMadeBy, trace_node}
 use Rattle.ce_cube.specs.Hearable.{IsHearable, IsRightAnswer, calls_left}
 use Rattle.ce_cube.specs.Rounds.{is_work_heard}
-use Rattle.ce_cube.specs.Crews.{cube_grant}
+use Rattle.ce_daemon.specs.Peeks.{cube_grant}
 use Rattle.ce_cube.specs.Exchanges.{HasNode, HasSaidCall, HasExchanged}
 use Rattle.ce_cube.proofs.Held.{by_seen, placed-of}
 use Rattle.ce_cube.proofs.Seats.{node-said}
@@ -127,11 +127,11 @@ born-is status born e = absurd (both_ways (is_unborn status) born (ap is_unborn 
 
 -- a box can hear what its node can
 can-work : (images : List ImageParts) (box : Box) (node : Node) (heard : Hearing) → box.node ≡ node → greatest_blocks ≤ box.room
-    → IsHearable images node (heard_as heard) → IsWork images box heard
+    → IsHearable images node (hearing_model heard) → IsWork images box heard
 can-work images box node (hearing.Start pid image) same room is =
     (is.pid_within, ap (λ (node : Node). (process_at node pid).status) same ∙ unborn-is (process_at node pid).status is.unborn, is.image_within)
 can-work images box node (hearing.Mail parcel) same room is = record {
-  eligible = subst (λ (node : Node). IsTrue (is_eligible (ids_of is_receiving node.processes) (ids_of is_stopped node.processes) (mail (parcel_of parcel)))) (sym same) is.eligible;
+  eligible = subst (λ (node : Node). IsTrue (is_eligible (process_set is_receiving node.processes) (process_set is_stopped node.processes) (mail (parcel_of parcel)))) (sym same) is.eligible;
   apart = subst (λ (node : Node). ¬ Contains (blocks_of node) parcel.block.id) (sym same) (not_contained parcel.block.id (blocks_of node) (sym (count-is parcel.block.id (blocks_of node)) ∙ is.new));
   room = omega (arith, ap (λ (node : Node). length (blocks_of node)) same, is.room, room);
 }
@@ -218,7 +218,7 @@ module _ (m : MachineFacts) (grant : Grant) (r : ℕ) (node : HasNode m grant r)
     }
 
     -- what the exchange came to
-    pub exchanged : (m' : MachineFacts) (box'' : Box) → m'.parts ≡ m.parts → m'.history ≡ m.history ++ made ∷ [] → box''.node ≡ node_after_hearing m.parts.images box'.node (heard_as heard)
+    pub exchanged : (m' : MachineFacts) (box'' : Box) → m'.parts ≡ m.parts → m'.history ≡ m.history ++ made ∷ [] → box''.node ≡ node_after_hearing m.parts.images box'.node (hearing_model heard)
         → box''.room ≡ box'.room → box''.out ≡ Nothing → length m'.history < 2 ^ 63 → HasExchanged m m' grant r box box'' call (is_work_heard heard)
     exchanged m' box'' same_parts grown heard_node room out few =
         let one = calls-add m.parts m.history grant.number cg node.sound.within node.sound.lawful node.held (node_of grant.sub r) (says box.node).call made said.fits is-made in
@@ -242,10 +242,10 @@ module _ (m : MachineFacts) (grant : Grant) (r : ℕ) (node : HasNode m grant r)
           left = count.left;
           stands = record {
             ready = record { idle = out; room = omega (arith, room, called.room, called.before.ready.room) };
-            stands = inl (heard_node ∙ ap (λ (node : Node). node_after_hearing m.parts.images node (heard_as heard)) called.node ∙ hear);
+            stands = inl (heard_node ∙ ap (λ (node : Node). node_after_hearing m.parts.images node (hearing_model heard)) called.node ∙ hear);
           };
           calls = λ no_work.
-              subst (λ (node : Node). calls_left node < calls_left box.node) (sym (heard_node ∙ ap (λ (node : Node). node_after_hearing m.parts.images node (heard_as heard)) called.node))
+              subst (λ (node : Node). calls_left node < calls_left box.node) (sym (heard_node ∙ ap (λ (node : Node). node_after_hearing m.parts.images node (hearing_model heard)) called.node))
               (turns-end m.parts m.history grant.number cg node.sound.within node.sound.lawful node.held r box.node made heard node.within called.before.stands is-made reply
               (subst (λ call. IsFalse (asks_for_work call)) called.call_is no_work));
         })
@@ -292,6 +292,6 @@ module _ (m : MachineFacts) (grant : Grant) (r : ℕ) (node : HasNode m grant r)
     entry-is : entry ≡ made entry.what heard answers reply
     entry-is = λ i. record { user = (stands.whose_is i).family; actor = ((ap (λ (who : Who). who.actor) stands.whose_is ∙ at) i); what = entry.what }
 
-    pub stands-exchanged : (m' : MachineFacts) (box'' : Box) → m'.parts ≡ m.parts → m'.history ≡ m.history ++ entry ∷ [] → box''.node ≡ node_after_hearing m.parts.images box'.node (heard_as heard)
+    pub stands-exchanged : (m' : MachineFacts) (box'' : Box) → m'.parts ≡ m.parts → m'.history ≡ m.history ++ entry ∷ [] → box''.node ≡ node_after_hearing m.parts.images box'.node (hearing_model heard)
         → box''.room ≡ box'.room → box''.out ≡ Nothing → length m'.history < 2 ^ 63 → HasExchanged m m' grant r box box'' call (is_work_heard heard)
     stands-exchanged m' box'' same_parts grown = exchanged entry.what heard answers reply m' box'' same_parts (grown ∙ ap (λ e. m.history ++ e ∷ []) entry-is)

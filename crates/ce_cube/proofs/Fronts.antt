@@ -12,8 +12,9 @@ use Rattle.ce_model.specs.Answers.{recorded_call}
 use Rattle.ce_model.specs.Subcubes.{relative_number, node_of}
 use Rattle.ce_model.specs.Renaming.{CubeGrant, number_outward, entry_inward}
 use Rattle.ce_model.specs.Machine.{MachineParts, IsLawfulEntry, IsFitting, Request, getcube, drain, freecube, after, what_of_request}
+use Rattle.ce_model.specs.Views.{cube_entries}
 use Rattle.ce_lock.specs.declared.who.Who.{Who}
-use Rattle.ce_lock.specs.Entries.{IsPrefix, Every, is_of, entries_of, IsForeign}
+use Rattle.ce_lock.specs.Entries.{is_of, entries_of, IsForeignEntry}
 use Rattle.ce_lock.proofs.Histories.{between, own_append, own_none, every_map, not_of, of_actor}
 use Rattle.ce_machine.specs.Meanings.{whose, is_alone_entry}
 use Rattle.ce_machine.specs.Keeping.{alone-answered}
@@ -22,55 +23,39 @@ use Rattle.ce_script.specs.Rounds.{RoundKind, serial}
 use Rattle.ce_solo.proofs.Lists.{all-append, all-weaker, filter-kept}
 use Rattle.ce_solo.proofs.Projection.Numbers.{IsPlaced, IsNumber, out_node, out_test, in_out}
 use Rattle.ce_cube.specs.Crews.{AreCallsOf}
-use Rattle.ce_cube.specs.Beside.{actor_entries, cube_entries, AreNotMadeAlone, IsByHostOrNode, IsAllowedAmong, IsMix}
+use Rattle.ce_cube.specs.Beside.{actor_entries, AreNotMadeAlone, IsByHostOrNode, IsAllowedAmong, IsMix}
 
 -- ---- fronts
 
 module _ {X : Type 0} where
-  pub prefix-self : (xs : List X) → IsPrefix xs xs
-  prefix-self xs = record { rest = []; whole = append-nil xs }
+  pub front-self : (xs : List X) → IsFront xs xs
+  front-self xs = ([], append-nil xs)
 
-  pub prefix-on : (xs ys zs : List X) → IsPrefix xs ys → IsPrefix ys zs → IsPrefix xs zs
-  prefix-on xs ys zs first next = record {
-    rest = first.rest ++ next.rest;
-    whole = sym (append_assoc xs first.rest next.rest) ∙ ap (λ front. front ++ next.rest) first.whole ∙ next.whole;
-  }
+  pub front-on : (xs ys zs : List X) → IsFront xs ys → IsFront ys zs → IsFront xs zs
+  front-on xs ys zs first next = (
+    first.0 ++ next.0,
+    sym (append_assoc xs first.0 next.0) ∙ ap (λ front. front ++ next.0) first.1 ∙ next.1,
+  )
 
   -- two lists that are fronts of each other are the same
-  pub prefix-same : (xs ys : List X) → IsPrefix xs ys → IsPrefix ys xs → xs ≡ ys
-  prefix-same xs ys first next =
-      let none : first.rest ≡ [] =
-      nil_from_length first.rest
-      (omega (arith, ap length first.whole, length-append xs first.rest, ap length next.whole, length-append ys next.rest)) in
-      sym (append-nil xs) ∙ ap (λ rest. xs ++ rest) (sym none) ∙ first.whole
+  pub front-same : (xs ys : List X) → IsFront xs ys → IsFront ys xs → xs ≡ ys
+  front-same xs ys first next =
+      let none : first.0 ≡ [] =
+      nil_from_length first.0
+      (omega (arith, ap length first.1, length-append xs first.0, ap length next.1, length-append ys next.0)) in
+      sym (append-nil xs) ∙ ap (λ rest. xs ++ rest) (sym none) ∙ first.1
 
   -- of two fronts of a list one is a front of the other
-  pub prefix-either : (xs ys zs : List X) → IsPrefix xs zs → IsPrefix ys zs → IsPrefix xs ys ⊎ IsPrefix ys xs
-  prefix-either xs ys zs first next =
+  pub front-either : (xs ys zs : List X) → IsFront xs zs → IsFront ys zs → IsFront xs ys ⊎ IsFront ys xs
+  front-either xs ys zs first next =
       elim (cases_lt (length xs) (length ys)) [
         | inl less ↦
-            let found = between xs first.rest ys next.rest (first.whole ∙ sym next.whole) (omega (arith, less)) in
-            inl (record { rest = found.0; whole = found.1 })
+            let found = between xs first.0 ys next.0 (first.1 ∙ sym next.1) (omega (arith, less)) in
+            inl (found.0, found.1)
         | inr past ↦
-            let found = between ys next.rest xs first.rest (next.whole ∙ sym first.whole) past in
-            inr (record { rest = found.0; whole = found.1 })
+            let found = between ys next.0 xs first.0 (next.1 ∙ sym first.1) past in
+            inr (found.0, found.1)
       ]
-
-  pub prefix-front : (xs ys : List X) → IsPrefix xs ys → IsFront xs ys
-  prefix-front xs ys is = (is.rest, is.whole)
-
-  pub front-prefix : (xs ys : List X) → IsFront xs ys → IsPrefix xs ys
-  front-prefix xs ys is = record { rest = is.0; whole = is.1 }
-
-  -- ---- each member
-
-  pub every-all : (P : X → Type 0) (xs : List X) → Every P xs → AllByRecursion P xs
-  every-all P [] each = tt
-  every-all P (x ∷ xs) each = (each.0, every-all P xs each.1)
-
-  pub all-every : (P : X → Type 0) (xs : List X) → AllByRecursion P xs → Every P xs
-  all-every P [] each = tt
-  all-every P (x ∷ xs) each = (each.0, all-every P xs each.1)
 
 -- ---- the entries of an actor
 
@@ -123,16 +108,16 @@ mix-both kind user front rest made made' first next = record {
 }
 
 -- foreign entries are none of the actor's, and none is one of a call that its user makes alone
-pub none-foreign : (who : Who) (missed : List Entry) → Every (IsForeign whose is_alone_entry who) missed → entries_of whose who missed ≡ []
+pub none-foreign : (who : Who) (missed : List Entry) → AllByRecursion (IsForeignEntry whose is_alone_entry who) missed → entries_of whose who missed ≡ []
 none-foreign who missed foreign =
     own_none whose who missed
-    (every_map (IsForeign whose is_alone_entry who) (λ entry. is_of whose who entry ≡ false) (not_of whose is_alone_entry who) missed foreign)
+    (every_map (IsForeignEntry whose is_alone_entry who) (λ entry. is_of whose who entry ≡ false) (not_of whose is_alone_entry who) missed foreign)
 
-pub foreign-beside : (who : Who) (missed : List Entry) → Every (IsForeign whose is_alone_entry who) missed → AreNotMadeAlone who.family missed
+pub foreign-beside : (who : Who) (missed : List Entry) → AllByRecursion (IsForeignEntry whose is_alone_entry who) missed → AreNotMadeAlone who.family missed
 foreign-beside who [] foreign = tt
 foreign-beside who (entry ∷ missed) foreign = (beside foreign.0, foreign-beside who missed foreign.1)
   where
-    beside : IsForeign whose is_alone_entry who entry → entry.user ≡ who.family → is_alone_entry entry ≡ false
+    beside : IsForeignEntry whose is_alone_entry who entry → entry.user ≡ who.family → is_alone_entry entry ≡ false
     beside (inl other) same = absurd (other same)
     beside (inr aside) same = aside.1
 

@@ -8,9 +8,9 @@ use Rattle.std.proofs.lemmas.List.Sums.{fold-append}
 use Rattle.std.proofs.lemmas.List.FromFn.{get_or-map-range_with_len, length-map-range_with_len, map-range_with_len_more}
 use Rattle.ce_model.specs.declared.topology.BlockId.{BlockId}
 use Rattle.ce_model.specs.Limits.{home_blocks}
-use Rattle.ce_model.specs.Blocks.{Block, is_lower, put, put_all, blocks_of_home}
+use Rattle.ce_model.specs.Blocks.{Block, is_lower, with_id, with_ids, blocks_of_home}
 use Rattle.ce_solo.proofs.Counting.{hit, hit-self, count, count-cons, count-append, count-put_all}
-use Rattle.xm_block.specs.Stores.{KeptBlock, ids_of}
+use Rattle.xm_block.specs.Stores.{BlockStore, ids_of}
 use Rattle.rk_node.specs.Hearings.{AreApartFrom}
 use Rattle.ce_cube.specs.Homecoming.{HasPrefix}
 
@@ -67,7 +67,7 @@ module _ {X : Type 0} (has : X → List BlockId) (xs : List X) (i : ℕ) (d : X)
       )
 
   -- the blocks of the next one are apart from those that a store had and those of the earlier ones
-  pub next-apart : (first store : KeptBlock) → ids_of store.blocks ≡ put_all before (ids_of first.blocks) → AreApartFrom (flat_map has xs) first → AreApartFrom (has x) store
+  pub next-apart : (first store : BlockStore) → ids_of store.blocks ≡ with_ids before (ids_of first.blocks) → AreApartFrom (flat_map has xs) first → AreApartFrom (has x) store
   next-apart first store moved all = record {
     apart = λ id. omega (
       arith,
@@ -82,10 +82,10 @@ module _ {X : Type 0} (has : X → List BlockId) (xs : List X) (i : ℕ) (d : X)
     );
   }
 
-  pub moved-more : (first ids ids' : List BlockId) → ids ≡ put_all before first → ids' ≡ put_all (has x) ids → ids' ≡ put_all (flat_map has (take (i + 1) xs)) first
+  pub moved-more : (first ids ids' : List BlockId) → ids ≡ with_ids before first → ids' ≡ with_ids (has x) ids → ids' ≡ with_ids (flat_map has (take (i + 1) xs)) first
   moved-more first ids ids' so_far moved =
-      moved ∙ ap (put_all (has x)) so_far ∙ sym (fold-append (λ others id. put id others) first before (has x))
-      ∙ ap (λ zs. put_all zs first) (sym flat-more)
+      moved ∙ ap (with_ids (has x)) so_far ∙ sym (fold-append (λ others id. with_id id others) first before (has x))
+      ∙ ap (λ zs. with_ids zs first) (sym flat-more)
 
   -- ---- a list that begins with what they have
 
@@ -116,15 +116,15 @@ contains-count (x ∷ xs) id (zero, low, same) = omega (arith, count-cons id x x
 contains-count (x ∷ xs) id (suc k, low, same) = omega (arith, count-cons id x xs, contains-count xs id (k, omega (arith, low), same))
 
 -- the next of some blocks isn't in the store that has the earlier ones
-pub given-apart : (blocks yielded : List Block) (block : Block) (first store : KeptBlock) → (length yielded < length blocks) × (block ≡ get_or blocks (length yielded) block)
-    → yielded ≡ take (length yielded) blocks → ids_of store.blocks ≡ put_all (ids_of yielded) (ids_of first.blocks) → AreApartFrom (ids_of blocks) first
+pub given-apart : (blocks yielded : List Block) (block : Block) (first store : BlockStore) → (length yielded < length blocks) × (block ≡ get_or blocks (length yielded) block)
+    → yielded ≡ take (length yielded) blocks → ids_of store.blocks ≡ with_ids (ids_of yielded) (ids_of first.blocks) → AreApartFrom (ids_of blocks) first
     → Contains (ids_of store.blocks) block.id → ⊥
 given-apart blocks yielded block first store next so_far moved all there =
     let i : ℕ = length yielded in
     let has : Block → List BlockId = λ one. one.id ∷ [] in
     let singles : (some : List Block) → flat_map has some ≡ ids_of some = λ some. flat_map_single (λ (one : Block). one.id) some in
-    let earlier : ids_of store.blocks ≡ put_all (flat_map has (take i blocks)) (ids_of first.blocks) =
-    moved ∙ ap (λ zs. put_all zs (ids_of first.blocks)) (ap ids_of so_far ∙ sym (singles (take i blocks))) in
+    let earlier : ids_of store.blocks ≡ with_ids (flat_map has (take i blocks)) (ids_of first.blocks) =
+    moved ∙ ap (λ zs. with_ids zs (ids_of first.blocks)) (ap ids_of so_far ∙ sym (singles (take i blocks))) in
     let apart = (next-apart has blocks i block next.0 first store earlier (subst (λ zs. AreApartFrom zs first) (sym (singles blocks)) all)).apart block.id in
     let id : (get_or blocks i block).id ≡ block.id = ap (λ (one : Block). one.id) (sym next.1) in
     absurd (omega (
@@ -161,13 +161,13 @@ unfolding name_at
 later home i j h = grind (arith, nat_tests)
 
 put-later : (home from n j : ℕ) → from + n ≤ j
-    → put (name_at home j) (map (name_at home) (range_with_len from n)) ≡ map (name_at home) (range_with_len from n) ++ name_at home j ∷ []
+    → with_id (name_at home j) (map (name_at home) (range_with_len from n)) ≡ map (name_at home) (range_with_len from n) ++ name_at home j ∷ []
 put-later home from zero j h = refl
 put-later home from (suc n) j h =
     rw (later home from j (omega arith)) (ap (λ ids. name_at home from ∷ ids) (put-later home (from + 1) n j (omega arith)))
 
 -- the next block's name goes last
-pub put-next : (home n : ℕ) → put (name_at home n) (first_names home n) ≡ first_names home (n + 1)
+pub put-next : (home n : ℕ) → with_id (name_at home n) (first_names home n) ≡ first_names home (n + 1)
 put-next home n = put-later home 0 n n (omega arith) ∙ sym (map-range_with_len_more (name_at home) 0 n n (omega arith))
 
 -- it isn't among the earlier ones

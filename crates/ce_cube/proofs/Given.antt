@@ -4,9 +4,9 @@ use Rattle.std.proofs.lemmas.Bool.{or_cases}
 use Rattle.ce_model.specs.declared.topology.BlockId.{BlockId}
 use Rattle.ce_model.specs.Limits.{greatest_dim, home_blocks_lem, process_count, greatest_blocks, greatest_blocks_lem, greatest_nodes_lem}
 use Rattle.ce_model.specs.Blocks.{is_same_id}
-use Rattle.ce_model.specs.Parcels.{Parcel, Item, start, mail, kill, is_member, is_eligible, given_as}
+use Rattle.ce_model.specs.Parcels.{Parcel, Item, start, mail, kill, is_member, is_eligible, take_result_of}
 use Rattle.ce_model.specs.Process.{is_receiving, is_stopped}
-use Rattle.ce_model.specs.Node.{Node, take_call, blocks_of, ids_of}
+use Rattle.ce_model.specs.Node.{Node, take_call, blocks_of, process_set}
 use Rattle.ce_model.specs.Saying.{says}
 use Rattle.ce_model.specs.Trace.{NodeRecord}
 use Rattle.ce_model.specs.Answers.{offer_of}
@@ -84,16 +84,16 @@ module _ (cube : Cube) (s : CubeState) (r : ℕ) (of : IsCube cube) (below : r <
       let more : 2 ^ cube.dim ≤ 2 ^ greatest_dim = pow_mono of.dim in
       omega (arith, few, more, ap (λ n. (2 ^ cube.dim + 1) * n) home_blocks_lem, greatest_nodes_lem, greatest_blocks_lem)
 
-  asking_is : asking ≡ ids_of is_receiving now.processes
+  asking_is : asking ≡ process_set is_receiving now.processes
   asking_is = ap (λ call. elim call [ take_call a d p ↦ a | other ↦ 0 ]) said.of_node.0
 
-  dead_is : dead ≡ ids_of is_stopped now.processes
+  dead_is : dead ≡ process_set is_stopped now.processes
   dead_is = ap (λ call. elim call [ take_call a d p ↦ d | other ↦ 0 ]) said.of_node.0
 
   can_be_given : (parcel : Parcel) → IsFirst (mail parcel)
-      → (is_member parcel.to.pid (ids_of is_receiving now.processes) || is_member parcel.to.pid (ids_of is_stopped now.processes)) ≡ true
+      → (is_member parcel.to.pid (process_set is_receiving now.processes) || is_member parcel.to.pid (process_set is_stopped now.processes)) ≡ true
   can_be_given parcel found =
-      ap (λ ids. is_member parcel.to.pid ids || is_member parcel.to.pid (ids_of is_stopped now.processes)) (sym asking_is)
+      ap (λ ids. is_member parcel.to.pid ids || is_member parcel.to.pid (process_set is_stopped now.processes)) (sym asking_is)
       ∙ ap (λ ids. is_member parcel.to.pid asking || is_member parcel.to.pid ids) (sym dead_is)
       ∙ find-passes (is_eligible asking dead) kept.waiting_items (mail parcel) found
 
@@ -117,7 +117,7 @@ module _ (cube : Cube) (s : CubeState) (r : ℕ) (of : IsCube cube) (below : r <
       let polls = poller-polls now pid well first in
       record { pid_within = poller-within now pid well polls; polls = polls; first = first; between_turns = said.of_node.1 }
 
-  item-hearable : (item : Item) → IsFirst item → IsHearable cube.images now (hearing_of_result kept.waiting_items (given_as item))
+  item-hearable : (item : Item) → IsFirst item → IsHearable cube.images now (hearing_of_result kept.waiting_items (take_result_of item))
   item-hearable (start pid image) found = startable pid image found
   item-hearable (mail parcel) found =
       subst (λ found. IsHearable cube.images now (hearing_of_parcel found))

@@ -12,7 +12,7 @@ use Rattle.ce_machine.specs.Meanings.{MachineFacts, whose, is_alone_entry}
 use Rattle.ce_solo.proofs.Lists.{all-append}
 use Rattle.ce_cube.specs.Boxes.{IsStandIn}
 use Rattle.ce_cube.specs.Beside.{AreNotMadeAlone, IsHeldBeside}
-use Rattle.ce_cube.specs.Crews.{cube_grant}
+use Rattle.ce_daemon.specs.Peeks.{cube_grant}
 use Rattle.ce_cube.specs.Exchanges.{HasNode, IsBoxOfNode, machine_node}
 use Rattle.ce_cube.specs.Dispatches.{node_entries, HasGoneOnAmid}
 use Rattle.ce_cube.proofs.Beside.{beside-keeps}

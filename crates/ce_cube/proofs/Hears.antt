@@ -14,7 +14,7 @@ use Rattle.ce_model.specs.Views.{view}
 use Rattle.ce_model.specs.Machine.{MachineParts, HeldCube, after, cube_standing, cube_of}
 use Rattle.ce_model.proofs.OneMore.{state-more}
 use Rattle.rk_mail.specs.declared.talk.Hearing.{Hearing}
-use Rattle.rk_mail.specs.Talk.{heard_as, IsHeardIn}
+use Rattle.rk_mail.specs.Talk.{hearing_model, IsHeardIn}
 use Rattle.ce_solo.proofs.Projection.Numbers.{relative_out}
 use Rattle.ce_cube.specs.Boxes.{trace_node, IsStandIn, IsMadeBy, IsHeardByNode}
 use Rattle.ce_cube.specs.Laws.{BoxesHear}
@@ -49,12 +49,12 @@ module _ (parts : MachineParts) (history : List Entry) (cube : HeldCube) (now : 
 
   hears-own : (entry : Entry) (heard : Hearing) → IsMadeBy parts history cube.grant (node_of cube.grant.sub r) (says box).call entry
       → IsHeardByNode history cube.grant r entry.what heard
-      → node_after_hearing parts.images (says box).node (heard_as heard) ≡ node_outward cube.grant (trace_node parts (history ++ entry ∷ []) cube.number cube.grant r)
+      → node_after_hearing parts.images (says box).node (hearing_model heard) ≡ node_outward cube.grant (trace_node parts (history ++ entry ∷ []) cube.number cube.grant r)
   hears-own entry heard made is =
       let said = says-of parts history cube now r below box stands in
       let inner = entry_inward cube.grant.sub entry in
       let actor : (inner.actor == r) ≡ true = eq-eqb _ _ (ap (relative_number cube.grant.sub) made.actor_is ∙ relative_out parts.dim cube.grant now.placed r below) in
-      ap (λ node. node_after_hearing parts.images node (heard_as heard)) said.at_rest
+      ap (λ node. node_after_hearing parts.images node (hearing_model heard)) said.at_rest
       ∙ ap (node_after_hearing parts.images (node_outward cube.grant (says (trace_node parts history cube.number cube.grant r)).node))
       (reply-heard (block_outward cube.grant) (place_inward cube.grant.sub) (block_inward cube.grant.sub) items entry.what heard (heard-own entry heard is))
       ∙ rest-hears parts history cube now r below (hearing_of_entry items inner.what) (heard-of cube.grant.dim items inner.what (parcel-blocks parts history cube now r below))
@@ -67,5 +67,5 @@ boxes-hear parts history number grant machine lawful held r box entry heard belo
     by_seen
     (λ number grant. r < 2 ^ grant.dim → IsStandIn grant (trace_node parts history number grant r) box
     → IsMadeBy parts history grant (node_of grant.sub r) (says box).call entry → IsHeardByNode history grant r entry.what heard
-    → node_after_hearing parts.images (says box).node (heard_as heard) ≡ node_outward grant (trace_node parts (history ++ entry ∷ []) number grant r)) parts history number grant machine lawful
+    → node_after_hearing parts.images (says box).node (hearing_model heard) ≡ node_outward grant (trace_node parts (history ++ entry ∷ []) number grant r)) parts history number grant machine lawful
     (λ cube now below stands made is. hears-own parts history cube now r below box stands entry heard made is) held below stands made is

@@ -6,8 +6,8 @@ use Rattle.std.proofs.lemmas.List.{length-append}
 use Rattle.std.proofs.lemmas.List.FromFn.{length-map-range_with_len}
 use Rattle.ce_model.specs.declared.topology.BlockId.{BlockId}
 use Rattle.ce_model.specs.Limits.{greatest_dim, greatest_nodes_lem, home_blocks, host_home, host_home_lem}
-use Rattle.ce_model.specs.Blocks.{is_lower, put, put_all, blocks_of_home}
-use Rattle.ce_model.specs.Sound.{IsRising}
+use Rattle.ce_model.specs.Blocks.{is_lower, with_id, with_ids, blocks_of_home}
+use Rattle.ce_model.specs.Sound.{AreInOrder}
 use Rattle.ce_model.specs.Cube.{node_numbers}
 use Rattle.ce_model.specs.Subcubes.{IsSubcube, ones_of, extract, node_of, is_inside}
 use Rattle.ce_model.specs.Renaming.{CubeGrant}
@@ -45,14 +45,14 @@ by_home : (a b : BlockId) → a.home < b.home → is_lower a b ≡ true
 by_home a b less = or_left _ _ (lt-ltb a.home b.home less)
 
 -- names of lower homes go in front
-rising-both : (bound : ℕ) (xs ys : List BlockId) → IsRising xs → IsRising ys → AllByRecursion (λ id. id.home < bound) xs
-    → AllByRecursion (λ id. bound ≤ id.home) ys → IsRising (xs ++ ys)
+rising-both : (bound : ℕ) (xs ys : List BlockId) → AreInOrder xs → AreInOrder ys → AllByRecursion (λ id. id.home < bound) xs
+    → AllByRecursion (λ id. bound ≤ id.home) ys → AreInOrder (xs ++ ys)
 rising-both bound xs ys rising rising' below above =
     pairwise-append (λ a b. is_lower a b ≡ true) xs ys rising rising'
     (all-weaker (λ a. a.home < bound) (λ a. AllByRecursion (λ b. is_lower a b ≡ true) ys) xs
     (λ a less. all-weaker (λ b. bound ≤ b.home) (λ b. is_lower a b ≡ true) ys (λ b more. by_home a b (omega (arith, less, more))) above) below)
 
-rising-blocks : (home : ℕ → ℕ) (from n : ℕ) → ((r s : ℕ) → s < from + n → r < s → home r < home s) → IsRising (blocks_at home from n)
+rising-blocks : (home : ℕ → ℕ) (from n : ℕ) → ((r s : ℕ) → s < from + n → r < s → home r < home s) → AreInOrder (blocks_at home from n)
 rising-blocks home from zero rises = tt
 rising-blocks home from (suc n) rises =
     rising-both (home from + 1) (blocks_of_home (home from)) (blocks_at home (from + 1) n) (rising-home (home from))
@@ -96,7 +96,7 @@ module _ (grant : CubeGrant) (sub : IsSubcube greatest_dim grant.dim grant.sub) 
   pub home-below : (r : ℕ) → home r < 64
   home-below r = omega (arith, node_of-within greatest_dim r grant.sub sub.base_within sub.mask_within sub.apart, greatest_nodes_lem)
 
-  pub rising-cube : IsRising (names_of_cube grant)
+  pub rising-cube : AreInOrder (names_of_cube grant)
   rising-cube =
       rising-both host_home (blocks_at home 0 n) (blocks_of_home (host_home + grant.user))
       (rising-blocks home 0 n (λ r s high less. node_of-rises grant.sub r s (of_ones s (omega (arith, high))) less))
@@ -171,21 +171,21 @@ module _ (grant : CubeGrant) (sub : IsSubcube greatest_dim grant.dim grant.sub) 
   -- ---- all blocks of the cube
 
   -- a store with each block of the cube once, and no other
-  pub whole-store : (store : List BlockId) → IsRising store → ((id : BlockId) → count id store ≡ one_if (is_block_of grant id)) → store ≡ names_of_cube grant
+  pub whole-store : (store : List BlockId) → AreInOrder store → ((id : BlockId) → count id store ≡ one_if (is_block_of grant id)) → store ≡ names_of_cube grant
   whole-store store rising each = same-store store (names_of_cube grant) rising rising-cube (λ id. each id ∙ sym (count-cube id))
 
-  length-put : (id : BlockId) (ids : List BlockId) → length (put id ids) ≡ suc (length ids)
+  length-put : (id : BlockId) (ids : List BlockId) → length (with_id id ids) ≡ suc (length ids)
   length-put id [] = refl
   length-put id (x ∷ xs) = elim (cases_Bool (is_lower id x)) [ inl t ↦ rw t refl | inr f ↦ rw f (ap suc (length-put id xs)) ]
 
-  length-put_all : (ids store : List BlockId) → length (put_all ids store) ≡ length ids + length store
+  length-put_all : (ids store : List BlockId) → length (with_ids ids store) ≡ length ids + length store
   length-put_all [] store = omega arith
-  length-put_all (x ∷ ids) store = omega (arith, length-put_all ids (put x store), length-put x store)
+  length-put_all (x ∷ ids) store = omega (arith, length-put_all ids (with_id x store), length-put x store)
 
   pub length-whole : (ids : List BlockId) → AreAllBlocks grant ids → length ids ≡ (n + 1) * home_blocks
   length-whole ids all =
       let each : (id : BlockId) → count id ids ≡ one_if (is_block_of grant id) = λ id. sym (count-is id ids) ∙ all.once id in
-      let sorted : put_all ids [] ≡ names_of_cube grant =
-      whole-store (put_all ids []) (rising-put_all ids [] tt (λ id. omega (arith, count-nil id, each id, one_if-le (is_block_of grant id))))
+      let sorted : with_ids ids [] ≡ names_of_cube grant =
+      whole-store (with_ids ids []) (rising-put_all ids [] tt (λ id. omega (arith, count-nil id, each id, one_if-le (is_block_of grant id))))
       (λ id. omega (arith, count-put_all id ids [], count-nil id, each id)) in
       omega (arith, length-put_all ids [], ap (λ ids. length ids) sorted, length-cube)

@@ -9,13 +9,13 @@ use Rattle.ce_model.specs.declared.topology.Place.{Place}
 use Rattle.ce_model.specs.declared.entry.Entry.{Entry}
 use Rattle.ce_model.specs.declared.entry.What.TheVariants.{HostTake, Send, Arm}
 use Rattle.ce_model.specs.Limits.{greatest_dim, home_blocks, home_blocks_lem, block_room, greatest_count, greatest_blocks_lem, greatest_nodes_lem}
-use Rattle.ce_model.specs.Blocks.{put, is_same_id, without_id}
+use Rattle.ce_model.specs.Blocks.{with_id, is_same_id, without_id}
 use Rattle.ce_model.specs.Parcels.{Parcel, Item, start, mail, kill}
 use Rattle.ce_model.specs.Node.{Node, Call, take_call, send_call, spawn_call, kill_call, note_call, arm_call, look_call, mail_call, is_place}
 use Rattle.ce_model.specs.Hearing.{mail_of, node_after_hearing}
 use Rattle.ce_model.specs.Answers.{answer}
 use Rattle.ce_model.specs.Trace.{allowed_dispatches, made_dispatches, allowed_dispatches_after, made_dispatches_after}
-use Rattle.ce_model.specs.Cube.{Cube, CubeState, HostCall, send_bytes, opening, state_after_trace, hoststore, store_after, with_parcel, parcel_numbered, host_call, asked_host_call, actor_call, take_message, allow}
+use Rattle.ce_model.specs.Cube.{Cube, CubeState, HostCall, send_bytes, opening, state_after_trace, hoststore, store_after, with_parcel, parcel_numbered, host_call, host_call_of, actor_call, take_message, allow}
 use Rattle.ce_model.specs.Owners.{IsBlockOf}
 use Rattle.ce_model.specs.Subcubes.{relative_number}
 use Rattle.ce_model.specs.Renaming.{CubeGrant, place_inward, block_inward, place_outward, block_outward, renamed_what, renamed_call_blocks, renamed_parcel, entry_inward, node_outward}
@@ -85,12 +85,12 @@ keeper : List BlockId → Node
 keeper store = record { number = 0; dim = 0; home = 0; images = 0; processes = []; store = store; polling_ids = []; turn = None }
 
 keeper-stores : (images : List ImageParts) (grant : CubeGrant) (store : List BlockId) (parcel : Parcel)
-    → node_after_hearing images (node_outward grant (keeper store)) (mail_of parcel) ≡ record (node_outward grant (keeper store)) { store = put parcel.block.id (map (block_outward grant) store) }
+    → node_after_hearing images (node_outward grant (keeper store)) (mail_of parcel) ≡ record (node_outward grant (keeper store)) { store = with_id parcel.block.id (map (block_outward grant) store) }
 unfolding node_after_hearing keeper
 keeper-stores images grant store parcel = refl
 
 put-outward : (dim : ℕ) (grant : CubeGrant) (placed : IsPlaced dim grant) (store : List BlockId) (parcel : Parcel) → AllByRecursion (IsBlockOf grant.dim) store
-    → IsBlockOf grant.dim parcel.block.id → map (block_outward grant) (put parcel.block.id store) ≡ put (block_outward grant parcel.block.id) (map (block_outward grant) store)
+    → IsBlockOf grant.dim parcel.block.id → map (block_outward grant) (with_id parcel.block.id store) ≡ with_id (block_outward grant parcel.block.id) (map (block_outward grant) store)
 unfolding node_after_hearing keeper
 put-outward dim grant placed store parcel all of =
     ap (λ (node : Node). node.store) (sym ((renaming dim grant (keeper store) (placed-grant dim grant placed) (subst (AllByRecursion (IsBlockOf grant.dim)) (sym (append-nil store)) all)).1 [] (mail_of parcel) of))
@@ -108,16 +108,16 @@ module _ (parts : MachineParts) (history : List Entry) (cube : HeldCube) (now : 
   store-blocks : AllByRecursion (IsBlockOf cube.grant.dim) s.hoststore
   store-blocks = held_blocks own s s.hoststore now.stands.sound (λ id. omega (arith, total-is id cube.grant.dim s))
 
-  fits-by : (asked : HostCall) (call : Call) → host_call own s.hoststore asked ≡ Some call → IsCallWithinLimits call
+  fits-by : (wish : HostCall) (call : Call) → host_call own s.hoststore wish ≡ Some call → IsCallWithinLimits call
       → IsFitting parts history cube.grant.user HOST (in_cube (renamed_call_blocks out call))
-  fits-by asked call e within =
+  fits-by wish call e within =
       let was = (projected parts history now.machine now.lawful).held cube.grant.user cube now.holds in
       let host = relative_host parts.dim cube.grant now.placed in
       let of : IsCallOf parts history HOST (renamed_call_blocks out call) cube = record {
         made = call;
         inside = inl refl;
-        next = ap (λ actor. actor_call own (opening own) (view history cube.number) actor (asked_host_call call)) host
-            ∙ ap (option_and_then (host_call own s.hoststore)) (asked_host_call-host_call own s.hoststore asked call e) ∙ e;
+        next = ap (λ actor. actor_call own (opening own) (view history cube.number) actor (host_call_of call)) host
+            ∙ ap (option_and_then (host_call own s.hoststore)) (asked_host_call-host_call own s.hoststore wish call e) ∙ e;
         renamed = refl;
         within = λ host. limits-renamed out call within;
         not_drained = now.goes;
@@ -127,14 +127,14 @@ module _ (parts : MachineParts) (history : List Entry) (cube : HeldCube) (now : 
       )
 
   -- the host's store behind an entry of its own
-  module _ (asked : HostCall) (call : Call) (is : host_call own s.hoststore asked ≡ Some call) (within : IsCallWithinLimits call) (entry : Entry)
+  module _ (wish : HostCall) (call : Call) (is : host_call own s.hoststore wish ≡ Some call) (within : IsCallWithinLimits call) (entry : Entry)
       (made : IsMadeBy parts history cube.grant HOST (renamed_call_blocks out call) entry) where
     abbrev inner : Entry
     inner = entry_inward cube.grant.sub entry
 
     store-next : trace_store parts (history ++ entry ∷ []) cube.number cube.grant ≡ store_after (s.standing.node_record HOST).waiting_items s.hoststore inner.what
     store-next =
-        let more = one-more parts history cube now HOST (renamed_call_blocks out call) entry (fits-by asked call is within) made in
+        let more = one-more parts history cube now HOST (renamed_call_blocks out call) entry (fits-by wish call is within) made in
         let actor : inner.actor ≡ HOST = ap (relative_number cube.grant.sub) made.actor_is ∙ relative_host parts.dim cube.grant now.placed in
         ap (hoststore (opening own)) more.trace
         ∙ hoststore-more (opening own) (view history cube.number) inner
@@ -255,11 +255,11 @@ module _ (parts : MachineParts) (history : List Entry) (cube : HeldCube) (now : 
         take-next parcel (parcel_numbered number items) refl (sym (ap (parcel_numbered number) now.standing.host ∙ numbered-renamed out number items) ∙ here)
 
 pub hosts-fit : HostsFit
-hosts-fit parts history number grant machine lawful held asked call is within =
+hosts-fit parts history number grant machine lawful held wish call is within =
     by_seen
-    (λ number grant. host_call (cube_of parts.images grant) (trace_store parts history number grant) asked ≡ Some call
+    (λ number grant. host_call (cube_of parts.images grant) (trace_store parts history number grant) wish ≡ Some call
     → IsFitting parts history grant.user HOST (in_cube (renamed_call_blocks (block_outward grant) call))) parts history number grant machine lawful
-    (λ cube now is. fits-by parts history cube now asked call is within) held is
+    (λ cube now is. fits-by parts history cube now wish call is within) held is
 
 pub hosts-send : HostsSend
 hosts-send parts history number grant machine lawful held to id bytes entry least place short made =

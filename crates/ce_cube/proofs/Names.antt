@@ -11,7 +11,7 @@ use Rattle.ce_model.specs.Blocks.{is_same_id}
 use Rattle.ce_model.specs.Parcels.{Parcel, mail, is_eligible}
 use Rattle.ce_model.specs.Process.{Process, is_receiving, is_stopped}
 use Rattle.ce_model.specs.Space.{mapped_ids}
-use Rattle.ce_model.specs.Node.{Node, take_call, process_at, blocks_of, ids_of}
+use Rattle.ce_model.specs.Node.{Node, take_call, process_at, blocks_of, process_set}
 use Rattle.ce_model.specs.Hearing.{Hearing, start_of, mail_of, kill_of, poll_of, answer_of, nothing}
 use Rattle.ce_model.specs.Owners.{IsBlockOf}
 use Rattle.ce_model.specs.Subcubes.{node_of}
@@ -77,8 +77,8 @@ module _ (dim : ℕ) (grant : CubeGrant) (placed : IsPlaced dim grant) where
     same-status test pid b is = ap test (status_same pid) ∙ is
 
     pub can_be_given : (parcel : Parcel)
-        → is_eligible (ids_of is_receiving (node_outward grant node).processes) (ids_of is_stopped (node_outward grant node).processes) (mail parcel)
-        ≡ is_eligible (ids_of is_receiving node.processes) (ids_of is_stopped node.processes) (mail parcel)
+        → is_eligible (process_set is_receiving (node_outward grant node).processes) (process_set is_stopped (node_outward grant node).processes) (mail parcel)
+        ≡ is_eligible (process_set is_receiving node.processes) (process_set is_stopped node.processes) (mail parcel)
     can_be_given parcel =
         ap (λ call. elim call [ take_call asking dead poller ↦ is_eligible asking dead (mail parcel) | other ↦ false ])
         (take-renamed (block_outward grant) (node_of grant.sub) node)

@@ -18,7 +18,8 @@ use Rattle.ce_daemon.specs.Boxes.{AreBoxesOf}
 use Rattle.ce_daemon.specs.declared.grant.Grant.{Grant}
 use Rattle.rk_node.specs.Boxes.{Box, IsClean, fresh_at}
 use Rattle.ce_cube.specs.Boxes.{IsInStep, trace_node}
-use Rattle.ce_cube.specs.Crews.{box_at, IsReady, AreBoxesInStep, cube_grant}
+use Rattle.ce_cube.specs.Crews.{box_at, IsReady, AreBoxesInStep}
+use Rattle.ce_daemon.specs.Peeks.{cube_grant}
 use Rattle.ce_cube.specs.Homecoming.{entered_box}
 
 module _ (grant : CubeGrant) where

@@ -15,7 +15,7 @@ use Rattle.ce_model.specs.Hearing.{mail_of, nothing, answer_of}
 use Rattle.ce_model.specs.Cube.{parcel_numbered, hearing_of_parcel, hearing_of_result, hearing_of_entry, kill_answer}
 use Rattle.ce_model.specs.Renaming.{renamed_parcel, renamed_item, renamed_hearing, renamed_what}
 use Rattle.rk_mail.specs.declared.talk.Hearing.{Hearing}
-use Rattle.rk_mail.specs.Talk.{heard_as, heard_of_kill, IsGiven, IsHeardIn}
+use Rattle.rk_mail.specs.Talk.{hearing_model, kill_hearing, IsGiven, IsHeardIn}
 use Rattle.ce_solo.specs.Laws.{IsHeardOf}
 use Rattle.ce_solo.proofs.Items.{parcel_ids}
 use Rattle.ce_solo.proofs.Made.{find-all}
@@ -62,32 +62,32 @@ module _ (rename : BlockId → BlockId) where
   mail-heard (Some own) parcel e = ap (λ found. elim found [ None ↦ nothing | Some p ↦ mail_of p ]) (sym e)
 
   given-heard : (items : List Item) (given : TakeResult) (heard : Hearing) → IsGiven (map (renamed_item rename) items) given heard
-      → heard_as heard ≡ renamed_hearing rename (hearing_of_result items given)
-  given-heard items (take_result.Start pid image) heard is = ap heard_as is
+      → hearing_model heard ≡ renamed_hearing rename (hearing_of_result items given)
+  given-heard items (take_result.Start pid image) heard is = ap hearing_model is
   given-heard items (take_result.Mail pid number) heard is =
-      ap heard_as is.1 ∙ mail-heard (parcel_numbered number items) _ (sym (numbered-renamed number items) ∙ is.2)
-  given-heard items (take_result.Kill pid) heard is = ap heard_as is
-  given-heard items (take_result.Poll pid) heard is = ap heard_as is
-  given-heard items take_result.Idle heard is = ap heard_as is
-  given-heard items take_result.Spent heard is = ap heard_as is
+      ap hearing_model is.1 ∙ mail-heard (parcel_numbered number items) _ (sym (numbered-renamed number items) ∙ is.2)
+  given-heard items (take_result.Kill pid) heard is = ap hearing_model is
+  given-heard items (take_result.Poll pid) heard is = ap hearing_model is
+  given-heard items take_result.Idle heard is = ap hearing_model is
+  given-heard items take_result.Spent heard is = ap hearing_model is
 
-  fresh-heard : (fresh : Bool) (heard : Hearing) → IsHeardIn [] (whats.Spawn 0 0 (record { node = 0; pid = 0 }) fresh) heard → heard_as heard ≡ answer_of (if fresh then 0 else 2)
-  fresh-heard true heard is = ap heard_as is
-  fresh-heard false heard is = ap heard_as is
+  fresh-heard : (fresh : Bool) (heard : Hearing) → IsHeardIn [] (whats.Spawn 0 0 (record { node = 0; pid = 0 }) fresh) heard → hearing_model heard ≡ answer_of (if fresh then 0 else 2)
+  fresh-heard true heard is = ap hearing_model is
+  fresh-heard false heard is = ap hearing_model is
 
-  kill-heard : (found : KillFound) (heard : Hearing) → heard ≡ heard_of_kill found → heard_as heard ≡ answer_of (kill_answer found)
-  kill-heard kill_found.Killed heard is = ap heard_as is
-  kill-heard kill_found.Unused heard is = ap heard_as is
-  kill-heard kill_found.Already heard is = ap heard_as is
+  kill-heard : (found : KillFound) (heard : Hearing) → heard ≡ kill_hearing found → hearing_model heard ≡ answer_of (kill_answer found)
+  kill-heard kill_found.Killed heard is = ap hearing_model is
+  kill-heard kill_found.Unused heard is = ap hearing_model is
+  kill-heard kill_found.Already heard is = ap hearing_model is
 
   -- an entry's places and blocks may have any names
   pub reply-heard : (place : Place → Place) (block : BlockId → BlockId) (items : List Item) (what : What) (heard : Hearing) → IsHeardIn (map (renamed_item rename) items) what heard
-      → heard_as heard ≡ renamed_hearing rename (hearing_of_entry items (renamed_what place block what))
+      → hearing_model heard ≡ renamed_hearing rename (hearing_of_entry items (renamed_what place block what))
   reply-heard place block items (whats.Take asking dead poller given) heard is = given-heard items given heard is
-  reply-heard place block items (whats.Send pid first to bytes) heard is = ap heard_as is
+  reply-heard place block items (whats.Send pid first to bytes) heard is = ap hearing_model is
   reply-heard place block items (whats.Spawn pid image to fresh) heard is = fresh-heard fresh heard is
   reply-heard place block items (whats.Kill pid to found) heard is = kill-heard found heard is
-  reply-heard place block items (whats.Note pid word) heard is = ap heard_as is
+  reply-heard place block items (whats.Note pid word) heard is = ap hearing_model is
   reply-heard place block items other heard is = absurd is
 
 -- ---- whose block comes with a parcel

@@ -10,7 +10,7 @@ use Rattle.ce_model.specs.declared.entry.TakeResult.{TakeResult}
 use Rattle.ce_model.specs.declared.entry.TakeResult.TheVariants.{Idle, Spent}
 use Rattle.ce_model.specs.Lists.{EachAfter}
 use Rattle.ce_model.specs.Literals.{entry_of}
-use Rattle.ce_model.specs.Parcels.{Item, start, mail, kill, is_eligible, given_as}
+use Rattle.ce_model.specs.Parcels.{Item, start, mail, kill, is_eligible, take_result_of}
 use Rattle.ce_model.specs.Node.{Call, take_call, send_call, spawn_call, kill_call, note_call, arm_call, look_call, mail_call}
 use Rattle.ce_model.specs.Saying.{Saying, says}
 use Rattle.ce_model.specs.Hearing.{node_after_hearing}
@@ -21,9 +21,9 @@ use Rattle.ce_model.specs.Sound.{IsSound}
 use Rattle.ce_model.proofs.Walked.{each_of_front, each_behind}
 use Rattle.ce_model.proofs.Subcubes.{list_all-each}
 use Rattle.ce_script.specs.Rounds.{is_take, is_dispatch, has_work, asks_for_work, IsTurn, joined_lists, IsSerialRound}
-use Rattle.ce_solo.proofs.Lists.{joined as appended, joined-is}
+use Rattle.ce_solo.proofs.Lists.{appended, appended-is}
 use Rattle.ce_solo.proofs.Sending.{not_host}
-use Rattle.ce_solo.proofs.Steps.{state_after}
+use Rattle.ce_solo.proofs.Entries.{state_after}
 use Rattle.ce_solo.proofs.Words.{HasMadeCall}
 use Rattle.ce_solo.proofs.Made.{IsMadeCall, by_host, by_node, made-leaves}
 use Rattle.ce_solo.proofs.Stands.{IsSoundTrace, entry_of-next, left-made, stands-made, no_take}
@@ -43,7 +43,7 @@ offered_idle : (found : Option Item) (poller : Option ℕ) (used : Bool) → off
 offered_idle (Some item) poller true e = absurd (cc)
 offered_idle (Some item) poller false e = absurd (by_item item e)
   where
-    by_item : (item : Item) → given_as item ≡ Idle → ⊥
+    by_item : (item : Item) → take_result_of item ≡ Idle → ⊥
     by_item (start pid image) e = cc
     by_item (mail parcel) e = cc
     by_item (kill pid) e = cc
@@ -53,7 +53,7 @@ offered_spent : (found : Option Item) (poller : Option ℕ) (used : Bool) → of
 offered_spent found poller true e = refl
 offered_spent (Some item) poller false e = absurd (by_item item e)
   where
-    by_item : (item : Item) → given_as item ≡ Spent → ⊥
+    by_item : (item : Item) → take_result_of item ≡ Spent → ⊥
     by_item (start pid image) e = cc
     by_item (mail parcel) e = cc
     by_item (kill pid) e = cc
@@ -80,19 +80,19 @@ abbrev IsTakenIn : Cube → CubeState → ℕ → What → Type 0
 IsTakenIn cube s r (Take asking dead poller given) = IsTaken cube s r asking dead poller given
 IsTakenIn cube s r other = Unit {0}
 
-call-taken : (cube : Cube) (s : CubeState) → IsCube cube → IsSound cube s → (actor : ℕ) (asked : Option HostCall) (call : Call) → IsMadeCall cube s actor asked call
+call-taken : (cube : Cube) (s : CubeState) → IsCube cube → IsSound cube s → (actor : ℕ) (wish : Option HostCall) (call : Call) → IsMadeCall cube s actor wish call
     → IsTakenIn cube s actor (answer (node_numbers cube.dim) s.standing actor call)
 unfolding answer
-call-taken cube s of sound actor asked (take_call asking dead poller) (by_host is e) = absurd (no_take cube s asked (take_call asking dead poller) refl e)
-call-taken cube s of sound actor asked (take_call asking dead poller) (by_node below e) =
+call-taken cube s of sound actor wish (take_call asking dead poller) (by_host is e) = absurd (no_take cube s wish (take_call asking dead poller) refl e)
+call-taken cube s of sound actor wish (take_call asking dead poller) (by_node below e) =
     record { said = made-leaves cube s actor (take_call asking dead poller) of below sound e; is = refl; call = e }
-call-taken cube s of sound actor asked (send_call pid to bytes) made = tt
-call-taken cube s of sound actor asked (spawn_call pid image to) made = tt
-call-taken cube s of sound actor asked (kill_call pid to) made = tt
-call-taken cube s of sound actor asked (note_call pid word) made = tt
-call-taken cube s of sound actor asked (arm_call count) made = tt
-call-taken cube s of sound actor asked look_call made = tt
-call-taken cube s of sound actor asked mail_call made = tt
+call-taken cube s of sound actor wish (send_call pid to bytes) made = tt
+call-taken cube s of sound actor wish (spawn_call pid image to) made = tt
+call-taken cube s of sound actor wish (kill_call pid to) made = tt
+call-taken cube s of sound actor wish (note_call pid word) made = tt
+call-taken cube s of sound actor wish (arm_call count) made = tt
+call-taken cube s of sound actor wish look_call made = tt
+call-taken cube s of sound actor wish mail_call made = tt
 
 module _ (cube : Cube) (of : IsCube cube) (o : CubeState) where
   abbrev pub at : List Entry → CubeState
@@ -110,10 +110,10 @@ module _ (cube : Cube) (of : IsCube cube) (o : CubeState) where
     pub own : (is_used_up s.standing ≡ true) ⊎ (is_quiet_at r s' ≡ true)
 
   nothing_more : (items : List Item) (asking dead : ℕ) → list_any (is_eligible asking dead) (appended items []) ≡ list_any (is_eligible asking dead) items
-  nothing_more items asking dead = ap (list_any (is_eligible asking dead)) (sym (joined-is items []) ∙ append-nil items)
+  nothing_more items asking dead = ap (list_any (is_eligible asking dead)) (sym (appended-is items []) ∙ append-nil items)
 
   quiet_same : (kept : NodeRecord) → is_quiet_node (record kept { waiting_items = appended kept.waiting_items [] }) ≡ is_quiet_node kept
-  quiet_same kept = ap (λ b. kept.mark.is_idle && not b) (nothing_more kept.waiting_items kept.mark.asking_ids kept.mark.dead_ids)
+  quiet_same kept = ap (λ b. kept.mark.is_idle && not b) (nothing_more kept.waiting_items kept.mark.asking kept.mark.dead)
 
   asks_still : (s : CubeState) (r asking dead : ℕ) (poller : Option ℕ) (given : TakeResult) → IsTaken cube s r asking dead poller given
       → asks_for_work (says (says (s.node r)).node).call ≡ true
@@ -155,15 +155,15 @@ module _ (cube : Cube) (of : IsCube cube) (o : CubeState) where
   first_leaves t first stands next take none =
       let e = entry_of-next cube o t first next in
       let taken : IsTakenIn cube (at t) first.actor first.what =
-      subst (λ (entry : Entry). IsTakenIn cube (at t) entry.actor entry.what) (sym e.is) (call-taken cube (at t) of stands.sound e.actor e.asked e.call e.by) in
+      subst (λ (entry : Entry). IsTakenIn cube (at t) entry.actor entry.what) (sym e.is) (call-taken cube (at t) of stands.sound e.actor e.wish e.call e.by) in
       subst (IsLeftQuiet first.actor (at t)) (sym (left-made cube o t first stands e)) (take_leaves (at t) first.user first.actor first.what take none taken)
 
   -- ---- a turn without work is its Take alone
 
-  entry_takes : (s : CubeState) (actor : ℕ) (asked : Option HostCall) (call : Call) → IsMadeCall cube s actor asked call → actor < 2 ^ cube.dim
+  entry_takes : (s : CubeState) (actor : ℕ) (wish : Option HostCall) (call : Call) → IsMadeCall cube s actor wish call → actor < 2 ^ cube.dim
       → asks_for_work (says (s.node actor)).call ≡ true → is_take (entry_of cube.user actor (answer (node_numbers cube.dim) s.standing actor call)) ≡ true
-  entry_takes s actor asked call (by_host is e) below asks = absurd (omega (arith, not_host cube actor of below, is))
-  entry_takes s actor asked call (by_node low e) below asks =
+  entry_takes s actor wish call (by_host is e) below asks = absurd (omega (arith, not_host cube actor of below, is))
+  entry_takes s actor wish call (by_node low e) below asks =
       call-takes (node_numbers cube.dim) s.standing actor cube.user actor call ∙ ap asks_for_work (sym e) ∙ asks
 
   no_second : (t : List Entry) (second : Entry) (r : ℕ) → IsSoundTrace cube o t → IsNext cube o t second → second.actor ≡ r → r < 2 ^ cube.dim
@@ -172,7 +172,7 @@ module _ (cube : Cube) (of : IsCube cube) (o : CubeState) where
       let e = entry_of-next cube o t second next in
       let same : e.actor ≡ r = ap (λ (entry : Entry). entry.actor) (sym e.is) ∙ actor in
       ap is_take e.is
-      ∙ entry_takes (at t) e.actor e.asked e.call e.by (subst (λ q. q < 2 ^ cube.dim) (sym same) below)
+      ∙ entry_takes (at t) e.actor e.wish e.call e.by (subst (λ q. q < 2 ^ cube.dim) (sym same) below)
       (subst (λ q. asks_for_work (says ((at t).node q)).call ≡ true) (sym same) asks)
 
   -- ---- a round without work

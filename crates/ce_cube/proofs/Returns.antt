@@ -6,11 +6,11 @@ use Rattle.std.proofs.lemmas.List.Folds.{flat_map-map}
 use Rattle.std.proofs.lemmas.List.FromFn.{fill_by_all}
 use Rattle.ce_model.specs.declared.topology.BlockId.{BlockId}
 use Rattle.ce_model.specs.Limits.{greatest_dim, home_blocks, home_blocks_lem, host_home, process_count, greatest_blocks, greatest_blocks_lem}
-use Rattle.ce_model.specs.Blocks.{Block, is_lower, put_all, blocks_of_home}
+use Rattle.ce_model.specs.Blocks.{Block, is_lower, with_ids, blocks_of_home}
 use Rattle.ce_model.specs.Process.{unborn_process}
 use Rattle.ce_model.specs.Space.{mapped_ids}
 use Rattle.ce_model.specs.Node.{blocks_of}
-use Rattle.ce_model.specs.Sound.{IsRising}
+use Rattle.ce_model.specs.Sound.{AreInOrder}
 use Rattle.ce_model.specs.Cube.{node_numbers}
 use Rattle.ce_model.specs.Subcubes.{IsSubcube, node_of}
 use Rattle.ce_model.specs.Renaming.{CubeGrant}
@@ -20,7 +20,7 @@ use Rattle.ce_solo.proofs.Lists.{one_if, one_if-le}
 use Rattle.ce_solo.proofs.Renaming.Grants.{few_nodes}
 use Rattle.ce_solo.proofs.Projection.Numbers.{IsPlaced}
 use Rattle.xm_block.specs.Rising as rising
-use Rattle.xm_block.specs.Stores.{KeptBlock, ids_of, is_before}
+use Rattle.xm_block.specs.Stores.{BlockStore, ids_of, is_before}
 use Rattle.ce_daemon.specs.Boxes.{AreBoxes}
 use Rattle.ce_host.specs.declared.host.Host.{Host}
 use Rattle.rk_node.specs.Boxes.{Box, IsClean}
@@ -56,7 +56,7 @@ rising-head block (other ∷ blocks) pairs =
     skip (suc i) zero d low high = absurd (omega (arith, low))
     skip (suc i) (suc j) d low high = pairs (suc (suc i)) (suc (suc j)) d (omega (arith, low)) (omega (arith, high))
 
-rising-ids : (blocks : List Block) → rising.IsRising is_before blocks → IsRising (ids_of blocks)
+rising-ids : (blocks : List Block) → rising.IsRising is_before blocks → AreInOrder (ids_of blocks)
 rising-ids [] pairs = tt
 rising-ids (block ∷ blocks) pairs =
     (rising-head block blocks pairs, rising-ids blocks (λ i j d low high. pairs (suc i) (suc j) d (omega (arith, low)) (omega (arith, high))))
@@ -126,7 +126,7 @@ module _ (grant : CubeGrant) (boxes : List Box) (host : Host) (drained : List Bl
   pub boxes-fit : length names ≤ host.store.spare
   boxes-fit = omega (arith, fits)
 
-  pub drained-fit : (store : KeptBlock) → store.spare + length names ≡ host.store.spare → length drained ≤ store.spare
+  pub drained-fit : (store : BlockStore) → store.spare + length names ≡ host.store.spare → length drained ≤ store.spare
   drained-fit store spare = omega (arith, fits, spare)
 
   -- ---- names apart
@@ -136,7 +136,7 @@ module _ (grant : CubeGrant) (boxes : List Box) (host : Host) (drained : List Bl
     apart = λ id. omega (arith, count-append id names (ids_of host.store.blocks), counted id, one_if-le (is_block_of grant id));
   }
 
-  pub drained-apart : (store : KeptBlock) → ids_of store.blocks ≡ put_all names (ids_of host.store.blocks) → AreApartFrom (ids_of drained) store
+  pub drained-apart : (store : BlockStore) → ids_of store.blocks ≡ with_ids names (ids_of host.store.blocks) → AreApartFrom (ids_of drained) store
   drained-apart store moved = record {
     apart = λ id. omega (
       arith,
@@ -167,8 +167,8 @@ module _ (grant : CubeGrant) (boxes : List Box) (host : Host) (drained : List Bl
 
   -- ---- the store with all blocks
 
-  pub gathered : (first store : KeptBlock) → ids_of first.blocks ≡ put_all names (ids_of host.store.blocks)
-      → ids_of store.blocks ≡ put_all (ids_of drained) (ids_of first.blocks) → rising.IsRising is_before store.blocks → ids_of store.blocks ≡ names_of_cube grant
+  pub gathered : (first store : BlockStore) → ids_of first.blocks ≡ with_ids names (ids_of host.store.blocks)
+      → ids_of store.blocks ≡ with_ids (ids_of drained) (ids_of first.blocks) → rising.IsRising is_before store.blocks → ids_of store.blocks ≡ names_of_cube grant
   gathered first store of_boxes of_drained pairs =
       whole-store grant holds.sub (ids_of store.blocks) (rising-ids store.blocks pairs)
       (λ id. ap (count id) of_drained ∙ count-put_all id (ids_of drained) (ids_of first.blocks)
@@ -215,7 +215,7 @@ module _ (grant : CubeGrant) (boxes : List Box) (host : Host) (drained : List Bl
             (ap (λ (box : Box). box.node.home) at ∙ home, subst IsClean (sym at) (clean (get_or boxes r d) (boxes-idle r d within) (room-at r d within))));
       }
 
-  pub host-home : (some : List Box) (first second third : KeptBlock) → some ≡ map emptied_box boxes
+  pub host-home : (some : List Box) (first second third : BlockStore) → some ≡ map emptied_box boxes
       → first.spare + length names ≡ host.store.spare → second.spare + length drained ≡ first.spare → third.spare ≡ second.spare + length (names_at_home some)
       → ids_of second.blocks ≡ names_of_cube grant → ids_of third.blocks ≡ drop (length (names_at_home some)) (ids_of second.blocks)
       → IsHostAtHome grant.user (record { store = third; spare = host.spare })

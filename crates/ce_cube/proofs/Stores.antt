@@ -5,8 +5,8 @@ use Rattle.std.proofs.lemmas.Bool.{cases_Bool, cases_lt, both_ways, eq-eqb, eqb-
 use Rattle.std.proofs.lemmas.List.Concat.{flat_map_single}
 use Rattle.ce_model.specs.declared.topology.BlockId.{BlockId}
 use Rattle.ce_model.specs.Limits.{home_blocks}
-use Rattle.ce_model.specs.Blocks.{is_lower, put_all, blocks_of_home}
-use Rattle.ce_model.specs.Sound.{IsRising}
+use Rattle.ce_model.specs.Blocks.{is_lower, with_ids, blocks_of_home}
+use Rattle.ce_model.specs.Sound.{AreInOrder}
 use Rattle.ce_model.specs.Renaming.{CubeGrant}
 use Rattle.ce_solo.proofs.Counting.{hit, hit-self, same_from_hit, count, count-nil, count-cons, count-one, count-is, count-run, count-put_all, rising-put_all, all-from_names, precedes-trans, precedes-other, sum_run, sum_run-zero, sum_run-at}
 use Rattle.ce_solo.proofs.Lists.{one_if}
@@ -33,11 +33,11 @@ all_later : (a b : BlockId) (ids : List BlockId) → is_lower a b ≡ true → A
 all_later a b [] before all = tt
 all_later a b (id ∷ ids) before all = (precedes-trans a b id before all.0, all_later a b ids before all.1)
 
-none_before : (a b : BlockId) (ids : List BlockId) → is_lower a b ≡ true → IsRising (b ∷ ids) → count a (b ∷ ids) ≡ 0
+none_before : (a b : BlockId) (ids : List BlockId) → is_lower a b ≡ true → AreInOrder (b ∷ ids) → count a (b ∷ ids) ≡ 0
 none_before a b ids before rising = none_later a (b ∷ ids) (before, all_later a b ids before rising.0)
 
 -- two stores with each name as often are the same
-pub same-store : (xs ys : List BlockId) → IsRising xs → IsRising ys → ((id : BlockId) → count id xs ≡ count id ys) → xs ≡ ys
+pub same-store : (xs ys : List BlockId) → AreInOrder xs → AreInOrder ys → ((id : BlockId) → count id xs ≡ count id ys) → xs ≡ ys
 same-store [] [] rising rising' same = refl
 same-store [] (y ∷ ys) rising rising' same = absurd (omega (arith, same y, count-nil y, count-cons y y ys, hit-self y))
 same-store (x ∷ xs) [] rising rising' same = absurd (omega (arith, same x, count-nil x, count-cons x x xs, hit-self x))
@@ -67,7 +67,7 @@ from_index home index from zero less = tt
 from_index home index from (suc n) less =
     (or_right _ _ (and_from _ _ (eq-eqb home home refl) (lt-ltb index from less)), from_index home index (from + 1) n (omega (arith, less)))
 
-rising-run : (home from n : ℕ) → IsRising (map (name_at home) (range_with_len from n))
+rising-run : (home from n : ℕ) → AreInOrder (map (name_at home) (range_with_len from n))
 rising-run home from zero = tt
 rising-run home from (suc n) = (from_index home from (from + 1) n (omega arith), rising-run home (from + 1) n)
 
@@ -105,7 +105,7 @@ count-home id home n =
           ∙ sym (none_if (id.home == home) (nat_lt id.index n) more)
     ]
 
-pub rising-home : (home : ℕ) → IsRising (blocks_of_home home)
+pub rising-home : (home : ℕ) → AreInOrder (blocks_of_home home)
 unfolding name_at
 rising-home home = rising-run home 0 home_blocks
 
@@ -175,9 +175,9 @@ module _ (grant : CubeGrant) (ids : List BlockId) (all : AreAllBlocks grant ids)
   sorted = record {
     own = all-from_names (λ id. is_block_of grant id ≡ true) ids own-block;
     at_home = λ home is.
-        stores-are-home home (put_all (of_home home) [])
+        stores-are-home home (with_ids (of_home home) [])
         (rising-put_all (of_home home) [] tt (λ id. omega (arith, count-nil id, at_home home id is, few (id.home == home && nat_lt id.index home_blocks))))
-        (λ id. count-is id (put_all (of_home home) []) ∙ omega (arith, count-put_all id (of_home home) [], count-nil id, at_home home id is));
+        (λ id. count-is id (with_ids (of_home home) []) ∙ omega (arith, count-put_all id (of_home home) [], count-nil id, at_home home id is));
   }
 
 pub blocks-sort : BlocksSort

@@ -14,19 +14,20 @@ use Rattle.ce_model.specs.Views.{view}
 use Rattle.ce_solo.proofs.Lists.{all-append}
 use Rattle.ce_daemon.specs.declared.grant.Grant.{Grant}
 use Rattle.rk_node.specs.Boxes.{Box}
-use Rattle.rk_node.specs.Answering.{HasSaid}
+use Rattle.rk_node.specs.Answering.{IsAwaitingAnswer}
 use Rattle.rk_node.specs.declared.out.Out.TheVariants.{Nothing}
 use Rattle.ce_machine.specs.Meanings.{MachineFacts}
-use Rattle.ce_script.specs.Rounds.{given_in, asks_for_work, is_take, is_dispatch, has_work, IsTurn}
+use Rattle.ce_script.specs.Rounds.{take_result_of, asks_for_work, is_take, is_dispatch, has_work, IsTurn}
 use Rattle.ce_cube.specs.Boxes.{IsSaidBy, IsInStep}
-use Rattle.ce_cube.specs.Crews.{IsReady, cube_grant}
+use Rattle.ce_cube.specs.Crews.{IsReady}
+use Rattle.ce_daemon.specs.Peeks.{cube_grant}
 use Rattle.ce_cube.specs.Exchanges.{HasNode, IsBoxOfNode, HasSaidCall, HasGoneOnAt, HasExchanged, IsTurning, machine_node}
 use Rattle.ce_cube.proofs.Says.{boxes-say, asks-renamed}
 use Rattle.ce_cube.proofs.Rounds.{are-made}
 
 -- what is no Take is no dispatch
 no_dispatch : (entry : Entry) → is_take entry ≡ false → is_dispatch entry ≡ false
-no_dispatch entry other = by_given (given_in entry) other
+no_dispatch entry other = by_given (take_result_of entry) other
   where
     by_given : (given : Option TakeResult) → is_some given ≡ false → option_map_or is_work given false ≡ false
     by_given None e = refl
@@ -70,7 +71,7 @@ joined-at m now now' grant r made others first next = record {
 pub turn-starts : (m m' : MachineFacts) (grant : Grant) (r : ℕ) (box box' : Box) (call : Call) (work : Bool) → asks_for_work call ≡ true
     → HasExchanged m m' grant r box box' call work → IsTurning m m' grant r box' work 1
 turn-starts m m' grant r box box' call work asks done = record {
-  made = done.entry ∷ [];
+  new_entries = done.entry ∷ [];
   goes_on = done.goes_on;
   turn = are-made.turn_begins r (entry_inward grant.sub done.entry) done.actor_is (done.take ∙ asks);
   works = are-made.work_begins (entry_inward grant.sub done.entry) ∙ done.dispatch;
@@ -86,21 +87,21 @@ turn-goes_on m now now' grant r box box' call work more count turn other done =
     let inner = entry_inward grant.sub done.entry in
     let no_take : is_take inner ≡ false = done.take ∙ other in
     let no_work : more ≡ false = sym done.dispatch ∙ no_dispatch inner no_take in
-    let split = map-append (entry_inward grant.sub) turn.made (done.entry ∷ []) in
+    let split = map-append (entry_inward grant.sub) turn.new_entries (done.entry ∷ []) in
     record {
-      made = turn.made ++ done.entry ∷ [];
-      goes_on = joined-at m now now' grant r turn.made (done.entry ∷ []) turn.goes_on done.goes_on;
-      turn = subst (IsTurn r) (sym split) (are-made.turn_goes_on r (map (entry_inward grant.sub) turn.made) inner turn.turn done.actor_is no_take);
-      works = ap has_work split ∙ are-made.work_adds (map (entry_inward grant.sub) turn.made) (inner ∷ [])
+      new_entries = turn.new_entries ++ done.entry ∷ [];
+      goes_on = joined-at m now now' grant r turn.new_entries (done.entry ∷ []) turn.goes_on done.goes_on;
+      turn = subst (IsTurn r) (sym split) (are-made.turn_goes_on r (map (entry_inward grant.sub) turn.new_entries) inner turn.turn done.actor_is no_take);
+      works = ap has_work split ∙ are-made.work_adds (map (entry_inward grant.sub) turn.new_entries) (inner ∷ [])
           ∙ or_none _ _ (are-made.work_begins inner ∙ no_dispatch inner no_take) ∙ turn.works;
       left = omega (arith, done.left, turn.left, ap {B = ℕ} (λ b. if b then 1 else 0) no_work);
       stands = done.stands;
-      count_is = omega (arith, turn.count_is, length-append turn.made (done.entry ∷ []));
+      count_is = omega (arith, turn.count_is, length-append turn.new_entries (done.entry ∷ []));
     }
 
 -- what the box says next is a call of its node, if it stands for it
 pub next-called : (m : MachineFacts) (grant : Grant) (r : ℕ) (box box' : Box) (call : Call) → IsBoxOfNode m grant r box → box'.node ≡ (says box.node).node
-    → box'.room ≡ box.room → call ≡ (says box.node).call → HasSaid box' call → HasSaidCall m grant r box box' call
+    → box'.room ≡ box.room → call ≡ (says box.node).call → IsAwaitingAnswer box' call → HasSaidCall m grant r box box' call
 next-called m grant r box box' call is node room call_is said = record { before = is; node = node; call_is = call_is; said = said; room = room }
 
 module _ (m now : MachineFacts) (grant : Grant) (r : ℕ) (box box' : Box) (work : Bool) (count : ℕ) (turn : IsTurning m now grant r box work count)
@@ -114,7 +115,7 @@ module _ (m now : MachineFacts) (grant : Grant) (r : ℕ) (box box' : Box) (work
   -- and stands for its node still
   pub turn-stops : IsTurning m now grant r box' work count
   turn-stops = record {
-    made = turn.made;
+    new_entries = turn.new_entries;
     goes_on = turn.goes_on;
     turn = turn.turn;
     works = turn.works;

@@ -13,7 +13,7 @@ use Rattle.ce_model.specs.Space.{Space, has_unused_window, block_named, places_a
 use Rattle.ce_model.specs.Process.{Process, argument, call_number, moved_process}
 use Rattle.ce_model.specs.Node.{Turn, Node, is_place, with_process, send_call, spawn_call, kill_call, process_at}
 use Rattle.ce_model.specs.Kernel.{CallOutcome, continuation, departure, turn_conclusion, return_outcome, stop_outcome, leave_outcome, read_outcome, process_left_behind, map_outcome, xmalloc, free_outcome, xfree, xlength, is_target, place_named, send_outcome, xsend, copies_outcome, xmsend_block, xmsend, spawn, ckill, KernelCall, kernel_calls, kernel_call, call_outcome, kernel}
-use Rattle.ce_model.specs.Saying.{Saying, idle_saying, after_call, after_instruction, instruction, turn_saying, saying_in, says}
+use Rattle.ce_model.specs.Saying.{Saying, after_call, after_instruction, instruction, turn_saying, saying_in, says}
 use Rattle.ce_solo.proofs.Calls.{call_numbered}
 use Rattle.ce_script.specs.Rounds.{asks_for_work}
 

@@ -9,6 +9,7 @@ use Rattle.ce_model.specs.Lists.{EachAfter}
 use Rattle.ce_model.specs.Renaming.{CubeGrant}
 use Rattle.ce_model.specs.Views.{request_grant, entry_grant, grant_or_later, history_behind_grant}
 use Rattle.ce_model.specs.Machine.{MachineParts, IsLawfulEntry, IsLawful}
+use Rattle.ce_solo.proofs.Projection.Views.{FoundGrant}
 
 users-within : (parts : MachineParts) (before history : List Entry) → EachAfter (IsLawfulEntry parts) before history
     → AllByRecursion (λ (entry : Entry). entry.user < parts.users) history
@@ -21,13 +22,10 @@ granted_to user (Getcube dim (Some sub)) grant e = ap (λ found. elim found [ No
 granted_to user other grant e = absurd (cc)
 
 module _ (users : ℕ) where
-  abbrev Found : Type 0
-  Found = CubeGrant × List Entry
-
-  same_found : (a b : Found) → Some a ≡ Some b → a ≡ b
+  same_found : (a b : FoundGrant) → Some a ≡ Some b → a ≡ b
   same_found a b e = cc
 
-  within_by : (given : Option CubeGrant) (behind : List Entry) (number : ℕ) (found : Found) (later : ℕ → Option Found)
+  within_by : (given : Option CubeGrant) (behind : List Entry) (number : ℕ) (found : FoundGrant) (later : ℕ → Option FoundGrant)
       → ((grant : CubeGrant) → given ≡ Some grant → grant.user < users) → ((n : ℕ) → later n ≡ Some found → found.0.user < users)
       → grant_or_later given behind number later ≡ Some found → found.0.user < users
   within_by None behind number found later here there e = there number e
@@ -35,11 +33,11 @@ module _ (users : ℕ) where
       elim (cases_Bool (number == 0)) [
         | inl first ↦
             let is : Some (grant, behind) ≡ Some found = rw first at e in
-            subst (λ (f : Found). f.0.user < users) (same_found (grant, behind) found is) (here grant refl)
+            subst (λ (f : FoundGrant). f.0.user < users) (same_found (grant, behind) found is) (here grant refl)
         | inr past ↦ let is : later (number - 1) ≡ Some found = rw past at e in there (number - 1) is
       ]
 
-  pub found-within : (h : List Entry) (number : ℕ) (found : Found) → AllByRecursion (λ (entry : Entry). entry.user < users) h
+  pub found-within : (h : List Entry) (number : ℕ) (found : FoundGrant) → AllByRecursion (λ (entry : Entry). entry.user < users) h
       → history_behind_grant h number ≡ Some found → found.0.user < users
   found-within [] number found all e = absurd (cc)
   found-within (entry ∷ h) number found all e =

@@ -1,12 +1,12 @@
 -- A history that goes on by entries of others beside those of a cube, and what that leaves of the cube.
-use Rattle.std.specs.Prelude.{◌≡◌, ◌≢◌, ℕ, ◌^◌, ◌<◌, false, ◌==◌, ◌&&◌, ◌⊎◌, IsTrue, List, [], ◌++◌, map, filter, is_some}
+use Rattle.std.specs.Prelude.{◌≡◌, ◌≢◌, ℕ, ◌^◌, ◌<◌, false, ◌⊎◌, IsTrue, List, [], ◌++◌, is_some}
 use Rattle.std.specs.List.{AllByRecursion}
 use Rattle.ce_model.specs.declared.topology.TheConstants.{HOST}
 use Rattle.ce_model.specs.declared.entry.Entry.{Entry}
 use Rattle.ce_model.specs.Answers.{recorded_call}
 use Rattle.ce_model.specs.Subcubes.{node_of}
-use Rattle.ce_model.specs.Renaming.{CubeGrant, entry_inward}
-use Rattle.ce_model.specs.Views.{view}
+use Rattle.ce_model.specs.Renaming.{CubeGrant}
+use Rattle.ce_model.specs.Views.{view, cube_entries}
 use Rattle.ce_model.specs.Machine.{MachineParts, IsLawful}
 use Rattle.ce_lock.specs.Entries.{entries_of}
 use Rattle.ce_machine.specs.Meanings.{MachineFacts, whose, is_alone_entry}
@@ -17,11 +17,6 @@ use Rattle.ce_cube.specs.Boxes.{IsHeldAs, trace_node, trace_store}
 -- the entries of one actor of a user among these
 abbrev pub actor_entries : ℕ → ℕ → List Entry → List Entry
 actor_entries user actor entries = entries_of whose (record { family = user; actor = actor }) entries
-
--- the calls of a cube among these, as the cube knows them
-abbrev pub cube_entries : CubeGrant → List Entry → List Entry
-cube_entries grant entries =
-    map (entry_inward grant.sub) (filter (λ entry. entry.user == grant.user && is_some (recorded_call entry.what)) entries)
 
 -- no entry of the user is one of a call that is made alone
 abbrev pub AreNotMadeAlone : ℕ → List Entry → Type 0
@@ -44,19 +39,19 @@ pub record IsHeldBeside (parts : MachineParts) (history : List Entry) (number : 
   pub actors : AllByRecursion (λ entry. entry.user ≡ grant.user → IsByHostOrNode grant entry) more
 
 -- the machine went on by entries of other users alone, and its history is lawful
-pub record IsWait (user : ℕ) (before waited : MachineFacts) : Type 0 where
+pub record IsWait (user : ℕ) (before after : MachineFacts) : Type 0 where
   pub others : List Entry
-  pub parts : waited.parts ≡ before.parts
-  pub history : waited.history ≡ before.history ++ others
+  pub parts : after.parts ≡ before.parts
+  pub history : after.history ≡ before.history ++ others
   pub foreign : AllByRecursion (λ entry. entry.user ≢ user) others
-  pub lawful : IsLawful waited.parts waited.history
+  pub lawful : IsLawful after.parts after.history
 
 -- an entry that may stand in a stretch of the history in which a user acts: on one thread it is the user's own
 abbrev pub IsAllowedAmong : RoundKind → ℕ → Entry → Type 0
 IsAllowedAmong serial user entry = entry.user ≡ user
 IsAllowedAmong threaded user entry = Unit {0}
 
--- `made` are the user's entries of the stretch `between`, in order; on one thread there are no others
-pub record IsMix (kind : RoundKind) (user : ℕ) (between made : List Entry) : Type 0 where
-  pub own : own_entries user between ≡ made
+-- `user_entries` are the user's entries of the stretch `between`, in order; on one thread there are no others
+pub record IsMix (kind : RoundKind) (user : ℕ) (between user_entries : List Entry) : Type 0 where
+  pub own : own_entries user between ≡ user_entries
   pub each : AllByRecursion (IsAllowedAmong kind user) between

@@ -6,7 +6,7 @@ use Rattle.ce_model.specs.declared.entry.What.TheVariants.{Getcube, Drain}
 use Rattle.ce_model.specs.declared.topology.TheConstants.{HOST}
 use Rattle.ce_model.specs.declared.topology.BlockId.{BlockId}
 use Rattle.ce_model.specs.Limits.{host_home, greatest_blocks}
-use Rattle.ce_model.specs.Blocks.{put, is_same_id, blocks_of_home}
+use Rattle.ce_model.specs.Blocks.{with_id, is_same_id, blocks_of_home}
 use Rattle.ce_model.specs.Parcels.{Parcel}
 use Rattle.ce_model.specs.Node.{Node, opening_node, Call}
 use Rattle.ce_model.specs.Saying.{says}
@@ -125,4 +125,4 @@ pub record IsAccepted (parts : MachineParts) (history : List Entry) (number : �
   pub new : count_by (is_same_id parcel.block.id) (map (block_outward grant) (trace_store parts history number grant)) ≡ 0
   pub room : length (trace_store parts history number grant) < greatest_blocks
   pub stored : map (block_outward grant) (trace_store parts (history ++ entry ∷ []) number grant)
-      ≡ put parcel.block.id (map (block_outward grant) (trace_store parts history number grant))
+      ≡ with_id parcel.block.id (map (block_outward grant) (trace_store parts history number grant))

@@ -14,6 +14,7 @@ use Rattle.ce_model.specs.Machine.{MachineParts, IsMachine, IsLawful, cube_of}
 use Rattle.xm_block.specs.Stores.{ids_of}
 use Rattle.ce_daemon.specs.declared.grant.Grant.{Grant}
 use Rattle.ce_daemon.specs.Boxes.{AreBoxes}
+use Rattle.ce_daemon.specs.Peeks.{cube_grant}
 use Rattle.ce_host.specs.declared.host.Host.{Host}
 use Rattle.rk_node.specs.Boxes.{Box, IsClean, fresh_at}
 use Rattle.rk_node.specs.declared.out.Out.TheVariants.{Nothing}
@@ -29,13 +30,9 @@ pub record IsLawfulMachine (machine : MachineFacts) : Type 0 where
   pub within : IsMachine machine.parts
   pub lawful : IsLawful machine.parts machine.history
 
--- a grant as the model has it, without its number
-abbrev pub cube_grant : Grant → CubeGrant
-cube_grant grant = record { user = grant.user; dim = grant.dim; sub = grant.sub }
-
 -- the cube of a grant
-abbrev pub cube_in : MachineParts → Grant → Cube
-cube_in parts grant = cube_of parts.images (cube_grant grant)
+abbrev pub cube_of_grant : MachineParts → Grant → Cube
+cube_of_grant parts grant = cube_of parts.images (cube_grant grant)
 
 -- the box of relative node r
 abbrev pub box_at : List Box → ℕ → Box
@@ -54,7 +51,7 @@ pub record AreBoxesInStep (parts : MachineParts) (history : List Entry) (grant :
 
 -- the host has the blocks that the cube's trace leaves it, room for all of the cube, and its spare batch
 pub record IsHostInStep (parts : MachineParts) (history : List Entry) (grant : Grant) (host : Host) : Type 0 where
-  pub blocks : ids_of host.store.blocks ≡ map (block_outward (cube_grant grant)) (hoststore (opening (cube_in parts grant)) (view history grant.number))
+  pub blocks : ids_of host.store.blocks ≡ map (block_outward (cube_grant grant)) (hoststore (opening (cube_of_grant parts grant)) (view history grant.number))
   pub room : host.store.spare + length host.store.blocks ≡ greatest_blocks
   pub spare : host.spare ≡ Some []
 
@@ -73,25 +70,25 @@ pub record IsCrewInStep (parts : MachineParts) (history : List Entry) (crew : Se
 
 -- these entries are calls of this user's cube
 abbrev pub AreCallsOf : ℕ → List Entry → Type 0
-AreCallsOf user made = AllByRecursion (λ entry. (entry.user ≡ user) × IsTrue (is_some (recorded_call entry.what))) made
+AreCallsOf user new_entries = AllByRecursion (λ entry. (entry.user ≡ user) × IsTrue (is_some (recorded_call entry.what))) new_entries
 
 -- Calls of a crew's cube went on with the machine's history: these entries, which make the cube's trace longer. The crew is in step again.
-pub record HasGoneOn (before after : MachineFacts) (crew crew' : SerialCrew) (made : List Entry) : Type 0 where
+pub record HasGoneOn (before after : MachineFacts) (crew crew' : SerialCrew) (new_entries : List Entry) : Type 0 where
   pub parts : after.parts ≡ before.parts
-  pub history : after.history ≡ before.history ++ made
+  pub history : after.history ≡ before.history ++ new_entries
   pub lawful : IsLawful after.parts after.history
-  pub calls : AreCallsOf crew.grant.user made
+  pub calls : AreCallsOf crew.grant.user new_entries
   pub grant : crew'.grant ≡ crew.grant
-  pub trace : view after.history crew.grant.number ≡ view before.history crew.grant.number ++ map (entry_inward crew.grant.sub) made
+  pub trace : view after.history crew.grant.number ≡ view before.history crew.grant.number ++ map (entry_inward crew.grant.sub) new_entries
   pub in_step : IsCrewInStep after.parts after.history crew'
 
 -- Calls of this user's cube went on with the machine's history, until one was refused: that call made no entry, and these before it stand.
 pub record HasStopped (before after : MachineFacts) (user : ℕ) : Type 0 where
-  pub made : List Entry
+  pub new_entries : List Entry
   pub parts : after.parts ≡ before.parts
-  pub history : after.history ≡ before.history ++ made
+  pub history : after.history ≡ before.history ++ new_entries
   pub lawful : IsLawful after.parts after.history
-  pub calls : AreCallsOf user made
+  pub calls : AreCallsOf user new_entries
 
 -- A serial round went on, by which a node was given work or none was. Work takes one at least of the dispatches that are allowed; the host is
 -- what it was.

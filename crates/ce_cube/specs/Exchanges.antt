@@ -8,14 +8,16 @@ use Rattle.ce_model.specs.Renaming.{entry_inward}
 use Rattle.ce_model.specs.Views.{view}
 use Rattle.ce_daemon.specs.declared.grant.Grant.{Grant}
 use Rattle.rk_node.specs.Boxes.{Box}
-use Rattle.rk_node.specs.Answering.{HasSaid}
+use Rattle.rk_node.specs.Answering.{IsAwaitingAnswer}
+use Rattle.ce_lock.specs.declared.limits.TheConstants.{HISTORY_LIMIT}
 use Rattle.ce_machine.specs.Meanings.{MachineFacts}
 use Rattle.ce_script.specs.Rounds.{asks_for_work, is_take, is_dispatch, IsTurn, has_work}
 use Rattle.ce_cube.specs.Boxes.{IsHeldAs, IsStandIn, trace_node, trace_store}
 use Rattle.ce_cube.specs.Hearable.{calls_left}
 use Rattle.ce_cube.specs.Rounds.{dispatches_left, IsPartOfRound}
 use Rattle.ce_cube.specs.declared.crew.SerialCrew.{SerialCrew}
-use Rattle.ce_cube.specs.Crews.{IsLawfulMachine, IsReady, AreCallsOf, HasGoneOn, cube_grant}
+use Rattle.ce_cube.specs.Crews.{IsLawfulMachine, IsReady, AreCallsOf, HasGoneOn}
+use Rattle.ce_daemon.specs.Peeks.{cube_grant}
 
 -- node r of this cube after the machine's history
 abbrev pub machine_node : MachineFacts → Grant → ℕ → Node
@@ -26,8 +28,8 @@ abbrev pub machine_store : MachineFacts → Grant → List BlockId
 machine_store machine grant = trace_store machine.parts machine.history grant.number (cube_grant grant)
 
 -- how many dispatches are still allowed in the cube
-abbrev pub left_in : MachineFacts → Grant → ℕ
-left_in machine grant = dispatches_left machine.parts machine.history grant.number (cube_grant grant)
+abbrev pub cube_dispatches_left : MachineFacts → Grant → ℕ
+cube_dispatches_left machine grant = dispatches_left machine.parts machine.history grant.number (cube_grant grant)
 
 -- the machine is lawful and within its limits, this cube is held, and r is one of its nodes
 pub record HasNode (machine : MachineFacts) (grant : Grant) (r : ℕ) : Type 0 where
@@ -45,19 +47,19 @@ pub record HasSaidCall (machine : MachineFacts) (grant : Grant) (r : ℕ) (box b
   pub before : IsBoxOfNode machine grant r box
   pub node : box'.node ≡ (says box.node).node
   pub call_is : call ≡ (says box.node).call
-  pub said : HasSaid box' call
+  pub said : IsAwaitingAnswer box' call
   pub room : box'.room ≡ box.room
 
 -- the machine goes on by these calls of the cube: its nodes other than r and its host's store are what they were, and so is its trace before them
-pub record HasGoneOnAt (before after : MachineFacts) (grant : Grant) (r : ℕ) (made : List Entry) : Type 0 where
+pub record HasGoneOnAt (before after : MachineFacts) (grant : Grant) (r : ℕ) (new_entries : List Entry) : Type 0 where
   pub parts : after.parts ≡ before.parts
-  pub history : after.history ≡ before.history ++ made
-  pub calls : AreCallsOf grant.user made
-  pub trace : view after.history grant.number ≡ view before.history grant.number ++ map (entry_inward grant.sub) made
+  pub history : after.history ≡ before.history ++ new_entries
+  pub calls : AreCallsOf grant.user new_entries
+  pub trace : view after.history grant.number ≡ view before.history grant.number ++ map (entry_inward grant.sub) new_entries
   pub node : HasNode after grant r
   pub others : (other : ℕ) → other < 2 ^ grant.dim → (other == r) ≡ false → machine_node after grant other ≡ machine_node before grant other
   pub store : machine_store after grant ≡ machine_store before grant
-  pub few : length after.history < 2 ^ 63
+  pub few : length after.history < HISTORY_LIMIT
 
 -- The call of a box that stood for node r was answered: the machine has one entry more, a Take where the call asked for work, and a dispatch where
 -- it gave work, and the box stands for the node behind it. A turn has fewer calls left by each call that asks for no work.
@@ -67,19 +69,19 @@ pub record HasExchanged (before after : MachineFacts) (grant : Grant) (r : ℕ) 
   pub actor_is : (entry_inward grant.sub entry).actor ≡ r
   pub take : is_take (entry_inward grant.sub entry) ≡ asks_for_work call
   pub dispatch : is_dispatch (entry_inward grant.sub entry) ≡ work
-  pub left : left_in after grant + (if work then 1 else 0) ≡ left_in before grant
+  pub left : cube_dispatches_left after grant + (if work then 1 else 0) ≡ cube_dispatches_left before grant
   pub stands : IsBoxOfNode after grant r box'
   pub calls : IsFalse (asks_for_work call) → calls_left box'.node < calls_left box.node
 
 -- A turn of node r is under way: these many entries so far, the first a Take that gave work or none, and the box stands for the node.
 pub record IsTurning (before now : MachineFacts) (grant : Grant) (r : ℕ) (box : Box) (work : Bool) (count : ℕ) : Type 0 where
-  pub made : List Entry
-  pub goes_on : HasGoneOnAt before now grant r made
-  pub turn : IsTurn r (map (entry_inward grant.sub) made)
-  pub works : has_work (map (entry_inward grant.sub) made) ≡ work
-  pub left : left_in now grant + (if work then 1 else 0) ≡ left_in before grant
+  pub new_entries : List Entry
+  pub goes_on : HasGoneOnAt before now grant r new_entries
+  pub turn : IsTurn r (map (entry_inward grant.sub) new_entries)
+  pub works : has_work (map (entry_inward grant.sub) new_entries) ≡ work
+  pub left : cube_dispatches_left now grant + (if work then 1 else 0) ≡ cube_dispatches_left before grant
   pub stands : IsBoxOfNode now grant r box
-  pub count_is : count ≡ length made
+  pub count_is : count ≡ length new_entries
 
 -- a turn of node r of the crew went on, with work or none: its box is in step again, the others are what they were, and so is the host
 pub record HasTakenTurn (before after : MachineFacts) (crew crew' : SerialCrew) (r : ℕ) (work : Bool) : Type 0 where
@@ -87,14 +89,14 @@ pub record HasTakenTurn (before after : MachineFacts) (crew crew' : SerialCrew) 
   pub goes_on : HasGoneOn before after crew crew' turn
   pub is_turn : IsTurn r (map (entry_inward crew.grant.sub) turn)
   pub works : has_work (map (entry_inward crew.grant.sub) turn) ≡ work
-  pub left : left_in after crew.grant + (if work then 1 else 0) ≡ left_in before crew.grant
+  pub left : cube_dispatches_left after crew.grant + (if work then 1 else 0) ≡ cube_dispatches_left before crew.grant
   pub host : crew'.host ≡ crew.host
 
 -- a round of the crew is under way: the first nodes, so many, have taken their turns, by which a node was given work or none was
 pub record IsRoundUnderWay (before now : MachineFacts) (crew crew' : SerialCrew) (count : ℕ) (work : Bool) : Type 0 where
-  pub made : List Entry
-  pub goes_on : HasGoneOn before now crew crew' made
-  pub part : IsPartOfRound count (map (entry_inward crew.grant.sub) made)
-  pub works : has_work (map (entry_inward crew.grant.sub) made) ≡ work
-  pub left : left_in now crew.grant + (if work then 1 else 0) ≤ left_in before crew.grant
+  pub new_entries : List Entry
+  pub goes_on : HasGoneOn before now crew crew' new_entries
+  pub part : IsPartOfRound count (map (entry_inward crew.grant.sub) new_entries)
+  pub works : has_work (map (entry_inward crew.grant.sub) new_entries) ≡ work
+  pub left : cube_dispatches_left now crew.grant + (if work then 1 else 0) ≤ cube_dispatches_left before crew.grant
   pub host : crew'.host ≡ crew.host

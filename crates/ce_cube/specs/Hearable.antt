@@ -5,11 +5,11 @@ use Rattle.ce_model.specs.Limits.{process_count, turn_calls, greatest_blocks}
 use Rattle.ce_model.specs.Blocks.{is_same_id}
 use Rattle.ce_model.specs.Parcels.{Parcel, mail, is_eligible}
 use Rattle.ce_model.specs.Process.{is_receiving, is_stopped}
-use Rattle.ce_model.specs.Node.{Turn, Node, process_at, blocks_of, ids_of}
+use Rattle.ce_model.specs.Node.{Turn, Node, process_at, blocks_of, process_set}
 use Rattle.ce_model.specs.Hearing.{Hearing, start_of, mail_of, kill_of, poll_of, answer_of, nothing}
 use Rattle.ce_model.specs.Sound.{is_unborn, is_polling}
 use Rattle.rk_mail.specs.declared.talk.Hearing as program
-use Rattle.rk_mail.specs.Talk.{heard_as, IsAnswerTo}
+use Rattle.rk_mail.specs.Talk.{hearing_model, IsAnswerTo}
 use Rattle.ce_model.specs.Saying.{Saying}
 
 -- ---- what can be heard
@@ -25,7 +25,7 @@ pub record IsStartable (images : List ImageParts) (node : Node) (pid image : ℕ
 pub record IsDeliverable (node : Node) (parcel : Parcel) : Type 0 where
   pub pid_within : parcel.to.pid < process_count
   pub receiver : IsTrue (is_receiving (process_at node parcel.to.pid).status) ⊎ IsTrue (is_stopped (process_at node parcel.to.pid).status)
-  pub eligible : IsTrue (is_eligible (ids_of is_receiving node.processes) (ids_of is_stopped node.processes) (mail parcel))
+  pub eligible : IsTrue (is_eligible (process_set is_receiving node.processes) (process_set is_stopped node.processes) (mail parcel))
   pub new : count_by (is_same_id parcel.block.id) (blocks_of node) ≡ 0
   pub room : length (blocks_of node) < greatest_blocks
   pub between_turns : node.turn ≡ None
@@ -60,7 +60,7 @@ IsHearable images node nothing = Unit {0}
 -- what is heard is an answer to what was said, and the node can hear it
 pub record IsRightAnswer (images : List ImageParts) (said : Saying) (heard : program.Hearing) : Type 0 where
   pub answers : IsAnswerTo said.call heard
-  pub hearable : IsHearable images said.node (heard_as heard)
+  pub hearable : IsHearable images said.node (hearing_model heard)
 
 -- ---- how long a turn can be
 

@@ -20,7 +20,7 @@ use Rattle.ce_model.specs.Views.{view}
 use Rattle.ce_model.specs.Machine.{MachineParts, IsMachine, IsLawful, IsLawfulEntry, IsCallWithinLimits, IsFitting, HasHeldCube, getcube, drain, freecube, in_cube, what_of_request, after, all_parcels, cube_of}
 use Rattle.rk_mail.specs.declared.talk.Hearing.{Hearing}
 use Rattle.ce_solo.specs.Laws.{OfEachTrace}
-use Rattle.rk_mail.specs.Talk.{heard_as}
+use Rattle.rk_mail.specs.Talk.{hearing_model}
 use Rattle.ce_script.specs.Rounds.{is_take, is_dispatch, asks_for_work, AreTurnsOver, RoundKind, IsRoundWithoutWork}
 use Rattle.ce_cube.specs.Hearable.{IsRightAnswer, calls_left}
 use Rattle.ce_cube.specs.Boxes.{IsHeldAs, trace_node, IsStandIn, AreInStep, IsAccepted, IsSaidBy, IsMadeBy, IsOneMore, IsHeardByNode, IsAside, grant_entry, drain_entry, IsBegun, trace_store}
@@ -65,7 +65,7 @@ abbrev pub BoxesHear : Type 0
 BoxesHear = OfEachHeld (λ parts history number grant. (r : ℕ) (box : Node) (entry : Entry) (heard : Hearing) → r < 2 ^ grant.dim
     → IsStandIn grant (trace_node parts history number grant r) box → IsMadeBy parts history grant (node_of grant.sub r) (says box).call entry
     → IsHeardByNode history grant r entry.what heard
-    → node_after_hearing parts.images (says box).node (heard_as heard) ≡ node_outward grant (trace_node parts (history ++ entry ∷ []) number grant r))
+    → node_after_hearing parts.images (says box).node (hearing_model heard) ≡ node_outward grant (trace_node parts (history ++ entry ∷ []) number grant r))
 
 -- and it can hear that answer, which is one to its call
 abbrev pub BoxesCanHear : Type 0
@@ -78,14 +78,14 @@ abbrev pub TurnsEnd : Type 0
 TurnsEnd = OfEachHeld (λ parts history number grant. (r : ℕ) (box : Node) (entry : Entry) (heard : Hearing) → r < 2 ^ grant.dim
     → IsStandIn grant (trace_node parts history number grant r) box → IsMadeBy parts history grant (node_of grant.sub r) (says box).call entry
     → IsHeardByNode history grant r entry.what heard → IsFalse (asks_for_work (says box).call)
-    → calls_left (node_after_hearing parts.images (says box).node (heard_as heard)) < calls_left box)
+    → calls_left (node_after_hearing parts.images (says box).node (hearing_model heard)) < calls_left box)
 
 -- ---- the host
 
 -- what a user has its host do fits
 abbrev pub HostsFit : Type 0
-HostsFit = OfEachHeld (λ parts history number grant. (asked : HostCall) (call : Call)
-    → host_call (cube_of parts.images grant) (trace_store parts history number grant) asked ≡ Some call → IsCallWithinLimits call
+HostsFit = OfEachHeld (λ parts history number grant. (wish : HostCall) (call : Call)
+    → host_call (cube_of parts.images grant) (trace_store parts history number grant) wish ≡ Some call → IsCallWithinLimits call
     → IsFitting parts history grant.user HOST (in_cube (renamed_call_blocks (block_outward grant) call)))
 
 -- a message that the host sends takes the least block out of its store

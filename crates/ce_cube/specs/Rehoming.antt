@@ -3,11 +3,11 @@ use Rattle.std.specs.Prelude.{◌≡◌, ℕ, ◌+◌, ◌&&◌, ◌||◌, ◌==
 use Rattle.std.specs.List.{AllByRecursion}
 use Rattle.ce_model.specs.declared.topology.BlockId.{BlockId}
 use Rattle.ce_model.specs.Limits.{home_blocks, host_home}
-use Rattle.ce_model.specs.Blocks.{is_same_id, put_all, blocks_of_home}
+use Rattle.ce_model.specs.Blocks.{is_same_id, with_ids, blocks_of_home}
 use Rattle.ce_model.specs.Parcels.{Parcel}
 use Rattle.ce_model.specs.Node.{Node, blocks_of}
 use Rattle.ce_model.specs.Cube.{node_numbers}
-use Rattle.ce_model.specs.Sound.{IsRising}
+use Rattle.ce_model.specs.Sound.{AreInOrder}
 use Rattle.ce_model.specs.Subcubes.{is_inside}
 use Rattle.ce_model.specs.Renaming.{CubeGrant}
 
@@ -30,7 +30,7 @@ pub record AreAllBlocks (grant : CubeGrant) (ids : List BlockId) : Type 0 where
 -- each of these blocks has a home of the cube, and those of one home, put into an empty store, are the store that the home begins with
 pub record AreSorted (grant : CubeGrant) (ids : List BlockId) : Type 0 where
   pub own : AllByRecursion (λ id. IsTrue (is_block_of grant id)) ids
-  pub at_home : (home : ℕ) → IsTrue (is_home grant home) → put_all (filter (λ id. id.home == home) ids) [] ≡ blocks_of_home home
+  pub at_home : (home : ℕ) → IsTrue (is_home grant home) → with_ids (filter (λ id. id.home == home) ids) [] ≡ blocks_of_home home
 
 -- all blocks of a cube sort so
 abbrev pub BlocksSort : Type 0
@@ -38,6 +38,6 @@ BlocksSort = (grant : CubeGrant) (ids : List BlockId) → AreAllBlocks grant ids
 
 -- a store with each block of this home once, and no other, is the one that this home begins with
 abbrev pub StoresAreHome : Type 0
-StoresAreHome = (home : ℕ) (store : List BlockId) → IsRising store
+StoresAreHome = (home : ℕ) (store : List BlockId) → AreInOrder store
     → ((id : BlockId) → count_by (is_same_id id) store ≡ (if id.home == home && nat_lt id.index home_blocks then 1 else 0))
     → store ≡ blocks_of_home home

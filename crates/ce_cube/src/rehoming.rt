@@ -3,7 +3,7 @@ ghost use Rattle.std.specs.Prelude.{◌≡◌, ◌≤◌, ◌<◌, ◌+◌, ◌^
 ghost use Rattle.ce_model.specs.declared.entry.Entry.{Entry};
 ghost use Rattle.ce_model.specs.Limits.{greatest_dim, greatest_images, home_blocks};
 ghost use Rattle.ce_model.specs.Machine.{MachineParts, IsMachine};
-ghost use Rattle.ce_model.specs.Blocks.{blocks_of_home, put_all};
+ghost use Rattle.ce_model.specs.Blocks.{blocks_of_home, with_ids};
 ghost use Rattle.ce_model.specs.Renaming.{CubeGrant};
 ghost use Rattle.ce_model.specs.Views.{view};
 ghost use Rattle.xm_block.specs.Rising.{IsRising};
@@ -12,7 +12,8 @@ ghost use Rattle.ce_daemon.specs.Boxes.{AreBoxesOf};
 ghost use Rattle.rk_node.specs.Boxes.{Box, IsClean};
 ghost use Rattle.rk_node.specs.Hearings.{AreApartFrom};
 ghost use Rattle.ce_cube.specs.Boxes.{IsHeldAs};
-ghost use Rattle.ce_cube.specs.Crews.{AreAllHome, HasAllBlocks, IsCrewInStep, IsHostAtHome, cube_grant};
+ghost use Rattle.ce_cube.specs.Crews.{AreAllHome, HasAllBlocks, IsCrewInStep, IsHostAtHome};
+ghost use Rattle.ce_daemon.specs.Peeks.{cube_grant};
 ghost use Rattle.ce_cube.specs.Homecoming.{HasPrefix, IsEmptied, IsIdle, emptied_box, entered_box, names_at_home, names_in_boxes, refilled_box};
 
 use crate::SerialCrew;
@@ -82,7 +83,7 @@ fn scrub_all(nodes: &mut [NodeBox], store: &mut Store)
     requires apart { AreApartFrom (names_in_boxes nodes.old) store.old }
     ensures boxes { nodes.new ≡ map emptied_box nodes.old }
     ensures moved { ids_of store.new.blocks
-        ≡ put_all (names_in_boxes nodes.old) (ids_of store.old.blocks) }
+        ≡ with_ids (names_in_boxes nodes.old) (ids_of store.old.blocks) }
     ensures spare { store.new.spare + length (names_in_boxes nodes.old) ≡ store.old.spare }
 {
     for node in nodes.iter_mut() {
@@ -95,7 +96,7 @@ fn give_all(blocks: Vec<Block>, store: &mut Store)
     requires room { length blocks.items ≤ store.old.spare }
     requires apart { AreApartFrom (ids_of blocks.items) store.old }
     ensures moved { ids_of store.new.blocks
-        ≡ put_all (ids_of blocks.items) (ids_of store.old.blocks) }
+        ≡ with_ids (ids_of blocks.items) (ids_of store.old.blocks) }
     ensures spare { store.new.spare + length blocks.items ≡ store.old.spare }
     ensures rising { IsRising is_before store.new.blocks }
 {

@@ -1,12 +1,13 @@
 //! One turn of a node.
-ghost use Rattle.std.specs.Prelude.{◌≡◌, IfErr, IfOk, IfSome, IfNone, true, false};
+ghost use Rattle.std.specs.Prelude.{◌≡◌, IfErr, IfOk, IfSome, IfNone, IsTrue, IsFalse};
 ghost use Rattle.ce_model.specs.Saying.{says};
 ghost use Rattle.rk_mail.specs.Talk.{call_said};
-ghost use Rattle.rk_node.specs.Answering.{HasSaid};
+ghost use Rattle.rk_node.specs.Answering.{IsAwaitingAnswer};
 ghost use Rattle.rk_node.specs.declared.out.Out.TheVariants.{Nothing};
 ghost use Rattle.ce_script.specs.Rounds.{asks_for_work};
 ghost use Rattle.ce_cube.specs.Boxes.{IsInStep};
-ghost use Rattle.ce_cube.specs.Crews.{HasStopped, IsReady, cube_grant};
+ghost use Rattle.ce_cube.specs.Crews.{HasStopped, IsReady};
+ghost use Rattle.ce_daemon.specs.Peeks.{cube_grant};
 ghost use Rattle.ce_cube.specs.Exchanges.{HasNode, IsTurning, machine_node};
 
 use crate::exchange::exchange;
@@ -66,9 +67,9 @@ fn next_call(node: &mut NodeBox) -> Option<Say>
     ensures node { node.new.node ≡ (says node.old.node).node }
     ensures room { node.new.room ≡ node.old.room }
     ensures call { IfSome result (λ said. call_said said ≡ (says node.old.node).call) }
-    ensures goes_on { IfSome result (λ said. asks_for_work (call_said said) ≡ false) }
-    ensures said { IfSome result (λ said. HasSaid node.new (call_said said)) }
-    ensures over { IfNone result (asks_for_work (says node.old.node).call ≡ true) }
+    ensures goes_on { IfSome result (λ said. IsFalse (asks_for_work (call_said said))) }
+    ensures said { IfSome result (λ said. IsAwaitingAnswer node.new (call_said said)) }
+    ensures over { IfNone result (IsTrue (asks_for_work (says node.old.node).call)) }
     ensures idle { IfNone result (node.new.out ≡ Nothing) }
 {
     match node.says() {

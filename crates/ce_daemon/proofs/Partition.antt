@@ -1,5 +1,5 @@
 -- The nodes stay parted by what a daemon does.
-use Rattle.std.proofs.Common.{◌≡◌, ℕ, zero, suc, ◌+◌, ◌/◌, ◌%◌, ◌^◌, ◌==◌, pow-suc, ◌<◌, ◌≤◌, Bool, true, false, not, ◌&&◌, ◌||◌, if◌then◌else◌, List, [], ◌∷◌, ◌++◌, Option, Some, None, refl, sym, ap, ◌∙◌, arith, inl, inr, zero-add}
+use Rattle.std.proofs.Common.{◌≡◌, ℕ, zero, suc, ◌+◌, ◌/◌, ◌%◌, ◌^◌, ◌==◌, pow-suc, ◌<◌, ◌≤◌, Bool, true, false, not, ◌&&◌, ◌||◌, List, [], ◌∷◌, ◌++◌, Some, None, refl, sym, ap, ◌∙◌, arith, inl, inr, zero-add}
 use Rattle.std.specs.Prelude.{filter, find, count_by, count_ones}
 use Rattle.std.specs.List.{list_any, range_with_len}
 use Rattle.std.proofs.lemmas.Bool.{cases_Bool, eqb-true}
@@ -7,7 +7,7 @@ use Rattle.std.proofs.lemmas.Bool.Decides.{nat_tests}
 use Rattle.std.proofs.lemmas.Nat.{shr-shr, ones_le_self}
 use Rattle.ce_model.specs.declared.topology.NodeSet.{NodeSet}
 use Rattle.ce_model.specs.Limits.{greatest_dim}
-use Rattle.ce_model.specs.Subcubes.{has_node, is_inside, all_nodes, ones_of, first_free}
+use Rattle.ce_model.specs.Subcubes.{has_node, is_inside, are_all_nodes, ones_of, first_free}
 use Rattle.ce_model.proofs.Subcubes.{all_nodes-inside, first_free-same}
 use Rattle.ce_set.proofs.Masks.{count_ones-half}
 use Rattle.ce_daemon.specs.declared.grant.Grant.{Grant}
@@ -15,9 +15,9 @@ use Rattle.ce_daemon.specs.Holding.{is_user, is_granted, IsPartition}
 use Rattle.ce_daemon.proofs.Counting.{count_by-more, count_by-cons, list_any-none, list_any-some, filter-found, count_by-parts, one_if, find-count}
 
 -- the free nodes are those of no grant
-pub is_free-partition : (dim : ℕ) (held : List Grant) (free : NodeSet) (node : ℕ) → IsPartition dim held free → node < 2 ^ dim
+pub is_ungranted-partition : (dim : ℕ) (held : List Grant) (free : NodeSet) (node : ℕ) → IsPartition dim held free → node < 2 ^ dim
     → has_node free node ≡ not (list_any (is_granted node) held)
-is_free-partition dim held free node parted below =
+is_ungranted-partition dim held free node parted below =
     let one = parted node below in
     elim (cases_Bool (has_node free node)) [
       | inl free_there ↦
@@ -29,7 +29,7 @@ is_free-partition dim held free node parted below =
 pub first_free-partition : (dim d : ℕ) (held : List Grant) (free : NodeSet) → IsPartition dim held free
     → first_free (has_node free) dim d ≡ first_free (λ node. not (list_any (is_granted node) held)) dim d
 first_free-partition dim d held free parted =
-    first_free-same (has_node free) (λ node. not (list_any (is_granted node) held)) dim d (λ node below. is_free-partition dim held free node parted below)
+    first_free-same (has_node free) (λ node. not (list_any (is_granted node) held)) dim d (λ node below. is_ungranted-partition dim held free node parted below)
 
 -- how many nodes the free set has
 count_by-same : (p q : ℕ → Bool) (from count : ℕ) → ((node : ℕ) → node < from + count → p node ≡ q node) → count_by p (range_with_len from count) ≡ count_by q (range_with_len from count)
@@ -54,11 +54,11 @@ pub free_count-partition : (dim : ℕ) (held : List Grant) (free : NodeSet) → 
 free_count-partition dim held free parted within =
     let whole : free.0 / 1 ≡ free.0 = omega arith in
     ap count_ones (sym whole) ∙ count_by-bits free.0 0 (2 ^ dim) (omega (arith, within, whole))
-    ∙ count_by-same (has_node free) (λ node. not (list_any (is_granted node) held)) 0 (2 ^ dim) (λ node below. is_free-partition dim held free node parted (omega arith))
+    ∙ count_by-same (has_node free) (λ node. not (list_any (is_granted node) held)) 0 (2 ^ dim) (λ node below. is_ungranted-partition dim held free node parted (omega arith))
 
 -- a grant of free nodes
 pub IsPartition-granted : (dim : ℕ) (held : List Grant) (free after : NodeSet) (grant : Grant) → IsPartition dim held free
-    → all_nodes (has_node free) grant.dim grant.sub ≡ true → ones_of greatest_dim grant.sub.mask ≡ grant.dim
+    → are_all_nodes (has_node free) grant.dim grant.sub ≡ true → ones_of greatest_dim grant.sub.mask ≡ grant.dim
     → ((node : ℕ) → has_node after node ≡ (has_node free node && not (is_inside grant.sub node))) → IsPartition dim (held ++ grant ∷ []) after
 IsPartition-granted dim held free after grant parted all ones is node below =
     let one = parted node below in

@@ -1,7 +1,7 @@
 -- What holds of a daemon's parts stays so.
-use Rattle.std.proofs.Common.{◌≡◌, ℕ, zero, suc, ◌+◌, ◌-◌, ◌/◌, ◌%◌, ◌^◌, ◌==◌, ◌<◌, ◌≤◌, Bool, true, false, not, ◌&&◌, ◌||◌, List, [], ◌∷◌, ◌++◌, Option, Some, None, length, get_or, map, refl, sym, ap, ◌∙◌, subst, arith, inl, inr}
-use Rattle.std.specs.Prelude.{filter, find, count_by, All, IsSomeAnd, slice_index_or}
-use Rattle.std.proofs.lemmas.Bool.{cases_Bool, and_parts, not-true, or_cases}
+use Rattle.std.proofs.Common.{◌≡◌, ℕ, zero, suc, ◌-◌, ◌/◌, ◌%◌, ◌^◌, ◌==◌, ◌<◌, ◌≤◌, true, false, not, ◌&&◌, ◌||◌, List, [], ◌∷◌, ◌++◌, Option, Some, None, length, get_or, map, sym, ap, ◌∙◌, subst, arith, inl, inr}
+use Rattle.std.specs.Prelude.{filter, find, All, IsSomeAnd}
+use Rattle.std.proofs.lemmas.Bool.{and_parts, not-true, or_cases}
 use Rattle.std.proofs.lemmas.List.{length-map}
 use Rattle.std.proofs.lemmas.List.Elements.{All-push, All-filter, All-nil, All-get_or}
 use Rattle.std.proofs.lemmas.Nat.{pow_pos}
@@ -9,13 +9,13 @@ use Rattle.std.proofs.lemmas.Nat.Bits.{bit_at_ones}
 use Rattle.ce_model.specs.declared.topology.NodeSet.{NodeSet}
 use Rattle.ce_model.specs.declared.topology.Subcube.{Subcube}
 use Rattle.ce_model.specs.Limits.{greatest_dim}
-use Rattle.ce_model.specs.Subcubes.{has_node, is_inside, node_of, extract, all_nodes, first_free, ones_of, IsSubcube}
-use Rattle.ce_model.proofs.Subcubes.{all_nodes-at, all_nodes-inside, first_free-subcube, first_free-all_free, find-among, find-passes, node_of-within, is_inside-within, extract-below, node_of-extract}
+use Rattle.ce_model.specs.Subcubes.{has_node, is_inside, extract, first_free, ones_of, IsSubcube}
+use Rattle.ce_model.proofs.Subcubes.{first_free-subcube, first_free-all_free, find-among, is_inside-within, extract-below, node_of-extract}
 use Rattle.ce_set.proofs.Steps.{pow_le}
 use Rattle.ce_set.proofs.WordBits.{below-has_bit}
 use Rattle.ce_daemon.specs.declared.grant.Grant.{Grant}
 use Rattle.ce_daemon.specs.Boxes.{AreBoxes, AreBoxesOf, HasBox, IsBoxOf}
-use Rattle.ce_daemon.specs.Holding.{is_user, is_granted, IsPartition}
+use Rattle.ce_daemon.specs.Holding.{is_user}
 use Rattle.ce_daemon.specs.Sound.{IsSoundDaemon}
 use Rattle.ce_daemon.proofs.Counting.{one_if}
 use Rattle.ce_daemon.proofs.Partition.{IsPartition-granted, IsPartition-freed, single-granted, single-freed}

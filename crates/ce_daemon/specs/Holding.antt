@@ -25,16 +25,16 @@ abbrev pub is_granted : ℕ → Grant → Bool
 is_granted node grant = is_inside grant.sub node
 
 -- a node is free where it is in no grant that is held
-abbrev pub is_free : GrantTable → ℕ → Bool
-is_free holding node = not (list_any (is_granted node) holding.grants)
+abbrev pub is_ungranted : GrantTable → ℕ → Bool
+is_ungranted holding node = not (list_any (is_granted node) holding.grants)
 
--- the grant of this subcube that a user gets next
-abbrev pub next_grant : GrantTable → (user dim : ℕ) → Subcube → Grant
-next_grant holding user dim sub = record { number = holding.count; user = user; dim = dim; sub = sub }
+-- the grant of this subcube that a user gets next, where so many subcubes were granted
+abbrev pub next_grant : (count user dim : ℕ) → Subcube → Grant
+next_grant count user dim sub = record { number = count; user = user; dim = dim; sub = sub }
 
 -- one grant more
-abbrev pub with_grant : Grant → GrantTable → GrantTable
-with_grant grant holding = record holding { count = holding.count + 1; grants = holding.grants ++ grant ∷ [] }
+abbrev pub table_with_grant : Grant → GrantTable → GrantTable
+table_with_grant grant holding = record holding { count = holding.count + 1; grants = holding.grants ++ grant ∷ [] }
 
 -- without the grant of a user
 abbrev pub without_user : ℕ → GrantTable → GrantTable

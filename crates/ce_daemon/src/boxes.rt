@@ -1,4 +1,4 @@
-ghost use Rattle.std.specs.Prelude.{◌≡◌, ℕ, ◌+◌, ◌^◌, ◌<◌, ◌≤◌, length, slice_index_or, vec_len, vec_capacity, Some, false, [], map, All, IfOk};
+ghost use Rattle.std.specs.Prelude.{◌≡◌, ℕ, ◌+◌, ◌^◌, ◌<◌, ◌≤◌, length, slice_index_or, vec_len, vec_capacity, Some, IsFalse, [], map, All, IfOk};
 ghost use Rattle.ce_model.specs.Limits.{greatest_dim};
 ghost use Rattle.ce_model.specs.Subcubes.{node_of, is_inside, IsSubcube};
 ghost use Rattle.ce_daemon.specs.Boxes.{AreBoxes, HasBox};
@@ -45,7 +45,7 @@ pub(crate) fn take_out<N: Homed>(
     requires room { 2 ^ d ≤ vec_capacity out.old }
     requires empty { out.old.items ≡ [] }
     ensures taken { AreBoxes N.home N.clean (2 ^ d) (node_of sub.now) out.new.items }
-    ensures others { (node : ℕ) → is_inside sub.now node ≡ false
+    ensures others { (node : ℕ) → IsFalse (is_inside sub.now node)
         → HasBox N.home N.clean places.old.items node
         → HasBox N.home N.clean places.new.items node }
     ensures all { length places.new.items ≡ length places.old.items }

@@ -3,7 +3,7 @@ ghost use Rattle.std.specs.List.{range_with_len};
 ghost use Rattle.ce_model.specs.Limits.{greatest_dim};
 ghost use Rattle.ce_model.specs.Subcubes.{first_free, has_node};
 ghost use Rattle.ce_daemon.specs.Boxes.{AreBoxes, AreBoxesOf};
-ghost use Rattle.ce_daemon.specs.Holding.{grant_held_by, is_free, next_grant, with_grant, without_user, IsPartition, IfGranted};
+ghost use Rattle.ce_daemon.specs.Holding.{grant_held_by, is_ungranted, next_grant, table_with_grant, without_user, IsPartition, IfGranted};
 
 use crate::boxes::{places_of, put_home, take_out};
 use crate::grant::grant_in;
@@ -67,7 +67,7 @@ impl<N: Homed> Daemon<N> {
     pub fn free_nodes(&self) -> NodeSet
         ensures within { result.0 < 2 ^ 2 ^ self.now.dim }
         ensures free { (node : ℕ) → node < 2 ^ self.now.dim
-            → has_node result node ≡ is_free self.now node }
+            → has_node result node ≡ is_ungranted self.now node }
         ensures partition { IsPartition self.now.dim self.now.grants result }
     {
         self.free_nodes
@@ -91,11 +91,11 @@ impl<N: Homed> Daemon<N> {
     ) -> Result<Option<(Grant, Vec<N>)>, NoMemory>
         requires none_held { grant_held_by self.old user ≡ None }
         ensures first { IfOk result (λ given. option_map (λ pair. pair.0.sub) given
-            ≡ first_free (is_free self.old) self.old.dim d) }
+            ≡ first_free (is_ungranted self.old) self.old.dim d) }
         ensures grant { IfGranted result (λ pair. pair.0
-            ≡ next_grant self.old user d pair.0.sub) }
+            ≡ next_grant self.old.count user d pair.0.sub) }
         ensures boxes { IfGranted result (λ pair. AreBoxesOf N.home N.clean pair.0 pair.1.items) }
-        ensures after { IfGranted result (λ pair. self.new ≡ with_grant pair.0 self.old) }
+        ensures after { IfGranted result (λ pair. self.new ≡ table_with_grant pair.0 self.old) }
         ensures refused { IfOk result (λ given. IfNone given (self.new ≡ self.old)) }
         ensures unchanged { OnErr result (self.new ≡ self.old) }
     {
@@ -134,7 +134,7 @@ impl<N: Homed> Daemon<N> {
     /// How many nodes are free, and the grants that are held. `NoMemory` may come at any time.
     pub fn peek(&self, alloc: Global) -> Result<PeekResult, NoMemory>
         ensures free { IfOk result (λ shown. shown.free
-            ≡ count_by (is_free self.now) (range_with_len 0 (2 ^ self.now.dim))) }
+            ≡ count_by (is_ungranted self.now) (range_with_len 0 (2 ^ self.now.dim))) }
         ensures grants { IfOk result (λ shown. shown.grants ≡ self.now.grants) }
     {
         let held = self.grants.as_slice().to_vec(alloc)?;

@@ -1,7 +1,7 @@
 ghost use Rattle.std.specs.Prelude.{◌≡◌, ◌<◌, ◌≤◌, ◌+◌, ◌-◌, length, drop, slice_get, Some, None, IsNone, ◌↔◌, [], ◌∷◌, IfOk, IfSome, IfNone, IfErr, OnOk, OnErr, option_map};
 ghost use Rattle.std.specs.List.{Contains};
 ghost use Rattle.ce_model.specs.Limits.{greatest_users, home_blocks, host_home, block_room, greatest_blocks};
-ghost use Rattle.ce_model.specs.Blocks.{blocks_of_home, put};
+ghost use Rattle.ce_model.specs.Blocks.{blocks_of_home, with_id};
 ghost use Rattle.xm_block.specs.Stores.{ids_of, with_block};
 ghost use Rattle.rk_mail.specs.Targets.{targets_of};
 ghost use Rattle.ce_host.specs.Hosts.{message_to, without_targets};
@@ -83,7 +83,7 @@ impl Host {
               };
         }) }
         ensures ids { OnOk result (ids_of self.new.store.blocks
-            ≡ put parcel.block.id (ids_of self.old.store.blocks)) }
+            ≡ with_id parcel.block.id (ids_of self.old.store.blocks)) }
         ensures back { IfErr result (λ refused. refused.0 ≡ parcel) }
         ensures unchanged { OnErr result (self.new ≡ self.old) }
     {

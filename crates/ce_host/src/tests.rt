@@ -12,7 +12,7 @@ const TO: Place = Place { node: 2, pid: 1 };
 
 // Sends a message and gets the batch back. It answers the block that the message went out in, or None where there was
 // none.
-fn sent(host: &mut Host, bytes: &[u8]) -> Option<Block>
+fn sent_block(host: &mut Host, bytes: &[u8]) -> Option<Block>
     requires short { length bytes.now ≤ block_room }
     requires here { host.old.spare ≡ Some [] }
     ensures here { host.new.spare ≡ Some [] }
@@ -60,11 +60,11 @@ fn a_host_sends_its_own_blocks_in_order(rt: HostRuntime) -> Result<(), Fail> {
     let mut host = Host::new(rt.alloc(), 7)?;
     let home = HOST_HOME + 7;
     for index in 0..32 {
-        let block = sent(&mut host, b"hi").ok_or("no block")?;
+        let block = sent_block(&mut host, b"hi").ok_or("no block")?;
         assert_eq!(rt; block.id(), BlockId { home, index });
         assert_eq!(rt; block.bytes(), b"hi".as_slice());
     }
-    assert!(rt; sent(&mut host, b"hi").is_none());
+    assert!(rt; sent_block(&mut host, b"hi").is_none());
     assert_eq!(rt; host.store.count(), 0);
     Ok(())
 }
@@ -80,10 +80,10 @@ fn a_received_block_is_sent_next(rt: HostRuntime) -> Result<(), Fail> {
     let told = host.accept(alloc, parcel(block)).map_err(|(_, want)| want)?;
     assert_eq!(rt; told.as_slice(), b"abc".as_slice());
     assert_eq!(rt; host.store.count(), 33);
-    let next = sent(&mut host, &[]).ok_or("no block")?;
+    let next = sent_block(&mut host, &[]).ok_or("no block")?;
     assert_eq!(rt; next.id(), BlockId { home: 3, index: 9 });
     assert_eq!(rt; next.bytes().len(), 0);
-    let next = sent(&mut host, b"d").ok_or("no block")?;
+    let next = sent_block(&mut host, b"d").ok_or("no block")?;
     assert_eq!(rt;
         next.id(),
         BlockId {

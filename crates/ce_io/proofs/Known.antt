@@ -6,7 +6,7 @@ use Rattle.std.specs.Io.KnownBytes.{prepend_known, append_known}
 use Rattle.std.proofs.lemmas.Grind.{common_steps}
 use Rattle.std.proofs.Math.Seq.{take-add}
 use Rattle.ce_io.specs.Counts.{raised_count}
-use Rattle.ce_io.specs.ReadError.{IsNoMemory}
+use Rattle.ce_io.specs.ReadError.{IsReadNoMemory}
 use Rattle.ce_io.specs.Whole.{HasGiven, HasReadToEnd, reading}
 use Rattle.ce_io.specs.declared.whole.ReadError.{ReadError}
 use Rattle.ce_io.specs.declared.whole.ReadError.TheVariants.{TooLong, Read, Memory}
@@ -61,7 +61,7 @@ module _ {S : Type 0} (left : S → Option (List ℕ)) (given faults : S → ℕ
   }
 
   -- a piece for which there is no memory
-  pub ends_in_memory : (result : Result (Vec ℕ Global) ReadError) → IsErrAnd result (λ e. IsNoMemory e) → count ≤ limit - length text
+  pub ends_in_memory : (result : Result (Vec ℕ Global) ReadError) → IsErrAnd result (λ e. IsReadNoMemory e) → count ≤ limit - length text
       → HasReadToEnd (reading left given faults old new) limit PIECE result
   ends_in_memory (Ok bytes) memory fits = absurd memory
   ends_in_memory (Err TooLong) memory fits = absurd memory

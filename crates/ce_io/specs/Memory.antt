@@ -1,20 +1,29 @@
 -- What contracts see of a source and of a sink in memory, and what a call does to them.
 use Rattle.std.specs.Prelude.{ℕ, ◌-◌, min, List, ◌++◌, length, take, drop, Contains}
+use Rattle.ce_io.specs.declared.calls.Calls.{Calls}
 use Rattle.ce_io.specs.Counts.{raised_count}
 
 -- the numbers of the calls that fail, the number of the next call, and how many bytes a call moves at most
 pub record CallPlan : Type 0 where
-  pub fails : List ℕ
-  pub calls : ℕ
-  pub most : ℕ
+  pub failing_calls : List ℕ
+  pub next_call : ℕ
+  pub greatest_piece : ℕ
+
+-- the plan of the calls of a source or a sink in memory
+abbrev pub plan_of : Calls → CallPlan
+plan_of calls = record {
+  failing_calls = calls.failing_calls.items;
+  next_call = calls.next_call;
+  greatest_piece = calls.greatest_piece;
+}
 
 -- the next call fails
 abbrev pub IsFailingNext : CallPlan → Type 0
-IsFailingNext plan = Contains plan.fails plan.calls
+IsFailingNext plan = Contains plan.failing_calls plan.next_call
 
 -- the plan after a call
 abbrev pub after_call : CallPlan → CallPlan
-after_call plan = record plan { calls = raised_count plan.calls 1 }
+after_call plan = record plan { next_call = raised_count plan.next_call 1 }
 
 -- a source in memory: its plan, the bytes still to come, and its counts
 pub record SourceState : Type 0 where
@@ -25,7 +34,7 @@ pub record SourceState : Type 0 where
 
 -- how many bytes the next read gives into so many places
 abbrev pub read_len : SourceState → ℕ → ℕ
-read_len source places = min source.plan.most (min places (length source.left))
+read_len source places = min source.plan.greatest_piece (min places (length source.left))
 
 -- the source after a read of n bytes
 abbrev pub after_read : SourceState → ℕ → SourceState
@@ -44,7 +53,7 @@ pub record SinkState : Type 0 where
 
 -- how many bytes of a piece the next write takes
 abbrev pub write_len : SinkState → List ℕ → ℕ
-write_len sink piece = min sink.plan.most (min (length piece) (sink.room - length sink.written))
+write_len sink piece = min sink.plan.greatest_piece (min (length piece) (sink.room - length sink.written))
 
 -- the sink after a write of n bytes of a piece
 abbrev pub after_write : SinkState → List ℕ → ℕ → SinkState

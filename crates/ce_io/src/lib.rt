@@ -3,6 +3,7 @@
 //! only where one came.
 #![tactic(auto)]
 
+mod calls;
 mod failed;
 mod memory_sink;
 mod memory_source;

@@ -1,6 +1,7 @@
 ghost use Rattle.std.specs.Prelude.{◌≡◌, ◌≤◌, ◌↔◌, ◌⊎◌, [], Some, IsErr, IfOk, OnErr, length};
 ghost use Rattle.ce_io.specs.Memory.{IsFailingNext, write_len, after_write, after_failed_write};
 
+use crate::calls::Calls;
 use crate::{Failed, Sink};
 use ce_model::NoMemory;
 use std::alloc::Global;
@@ -12,55 +13,53 @@ use std::marker::Model;
 pub struct MemSink {
     bytes: Vec<u8>,
     room: usize,
-    fails: Vec<u64>,
-    calls: u64,
-    most: usize,
-    faults: u64,
+    calls: Calls,
 }
 
 impl Model for MemSink {
     ghost use Rattle.std.specs.Prelude.{◌≤◌, vec_len, vec_capacity};
-    ghost use Rattle.ce_io.specs.Memory.{SinkState};
+    ghost use Rattle.ce_io.specs.Memory.{SinkState, plan_of};
 
     ghost Value = { SinkState };
 
     ghost view = { λ sink. record {
-      plan = record { fails = sink.fails.items; calls = sink.calls; most = sink.most };
+      plan = plan_of sink.calls;
       written = sink.bytes.items;
       room = sink.room;
-      faults = sink.faults;
+      faults = sink.calls.faults;
     } };
 
     ghost invariant = { λ sink. (vec_len sink.bytes ≤ sink.room)
-        × (sink.room ≤ vec_capacity sink.bytes) × (1 ≤ sink.most) };
+        × (sink.room ≤ vec_capacity sink.bytes) };
 }
 
 impl MemSink {
     /// A sink with room for `room` bytes, which are reserved here, so that no write takes memory. Its calls of
-    /// `write` are numbered from 0 up to 2^64 - 1, where the number stands still. Those whose number is in `fails`,
-    /// in any order, fail, and so does each that finds no room left. Each other takes as many bytes as `most`, the
-    /// piece and the room left allow. `NoMemory`: the room can't be reserved.
+    /// `write` are numbered from 0 up to 2^64 - 1, where the number stands still. Those whose number is in
+    /// `failing_calls`, in any order, fail, and so does each that finds no room left. Each other takes as many bytes
+    /// as `greatest_piece`, the piece and the room left allow. `NoMemory`: the room can't be reserved.
     pub fn new(
         alloc: Global,
         room: usize,
-        fails: Vec<u64>,
-        most: usize,
+        failing_calls: Vec<u64>,
+        greatest_piece: usize,
     ) -> Result<MemSink, NoMemory>
-        requires { 1 ≤ most }
+        requires { 1 ≤ greatest_piece }
         ensures written { IfOk result (λ sink. sink.written ≡ []) }
         ensures faults { IfOk result (λ sink. sink.faults ≡ 0) }
         ensures room { IfOk result (λ sink. sink.room ≡ room) }
         ensures plan { IfOk result (λ sink. sink.plan
-            ≡ record { fails = fails.items; calls = 0; most = most }) }
+            ≡ record {
+              failing_calls = failing_calls.items;
+              next_call = 0;
+              greatest_piece = greatest_piece;
+            }) }
     {
         let bytes = Vec::with_capacity(alloc, room)?;
         Ok(MemSink {
             bytes,
             room,
-            fails,
-            calls: 0,
-            most,
-            faults: 0,
+            calls: Calls::new(failing_calls, greatest_piece),
         })
     }
 
@@ -84,16 +83,11 @@ impl Sink for MemSink {
         ensures err { OnErr result (self.new ≡ after_failed_write self.old) }
         ensures ok { IfOk result (λ n. (n ≡ write_len self.old from.now)
             × (self.new ≡ after_write self.old from.now n)) }
-        ensures most { 1 ≤ self.old.plan.most }
+        ensures piece { 1 ≤ self.old.plan.greatest_piece }
     {
-        let call = self.calls;
-        self.calls = call.saturating_add(1);
         let free = self.room - self.bytes.len();
-        if free == 0 || self.fails.contains(&call) {
-            self.faults = self.faults.saturating_add(1);
-            return Err(Failed);
-        }
-        let count = from.len().min(free).min(self.most);
+        self.calls.begin(free == 0)?;
+        let count = from.len().min(free).min(self.calls.greatest_piece);
         self.bytes.extend_from_slice(&from[..count]).unwrap();
         Ok(count)
     }

@@ -1,6 +1,7 @@
 ghost use Rattle.std.specs.Prelude.{◌≡◌, ◌≤◌, ◌↔◌, Some, IsErr, IfOk, OnErr, length, take};
 ghost use Rattle.ce_io.specs.Memory.{IsFailingNext, read_len, after_read, after_failed_read};
 
+use crate::calls::Calls;
 use crate::{Failed, Source};
 use std::marker::Model;
 
@@ -10,47 +11,44 @@ use std::marker::Model;
 pub struct MemSource {
     bytes: Vec<u8>,
     position: usize,
-    fails: Vec<u64>,
-    calls: u64,
-    most: usize,
-    faults: u64,
+    calls: Calls,
 }
 
 impl Model for MemSource {
     ghost use Rattle.std.specs.Prelude.{◌≤◌, drop, vec_len};
-    ghost use Rattle.ce_io.specs.Memory.{SourceState};
+    ghost use Rattle.ce_io.specs.Memory.{SourceState, plan_of};
 
     ghost Value = { SourceState };
 
     ghost view = { λ source. record {
-      plan = record { fails = source.fails.items; calls = source.calls; most = source.most };
+      plan = plan_of source.calls;
       left = drop source.position source.bytes.items;
       given = source.position;
-      faults = source.faults;
+      faults = source.calls.faults;
     } };
 
-    ghost invariant = { λ source. (source.position ≤ vec_len source.bytes) × (1 ≤ source.most) };
+    ghost invariant = { λ source. source.position ≤ vec_len source.bytes };
 }
 
 impl MemSource {
     /// A source of `bytes`. Its calls of `read` are numbered from 0 up to 2^64 - 1, where the number stands still.
-    /// Those whose number is in `fails`, in any order, fail, and are counted. Each other gives as many bytes as
-    /// `most`, the buffer and the bytes left allow.
-    pub fn new(bytes: Vec<u8>, fails: Vec<u64>, most: usize) -> MemSource
-        requires { 1 ≤ most }
+    /// Those whose number is in `failing_calls`, in any order, fail, and are counted. Each other gives as many bytes
+    /// as `greatest_piece`, the buffer and the bytes left allow.
+    pub fn new(bytes: Vec<u8>, failing_calls: Vec<u64>, greatest_piece: usize) -> MemSource
+        requires { 1 ≤ greatest_piece }
         ensures left { result.left ≡ bytes.items }
         ensures given { result.given ≡ 0 }
         ensures faults { result.faults ≡ 0 }
-        ensures plan { result.plan
-            ≡ record { fails = fails.items; calls = 0; most = most } }
+        ensures plan { result.plan ≡ record {
+          failing_calls = failing_calls.items;
+          next_call = 0;
+          greatest_piece = greatest_piece;
+        } }
     {
         MemSource {
             bytes,
             position: 0,
-            fails,
-            calls: 0,
-            most,
-            faults: 0,
+            calls: Calls::new(failing_calls, greatest_piece),
         }
     }
 }
@@ -69,16 +67,11 @@ impl Source for MemSource {
         ensures ok { IfOk result (λ n. (n ≡ read_len self.old (length into.old))
             × (self.new ≡ after_read self.old n)) }
         ensures bytes { IfOk result (λ n. take n into.new ≡ take n self.old.left) }
-        ensures most { 1 ≤ self.old.plan.most }
+        ensures piece { 1 ≤ self.old.plan.greatest_piece }
     {
-        let call = self.calls;
-        self.calls = call.saturating_add(1);
-        if self.fails.contains(&call) {
-            self.faults = self.faults.saturating_add(1);
-            return Err(Failed);
-        }
+        self.calls.begin(false)?;
         let left = &self.bytes[self.position..];
-        let count = left.len().min(into.len()).min(self.most);
+        let count = left.len().min(into.len()).min(self.calls.greatest_piece);
         into[..count].copy_from_slice(&left[..count]);
         self.position += count;
         Ok(count)

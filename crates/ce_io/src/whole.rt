@@ -28,9 +28,9 @@ pub enum ReadError {
 }
 
 impl From<AllocError> for ReadError {
-    ghost use Rattle.ce_io.specs.ReadError.{IsNoMemory};
+    ghost use Rattle.ce_io.specs.ReadError.{IsReadNoMemory};
 
-    ghost from_gives = { λ _ e. IsNoMemory e };
+    ghost from_gives = { λ _ e. IsReadNoMemory e };
 
     fn from(fault: AllocError) -> Self {
         ReadError::Memory(NoMemory::from(fault))

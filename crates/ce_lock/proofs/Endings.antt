@@ -1,6 +1,7 @@
 -- The first seats of a book, and what its last ones leave.
-use Rattle.std.proofs.Common.{◌≡◌, ℕ, ◌+◌, ◌<◌, List, [], ◌∷◌, ◌++◌, map, length, get_or, refl, sym, ap, ◌∙◌, subst, inl, inr, ⊎_elim, lit<, Some, Option, arith, append_assoc}
+use Rattle.std.proofs.Common.{◌≡◌, ℕ, ◌+◌, ◌<◌, List, [], ◌∷◌, ◌++◌, map, length, get_or, refl, sym, ap, ◌∙◌, subst, ⊎_elim, lit<, Some, Option, arith, append_assoc}
 use Rattle.std.proofs.lemmas.List.{get_or_push, get_or_append_left}
+use Rattle.std.specs.List.{AllByRecursion, Contains}
 use mathlib.Core.Logic.{dite}
 use native.Mathlib.Decide.{ℕ_discrete}
 use Rattle.atomic_table.specs.Seated.{TableId}
@@ -8,17 +9,18 @@ use Rattle.atomic_table.specs.Table.{Me}
 use Rattle.ce_model.specs.declared.topology.TheConstants.{HOST}
 use Rattle.ce_lock.specs.declared.view.Last.{Last}
 use Rattle.ce_lock.specs.declared.view.View.{View}
-use Rattle.ce_lock.specs.Entries.{Every, IsIn, entries_of}
+use Rattle.ce_lock.specs.Entries.{entries_of}
 use Rattle.ce_lock.specs.Meanings.{Meanings}
 use Rattle.ce_lock.specs.OneOrder.{IsLast}
 use Rattle.ce_lock.specs.Telling.{fresh_head, last_of}
-use Rattle.ce_lock.specs.Sitting.{BookFacts, Sitting, IsOf, IsNewHead, IsHeadIn, IsWhole, IsSound, who}
+use Rattle.ce_lock.specs.Sitting.{BookFacts, Sitting, IsOf, IsNewHead, IsHeadIn, IsWholeSeat, IsSoundSeat, who}
+use Rattle.ce_lock.proofs.Members.{in_first, in_later, in_cases}
 use Rattle.ce_lock.proofs.Histories.{every_back}
 
 module _ {O E F : Type 0} (m : Meanings O E F) where
   -- a new head is sound
-  pub sound_head : ((f : F) → m.lawful f []) → (n : ℕ) (o : O) (heads : ℕ) (me : Me O (View O E)) → me ≡ (fresh_head o n heads, []) → IsSound m (record { family = n; actor = HOST }) me
-  sound_head empty n o heads me is = subst (IsSound m (record { family = n; actor = HOST })) (sym is) record {
+  pub sound_head : ((f : F) → m.lawful f []) → (n : ℕ) (o : O) (heads : ℕ) (me : Me O (View O E)) → me ≡ (fresh_head o n heads, []) → IsSoundSeat m (record { family = n; actor = HOST }) me
+  sound_head empty n o heads me is = subst (IsSoundSeat m (record { family = n; actor = HOST })) (sym is) record {
     opening = o;
     opening_is = refl;
     place = refl;
@@ -35,11 +37,11 @@ module _ {O E F : Type 0} (m : Meanings O E F) where
   }
 
   -- the heads that were joined away, as their seats
-  pub wholes : (book : BookFacts O) (h : List E) (ss : List (Sitting O E)) → Every (IsHeadIn m book) ss → Every (IsLast m h) (map (λ (s : Sitting O E). last_of s.1) ss) → Every (IsWhole m h) ss
+  pub wholes : (book : BookFacts O) (h : List E) (ss : List (Sitting O E)) → AllByRecursion (IsHeadIn m book) ss → AllByRecursion (IsLast m h) (map (λ (s : Sitting O E). last_of s.1) ss) → AllByRecursion (IsWholeSeat m h) ss
   wholes book h [] heads lasts = tt
   wholes book h (s ∷ ss) heads lasts = (
     record {
-      missed = lasts.0.missed;
+      missed_entries = lasts.0.missed_entries;
       whole = lasts.0.whole;
       own = ap (λ (a : ℕ). entries_of m.whose (record { family = s.1.right.family; actor = a }) h) heads.0.host ∙ lasts.0.own;
       others = lasts.0.others;
@@ -48,9 +50,11 @@ module _ {O E F : Type 0} (m : Meanings O E F) where
   )
 
 -- the families of the heads that were joined away
-pub covers : {O E : Type 0} (f : ℕ) (ss : List (Sitting O E)) → IsIn f (map (λ (s : Sitting O E). (who s).family) ss) → IsIn f (map (λ (l : Last E). l.family) (map (λ (s : Sitting O E). last_of s.1) ss))
+pub covers : {O E : Type 0} (f : ℕ) (ss : List (Sitting O E)) → Contains (map (λ (s : Sitting O E). (who s).family) ss) f → Contains (map (λ (l : Last E). l.family) (map (λ (s : Sitting O E). last_of s.1) ss)) f
 covers f [] h = h
-covers f (s ∷ ss) h = ⊎_elim (λ (t : f ≡ (who s).family). inl t) (λ (t : IsIn f (map (λ (x : Sitting _ _). (who x).family) ss)). inr (covers f ss t)) h
+covers f (s ∷ ss) h = let rest = map (λ (l : Last _). l.family) (map (λ (x : Sitting _ _). last_of x.1) ss) in
+    ⊎_elim (λ (t : f ≡ (who s).family). in_first f (who s).family rest t) (λ (t : Contains (map (λ (x : Sitting _ _). (who x).family) ss) f). in_later f (who s).family rest (covers f ss t))
+    (in_cases f (who s).family (map (λ (x : Sitting _ _). (who x).family) ss) h)
 
 module _ {O E F : Type 0} (m : Meanings O E F) (book : BookFacts O) where
   -- the seat of a new head is that of its family
@@ -72,8 +76,8 @@ module _ {O E F : Type 0} (m : Meanings O E F) (book : BookFacts O) where
       (λ ne. let below : k < length items = omega arith in subst (IsNewHead m book k) (sym (get_or_append_left items (s ∷ []) d k below)) (all k d (omega arith)))
 
   -- what holds of all heads holds of one among them
-  pub one_of : (front : List (Sitting O E)) (s : Sitting O E) (closed all : List (Sitting O E)) → front ++ s ∷ closed ≡ all → Every (IsHeadIn m book) all → IsHeadIn m book s
-  one_of front s closed all is heads = (every_back (IsHeadIn m book) front (s ∷ closed) (subst (Every (IsHeadIn m book)) (sym is) heads)).0
+  pub one_of : (front : List (Sitting O E)) (s : Sitting O E) (closed all : List (Sitting O E)) → front ++ s ∷ closed ≡ all → AllByRecursion (IsHeadIn m book) all → IsHeadIn m book s
+  one_of front s closed all is heads = (every_back (IsHeadIn m book) front (s ∷ closed) (subst (AllByRecursion (IsHeadIn m book)) (sym is) heads)).0
 
 module _ {O E : Type 0} where
   -- a seat of a book is of its table

@@ -1,36 +1,39 @@
 -- What a view tells of the history stays true, whatever is added to it.
 use Rattle.std.proofs.Common.{◌≡◌, ◌≢◌, ℕ, ◌<◌, ◌≤◌, Bool, true, false, cond, ◌&&◌, eqb, ltb, List, [], ◌∷◌, ◌++◌, length, refl, sym, ap, ◌∙◌, subst, inl, inr, ⊎_elim, ◌⊎◌, arith, eq-eqb, ne_eqb, append_assoc}
 use Rattle.std.proofs.lemmas.List.{append-nil}
+use Rattle.std.specs.List.{AllByRecursion, Contains}
 use mathlib.Core.Logic.{dite}
 use native.Mathlib.Decide.{ℕ_discrete, dec_lt}
 use Rattle.ce_model.specs.declared.topology.TheConstants.{HOST}
+use Rattle.ce_model.specs.Lists.{IsFront}
 use Rattle.ce_lock.specs.declared.who.Who.{Who}
 use Rattle.ce_lock.specs.declared.view.Right.{Right}
 use Rattle.ce_lock.specs.declared.view.Last.{Last}
 use Rattle.ce_lock.specs.declared.view.Page.{Page}
-use Rattle.ce_lock.specs.Entries.{IsPrefix, longer_list, Every, IsIn, is_of, entries_of, IsForeign}
+use Rattle.ce_lock.specs.Entries.{longer_list, is_of, entries_of, IsForeignEntry}
 use Rattle.ce_lock.specs.Meanings.{Meanings}
-use Rattle.ce_lock.specs.OneOrder.{who_of, IsMissable, IsLast, IsTold}
+use Rattle.ce_lock.specs.OneOrder.{who_of, IsMissable, IsLast, IsToldPage}
+use Rattle.ce_lock.proofs.Members.{in_none, in_later}
 
 module _ {A : Type 0} where
-  pub every_append : (P : A → Type 0) (xs ys : List A) → Every P xs → Every P ys → Every P (xs ++ ys)
+  pub every_append : (P : A → Type 0) (xs ys : List A) → AllByRecursion P xs → AllByRecursion P ys → AllByRecursion P (xs ++ ys)
   every_append P [] ys h k = k
   every_append P (x ∷ xs) ys h k = (h.0, every_append P xs ys h.1 k)
 
-  pub every_back : (P : A → Type 0) (xs ys : List A) → Every P (xs ++ ys) → Every P ys
+  pub every_back : (P : A → Type 0) (xs ys : List A) → AllByRecursion P (xs ++ ys) → AllByRecursion P ys
   every_back P [] ys h = h
   every_back P (x ∷ xs) ys h = every_back P xs ys h.1
 
-  pub every_map : (P Q : A → Type 0) → ((x : A) → P x → Q x) → (xs : List A) → Every P xs → Every Q xs
+  pub every_map : (P Q : A → Type 0) → ((x : A) → P x → Q x) → (xs : List A) → AllByRecursion P xs → AllByRecursion Q xs
   every_map P Q f [] h = tt
   every_map P Q f (x ∷ xs) h = (f x h.0, every_map P Q f xs h.1)
 
-  pub every_both : (P Q R : A → Type 0) → ((x : A) → P x → Q x → R x) → (xs : List A) → Every P xs → Every Q xs → Every R xs
+  pub every_both : (P Q R : A → Type 0) → ((x : A) → P x → Q x → R x) → (xs : List A) → AllByRecursion P xs → AllByRecursion Q xs → AllByRecursion R xs
   every_both P Q R f [] h k = tt
   every_both P Q R f (x ∷ xs) h k = (f x h.0 k.0, every_both P Q R f xs h.1 k.1)
 
-  pub prefix_grows : (xs ys zs : List A) → IsPrefix xs ys → IsPrefix xs (ys ++ zs)
-  prefix_grows xs ys zs p = record { rest = p.rest ++ zs; whole = sym (append_assoc xs p.rest zs) ∙ ap (λ (l : List A). l ++ zs) p.whole }
+  pub front_grows : (xs ys zs : List A) → IsFront xs ys → IsFront xs (ys ++ zs)
+  front_grows xs ys zs p = (p.0 ++ zs, sym (append_assoc xs p.0 zs) ∙ ap (λ (l : List A). l ++ zs) p.1)
 
   -- of two front parts the shorter is one of the longer
   pub between : (xs a ys b : List A) → xs ++ a ≡ ys ++ b → length xs ≤ length ys → (mid : List A) × (xs ++ mid ≡ ys) × (a ≡ mid ++ b)
@@ -66,7 +69,7 @@ module _ {A : Type 0} where
 
 module _ {E : Type 0} (whose : E → Who) where
   -- an entry that isn't of the actor
-  pub not_of : (alone : E → Bool) (who : Who) (e : E) → IsForeign whose alone who e → is_of whose who e ≡ false
+  pub not_of : (alone : E → Bool) (who : Who) (e : E) → IsForeignEntry whose alone who e → is_of whose who e ≡ false
   not_of alone who e f = ⊎_elim
       (λ (t : (whose e).family ≢ who.family). ap (λ b. b && eqb (whose e).actor who.actor) (ne_eqb (whose e).family who.family t))
       (λ (t : ((whose e).actor ≢ who.actor) × (alone e ≡ false)). ap (λ b. eqb (whose e).family who.family && b) (ne_eqb (whose e).actor who.actor t.0) ∙ none_and (eqb (whose e).family who.family)) f
@@ -87,7 +90,7 @@ module _ {E : Type 0} (whose : E → Who) where
       by_case true e = ap (λ (l : List E). x ∷ l) e
       by_case false e = e
 
-  pub own_none : (who : Who) (xs : List E) → Every (λ e. is_of whose who e ≡ false) xs → entries_of whose who xs ≡ []
+  pub own_none : (who : Who) (xs : List E) → AllByRecursion (λ e. is_of whose who e ≡ false) xs → entries_of whose who xs ≡ []
   own_none who [] h = refl
   own_none who (x ∷ xs) h = ap (λ b. cond b (x ∷ entries_of whose who xs) (entries_of whose who xs)) h.0 ∙ own_none who xs h.1
 
@@ -100,145 +103,145 @@ module _ {E : Type 0} (whose : E → Who) where
   own_mine who xs e h = own_append who xs (e ∷ []) ∙ ap (λ b. entries_of whose who xs ++ cond b (e ∷ []) []) h
 
   -- what is missed has none of the actor's
-  pub own_missed : (alone : E → Bool) (who : Who) (seen missed : List E) → Every (IsForeign whose alone who) missed → entries_of whose who (seen ++ missed) ≡ entries_of whose who seen
-  own_missed alone who seen missed f = own_append who seen missed ∙ (ap (λ (l : List E). entries_of whose who seen ++ l) (own_none who missed (every_map (IsForeign whose alone who) (λ e. is_of whose who e ≡ false) (not_of alone who) missed f)) ∙ append-nil (entries_of whose who seen))
+  pub own_missed : (alone : E → Bool) (who : Who) (seen missed_entries : List E) → AllByRecursion (IsForeignEntry whose alone who) missed_entries → entries_of whose who (seen ++ missed_entries) ≡ entries_of whose who seen
+  own_missed alone who seen missed_entries f = own_append who seen missed_entries ∙ (ap (λ (l : List E). entries_of whose who seen ++ l) (own_none who missed_entries (every_map (IsForeignEntry whose alone who) (λ e. is_of whose who e ≡ false) (not_of alone who) missed_entries f)) ∙ append-nil (entries_of whose who seen))
 
 module _ {O E F : Type 0} (m : Meanings O E F) (opening : O) where
-  foreign_of : (r : Right) (e : E) → IsMissable m r e → IsForeign m.whose m.alone (who_of r) e
+  foreign_of : (r : Right) (e : E) → IsMissable m r e → IsForeignEntry m.whose m.alone (who_of r) e
   foreign_of r e h = h.0
 
-  pub foreign_missed : (r : Right) (es : List E) → Every (IsMissable m r) es → Every (IsForeign m.whose m.alone (who_of r)) es
-  foreign_missed r es h = every_map (IsMissable m r) (IsForeign m.whose m.alone (who_of r)) (foreign_of r) es h
+  pub foreign_missed : (r : Right) (es : List E) → AllByRecursion (IsMissable m r) es → AllByRecursion (IsForeignEntry m.whose m.alone (who_of r)) es
+  foreign_missed r es h = every_map (IsMissable m r) (IsForeignEntry m.whose m.alone (who_of r)) (foreign_of r) es h
 
   last_grows : (h : List E) (e : E) (l : Last E) → IsLast m h l → (m.whose e).family ≢ l.family → IsLast m (h ++ e ∷ []) l
   last_grows h e l is ne = record {
-    missed = is.missed ++ e ∷ [];
-    whole = sym (append_assoc l.seen is.missed (e ∷ [])) ∙ ap (λ (x : List E). x ++ e ∷ []) is.whole;
+    missed_entries = is.missed_entries ++ e ∷ [];
+    whole = sym (append_assoc l.seen is.missed_entries (e ∷ [])) ∙ ap (λ (x : List E). x ++ e ∷ []) is.whole;
     own = own_other m.whose (record { family = l.family; actor = HOST }) h e (not_of m.whose m.alone (record { family = l.family; actor = HOST }) e (inl ne)) ∙ is.own;
-    others = every_append (λ x. (m.whose x).family ≢ l.family) is.missed (e ∷ []) is.others (ne, tt);
+    others = every_append (λ x. (m.whose x).family ≢ l.family) is.missed_entries (e ∷ []) is.others (ne, tt);
   }
 
-  lasts_grow : (h : List E) (e : E) (ls : List (Last E)) → Every (IsLast m h) ls → Every (λ l. (m.whose e).family ≢ l.family) ls → Every (IsLast m (h ++ e ∷ [])) ls
+  lasts_grow : (h : List E) (e : E) (ls : List (Last E)) → AllByRecursion (IsLast m h) ls → AllByRecursion (λ l. (m.whose e).family ≢ l.family) ls → AllByRecursion (IsLast m (h ++ e ∷ [])) ls
   lasts_grow h e ls is ne = every_both (IsLast m h) (λ l. (m.whose e).family ≢ l.family) (IsLast m (h ++ e ∷ [])) (last_grows h e) ls is ne
 
   -- another's entry is added
-  pub told_grows : (h : List E) (r : Right) (p : Page O E) (e : E) → IsTold m opening h r p → (r.may_draw ≡ true → IsMissable m r e) → Every (λ l. (m.whose e).family ≢ l.family) p.joined_heads
-      → IsTold m opening (h ++ e ∷ []) r p
+  pub told_grows : (h : List E) (r : Right) (p : Page O E) (e : E) → IsToldPage m opening h r p → (r.may_draw ≡ true → IsMissable m r e) → AllByRecursion (λ l. (m.whose e).family ≢ l.family) p.joined_heads
+      → IsToldPage m opening (h ++ e ∷ []) r p
   told_grows h r p e t fine apart = record {
     opening_is = t.opening_is;
-    missed = t.missed ++ e ∷ [];
-    whole = sym (append_assoc p.seen t.missed (e ∷ [])) ∙ ap (λ (x : List E). x ++ e ∷ []) t.whole;
-    missable = λ d. every_append (IsMissable m r) t.missed (e ∷ []) (t.missable d) (fine d, tt);
+    missed_entries = t.missed_entries ++ e ∷ [];
+    whole = sym (append_assoc p.seen t.missed_entries (e ∷ [])) ∙ ap (λ (x : List E). x ++ e ∷ []) t.whole;
+    missable = λ d. every_append (IsMissable m r) t.missed_entries (e ∷ []) (t.missable d) (fine d, tt);
     own = λ d. own_other m.whose (who_of r) h e (not_of m.whose m.alone (who_of r) e (fine d).0) ∙ t.own d;
-    older_histories = every_map (λ old. IsPrefix old h) (λ old. IsPrefix old (h ++ e ∷ [])) (λ old x. prefix_grows old h (e ∷ []) x) p.older_histories t.older_histories;
+    older_histories = every_map (λ old. IsFront old h) (λ old. IsFront old (h ++ e ∷ [])) (λ old x. front_grows old h (e ∷ []) x) p.older_histories t.older_histories;
     joined_heads = lasts_grow h e p.joined_heads t.joined_heads apart;
   }
 
   -- its own entry is added, after it has seen all
-  pub told_wrote : (h : List E) (r : Right) (p : Page O E) (e : E) → IsTold m opening h r p → p.seen ≡ h → m.whose e ≡ who_of r → Every (λ l. (m.whose e).family ≢ l.family) p.joined_heads
-      → IsTold m opening (h ++ e ∷ []) r (record p { seen = p.seen ++ e ∷ []; mine = p.mine ++ e ∷ [] })
+  pub told_wrote : (h : List E) (r : Right) (p : Page O E) (e : E) → IsToldPage m opening h r p → p.seen ≡ h → m.whose e ≡ who_of r → AllByRecursion (λ l. (m.whose e).family ≢ l.family) p.joined_heads
+      → IsToldPage m opening (h ++ e ∷ []) r (record p { seen = p.seen ++ e ∷ []; mine = p.mine ++ e ∷ [] })
   told_wrote h r p e t all mine apart = record {
     opening_is = t.opening_is;
-    missed = [];
+    missed_entries = [];
     whole = append-nil (p.seen ++ e ∷ []) ∙ ap (λ (x : List E). x ++ e ∷ []) all;
     missable = λ d. tt;
     own = λ d. own_mine m.whose (who_of r) h e (of_actor m.whose (who_of r) e mine) ∙ (ap (λ (x : List E). x ++ e ∷ []) (t.own d) ∙ append_assoc p.earlier p.mine (e ∷ []));
-    older_histories = every_map (λ old. IsPrefix old h) (λ old. IsPrefix old (h ++ e ∷ [])) (λ old x. prefix_grows old h (e ∷ []) x) p.older_histories t.older_histories;
+    older_histories = every_map (λ old. IsFront old h) (λ old. IsFront old (h ++ e ∷ [])) (λ old x. front_grows old h (e ∷ []) x) p.older_histories t.older_histories;
     joined_heads = lasts_grow h e p.joined_heads t.joined_heads apart;
   }
 
   -- it sees all
-  pub told_reads : (h : List E) (r : Right) (p : Page O E) → IsTold m opening h r p → IsTold m opening h r (record p { seen = h })
-  told_reads h r p t = record { opening_is = t.opening_is; missed = []; whole = append-nil h; missable = λ d. tt; own = t.own; older_histories = t.older_histories; joined_heads = t.joined_heads }
+  pub told_reads : (h : List E) (r : Right) (p : Page O E) → IsToldPage m opening h r p → IsToldPage m opening h r (record p { seen = h })
+  told_reads h r p t = record { opening_is = t.opening_is; missed_entries = []; whole = append-nil h; missable = λ d. tt; own = t.own; older_histories = t.older_histories; joined_heads = t.joined_heads }
 
   -- the look after a join
-  pub told_settles : (h : List E) (r : Right) (p : Page O E) → IsTold m opening h r p → IsTold m opening h r (record p { older_histories = [] })
-  told_settles h r p t = record { opening_is = t.opening_is; missed = t.missed; whole = t.whole; missable = t.missable; own = t.own; older_histories = tt; joined_heads = t.joined_heads }
+  pub told_settles : (h : List E) (r : Right) (p : Page O E) → IsToldPage m opening h r p → IsToldPage m opening h r (record p { older_histories = [] })
+  told_settles h r p t = record { opening_is = t.opening_is; missed_entries = t.missed_entries; whole = t.whole; missable = t.missable; own = t.own; older_histories = tt; joined_heads = t.joined_heads }
 
   -- a copy, of a view that may not draw
-  pub told_copy : (h : List E) (r r' : Right) (p : Page O E) (earlier : List E) → IsTold m opening h r p → r'.may_draw ≡ false
-      → IsTold m opening h r' (record { opening = p.opening; seen = p.seen; earlier = earlier; mine = []; older_histories = []; joined_heads = [] })
-  told_copy h r r' p earlier t none = record { opening_is = t.opening_is; missed = t.missed; whole = t.whole; missable = λ d. never d; own = λ d. never d; older_histories = tt; joined_heads = tt }
+  pub told_copy : (h : List E) (r r' : Right) (p : Page O E) (earlier : List E) → IsToldPage m opening h r p → r'.may_draw ≡ false
+      → IsToldPage m opening h r' (record { opening = p.opening; seen = p.seen; earlier = earlier; mine = []; older_histories = []; joined_heads = [] })
+  told_copy h r r' p earlier t none = record { opening_is = t.opening_is; missed_entries = t.missed_entries; whole = t.whole; missable = λ d. never d; own = λ d. never d; older_histories = tt; joined_heads = tt }
     where
       never : {P : Type 0} → r'.may_draw ≡ true → P
       never d = absurd (cc (none, d))
 
   -- a copy for an actor of which there are no entries
-  pub told_fresh : (h : List E) (r r' : Right) (p : Page O E) → IsTold m opening h r p → Every (λ e. (m.whose e).family ≢ r'.family) h
-      → IsTold m opening h r' (record { opening = p.opening; seen = p.seen; earlier = []; mine = []; older_histories = []; joined_heads = [] })
+  pub told_fresh : (h : List E) (r r' : Right) (p : Page O E) → IsToldPage m opening h r p → AllByRecursion (λ e. (m.whose e).family ≢ r'.family) h
+      → IsToldPage m opening h r' (record { opening = p.opening; seen = p.seen; earlier = []; mine = []; older_histories = []; joined_heads = [] })
   told_fresh h r r' p t none = record {
     opening_is = t.opening_is;
-    missed = t.missed;
+    missed_entries = t.missed_entries;
     whole = t.whole;
-    missable = λ d. every_map (λ e. (m.whose e).family ≢ r'.family) (IsMissable m r') (λ e ne. (inl ne, λ _ same. absurd (ne same))) t.missed
-        (every_back (λ e. (m.whose e).family ≢ r'.family) p.seen t.missed (subst (Every (λ e. (m.whose e).family ≢ r'.family)) (sym t.whole) none));
+    missable = λ d. every_map (λ e. (m.whose e).family ≢ r'.family) (IsMissable m r') (λ e ne. (inl ne, λ _ same. absurd (ne same))) t.missed_entries
+        (every_back (λ e. (m.whose e).family ≢ r'.family) p.seen t.missed_entries (subst (AllByRecursion (λ e. (m.whose e).family ≢ r'.family)) (sym t.whole) none));
     own = λ d. own_none m.whose (who_of r') h (every_map (λ e. (m.whose e).family ≢ r'.family) (λ e. is_of m.whose (who_of r') e ≡ false) (λ e ne. not_of m.whose m.alone (who_of r') e (inl ne)) h none);
     older_histories = tt;
     joined_heads = tt;
   }
 
   -- a copy for an actor that a head sends out
-  pub told_sent : (h : List E) (r : Right) (p : Page O E) (a : ℕ) → IsTold m opening h r p → r.may_draw ≡ true → r.actor ≡ HOST → a ≢ HOST → ¬ IsIn a r.absent_actors
-      → IsTold m opening h (record { is_spent = false; may_draw = true; family = r.family; actor = a; heads = 0; absent_actors = [] })
+  pub told_sent : (h : List E) (r : Right) (p : Page O E) (a : ℕ) → IsToldPage m opening h r p → r.may_draw ≡ true → r.actor ≡ HOST → a ≢ HOST → ¬ Contains r.absent_actors a
+      → IsToldPage m opening h (record { is_spent = false; may_draw = true; family = r.family; actor = a; heads = 0; absent_actors = [] })
       (record { opening = p.opening; seen = p.seen; earlier = entries_of m.whose (record { family = r.family; actor = a }) p.seen; mine = []; older_histories = []; joined_heads = [] })
   told_sent h r p a t d host other free = let r' : Right = record { is_spent = false; may_draw = true; family = r.family; actor = a; heads = 0; absent_actors = [] } in
-      let fine : Every (IsMissable m r') t.missed = every_map (IsMissable m r) (IsMissable m r') (λ e x. (worker e x, λ is. absurd (other is))) t.missed (t.missable d) in record {
+      let fine : AllByRecursion (IsMissable m r') t.missed_entries = every_map (IsMissable m r) (IsMissable m r') (λ e x. (worker e x, λ is. absurd (other is))) t.missed_entries (t.missable d) in record {
         opening_is = t.opening_is;
-        missed = t.missed;
+        missed_entries = t.missed_entries;
         whole = t.whole;
         missable = λ _. fine;
         own = λ _. ap (entries_of m.whose (record { family = r.family; actor = a })) (sym t.whole)
-            ∙ (own_missed m.whose m.alone (record { family = r.family; actor = a }) p.seen t.missed (foreign_missed r' t.missed fine) ∙ sym (append-nil (entries_of m.whose (record { family = r.family; actor = a }) p.seen)));
+            ∙ (own_missed m.whose m.alone (record { family = r.family; actor = a }) p.seen t.missed_entries (foreign_missed r' t.missed_entries fine) ∙ sym (append-nil (entries_of m.whose (record { family = r.family; actor = a }) p.seen)));
         older_histories = tt;
         joined_heads = tt;
       }
     where
-      worker : (e : E) → IsMissable m r e → IsForeign m.whose m.alone (record { family = r.family; actor = a }) e
+      worker : (e : E) → IsMissable m r e → IsForeignEntry m.whose m.alone (record { family = r.family; actor = a }) e
       worker e x = dite (ℕ_discrete (m.whose e).family r.family)
-          (λ same. inr ((λ is. free (subst (λ (z : ℕ). IsIn z r.absent_actors) is (x.1 host same))), ⊎_elim (λ (z : (m.whose e).family ≢ r.family). absurd (z same)) (λ (z : ((m.whose e).actor ≢ r.actor) × (m.alone e ≡ false)). z.1) x.0))
+          (λ same. inr ((λ is. free (subst (λ (z : ℕ). Contains r.absent_actors z) is (x.1 host same))), ⊎_elim (λ (z : (m.whose e).family ≢ r.family). absurd (z same)) (λ (z : ((m.whose e).actor ≢ r.actor) × (m.alone e ≡ false)). z.1) x.0))
           (λ ne. inl ne)
 
   -- the head that sends it out
-  pub told_sender : (h : List E) (r : Right) (p : Page O E) (a : ℕ) → IsTold m opening h r p → IsTold m opening h (record r { absent_actors = a ∷ r.absent_actors }) p
+  pub told_sender : (h : List E) (r : Right) (p : Page O E) (a : ℕ) → IsToldPage m opening h r p → IsToldPage m opening h (record r { absent_actors = a ∷ r.absent_actors }) p
   told_sender h r p a t = record {
     opening_is = t.opening_is;
-    missed = t.missed;
+    missed_entries = t.missed_entries;
     whole = t.whole;
-    missable = λ d. every_map (IsMissable m r) (IsMissable m (record r { absent_actors = a ∷ r.absent_actors })) (λ e x. (x.0, λ host same. inr (x.1 host same))) t.missed (t.missable d);
+    missable = λ d. every_map (IsMissable m r) (IsMissable m (record r { absent_actors = a ∷ r.absent_actors })) (λ e x. (x.0, λ host same. in_later (m.whose e).actor a r.absent_actors (x.1 host same))) t.missed_entries (t.missable d);
     own = t.own;
     older_histories = t.older_histories;
     joined_heads = t.joined_heads;
   }
 
   -- a view takes in what another has seen: here with what it may have missed then, and its right then
-  pub told_joins : (h : List E) (r r' : Right) (p : Page O E) (seen missed : List E) (lasts : List (Last E)) → IsTold m opening h r p → seen ++ missed ≡ h → who_of r' ≡ who_of r → r'.may_draw ≡ r.may_draw
-      → Every (IsLast m h) lasts
-      → (r.may_draw ≡ true → (es : List E) → Every (IsMissable m r) es → (mid : List E) → mid ++ es ≡ missed → Every (IsMissable m r') es)
-      → IsTold m opening h r' (record p { seen = longer_list p.seen seen; older_histories = p.seen ∷ seen ∷ p.older_histories; joined_heads = lasts })
-  told_joins h r r' p seen missed lasts t whole who draws lasts_are fine = ⊎_elim
-      (λ (x : (longer_list p.seen seen ≡ p.seen) × ((mid : List E) × (seen ++ mid ≡ p.seen) × (missed ≡ mid ++ t.missed))).
-      joined t.missed (ap (λ (l : List E). l ++ t.missed) x.0 ∙ t.whole) (λ d. fine d t.missed (t.missable d) x.1.0 (sym x.1.2)))
-      (λ (x : (longer_list p.seen seen ≡ seen) × ((mid : List E) × (p.seen ++ mid ≡ seen) × (t.missed ≡ mid ++ missed))).
-      joined missed (ap (λ (l : List E). l ++ missed) x.0 ∙ whole) (λ d. fine d missed (every_back (IsMissable m r) x.1.0 missed (subst (Every (IsMissable m r)) x.1.2 (t.missable d))) [] refl))
-      (longer_is p.seen t.missed seen missed h t.whole whole)
+  pub told_joins : (h : List E) (r r' : Right) (p : Page O E) (seen missed_entries : List E) (lasts : List (Last E)) → IsToldPage m opening h r p → seen ++ missed_entries ≡ h → who_of r' ≡ who_of r → r'.may_draw ≡ r.may_draw
+      → AllByRecursion (IsLast m h) lasts
+      → (r.may_draw ≡ true → (es : List E) → AllByRecursion (IsMissable m r) es → (mid : List E) → mid ++ es ≡ missed_entries → AllByRecursion (IsMissable m r') es)
+      → IsToldPage m opening h r' (record p { seen = longer_list p.seen seen; older_histories = p.seen ∷ seen ∷ p.older_histories; joined_heads = lasts })
+  told_joins h r r' p seen missed_entries lasts t whole who draws lasts_are fine = ⊎_elim
+      (λ (x : (longer_list p.seen seen ≡ p.seen) × ((mid : List E) × (seen ++ mid ≡ p.seen) × (missed_entries ≡ mid ++ t.missed_entries))).
+      joined t.missed_entries (ap (λ (l : List E). l ++ t.missed_entries) x.0 ∙ t.whole) (λ d. fine d t.missed_entries (t.missable d) x.1.0 (sym x.1.2)))
+      (λ (x : (longer_list p.seen seen ≡ seen) × ((mid : List E) × (p.seen ++ mid ≡ seen) × (t.missed_entries ≡ mid ++ missed_entries))).
+      joined missed_entries (ap (λ (l : List E). l ++ missed_entries) x.0 ∙ whole) (λ d. fine d missed_entries (every_back (IsMissable m r) x.1.0 missed_entries (subst (AllByRecursion (IsMissable m r)) x.1.2 (t.missable d))) [] refl))
+      (longer_is p.seen t.missed_entries seen missed_entries h t.whole whole)
     where
-      joined : (left : List E) → longer_list p.seen seen ++ left ≡ h → (r.may_draw ≡ true → Every (IsMissable m r') left) → IsTold m opening h r' (record p { seen = longer_list p.seen seen; older_histories = p.seen ∷ seen ∷ p.older_histories; joined_heads = lasts })
+      joined : (left : List E) → longer_list p.seen seen ++ left ≡ h → (r.may_draw ≡ true → AllByRecursion (IsMissable m r') left) → IsToldPage m opening h r' (record p { seen = longer_list p.seen seen; older_histories = p.seen ∷ seen ∷ p.older_histories; joined_heads = lasts })
       joined left is missable = record {
         opening_is = t.opening_is;
-        missed = left;
+        missed_entries = left;
         whole = is;
         missable = λ d. missable (sym draws ∙ d);
         own = λ d. ap (λ (w : Who). entries_of m.whose w h) who ∙ t.own (sym draws ∙ d);
-        older_histories = (record { rest = t.missed; whole = t.whole }, (record { rest = missed; whole = whole }, t.older_histories));
+        older_histories = ((t.missed_entries, t.whole), ((missed_entries, whole), t.older_histories));
         joined_heads = lasts_are;
       }
 
   -- what is kept of a head with nobody out
-  pub told_last : (h : List E) (r : Right) (p : Page O E) → IsTold m opening h r p → r.may_draw ≡ true → r.actor ≡ HOST → r.absent_actors ≡ [] → p.earlier ≡ []
+  pub told_last : (h : List E) (r : Right) (p : Page O E) → IsToldPage m opening h r p → r.may_draw ≡ true → r.actor ≡ HOST → r.absent_actors ≡ [] → p.earlier ≡ []
       → IsLast m h (record { family = r.family; mine = p.mine; seen = p.seen })
   told_last h r p t d host nobody_out none = record {
-    missed = t.missed;
+    missed_entries = t.missed_entries;
     whole = t.whole;
     own = ap (λ (a : ℕ). entries_of m.whose (record { family = r.family; actor = a }) h) (sym host) ∙ (t.own d ∙ ap (λ (l : List E). l ++ p.mine) none);
-    others = every_map (IsMissable m r) (λ e. (m.whose e).family ≢ r.family) (λ e x same. let there : IsIn (m.whose e).actor [] = subst (IsIn (m.whose e).actor) nobody_out (x.1 host same) in there) t.missed (t.missable d);
+    others = every_map (IsMissable m r) (λ e. (m.whose e).family ≢ r.family) (λ e x same. let there : Contains [] (m.whose e).actor = subst (λ (xs : List ℕ). Contains xs (m.whose e).actor) nobody_out (x.1 host same) in in_none (m.whose e).actor there) t.missed_entries (t.missable d);
   }

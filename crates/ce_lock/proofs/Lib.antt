@@ -1,3 +1,4 @@
+pub mod Members
 pub mod Seats
 pub mod Tickets
 pub mod Fair

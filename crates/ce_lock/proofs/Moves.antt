@@ -2,6 +2,7 @@
 use Rattle.std.proofs.Common.{◌≡◌, ◌≢◌, ℕ, suc, ◌+◌, ◌-◌, ◌*◌, ◌^◌, ◌%◌, ◌<◌, ◌≤◌, Bool, true, false, List, [], ◌∷◌, ◌++◌, map, length, get_or, set, refl, sym, ap, ◌∙◌, subst, inl, inr, ⊎_elim, ◌⊎◌, arith, Some, add-one, length-append}
 use Rattle.std.proofs.Math.Nat.{mod-add-mod, mod-eq_of_lt}
 use Rattle.std.proofs.lemmas.List.{append_cancel_left, length_push}
+use Rattle.std.specs.List.{AllByRecursion, Contains}
 use mathlib.Core.Logic.{dite}
 use mathlib.Core.Option.{Option, some, none}
 use native.Mathlib.Decide.{ℕ_discrete}
@@ -10,15 +11,17 @@ use lib.Seq.{set-get_or, map-set}
 use Rattle.atomic_table.specs.Table.{State, Me, keeps, takes, gives, put_back, rest, Allows}
 use Rattle.atomic_table.proofs.Lists.{set_again, at_map, set_here}
 use Rattle.ce_model.specs.declared.topology.TheConstants.{HOST}
+use Rattle.ce_model.specs.Lists.{IsFront}
 use Rattle.ce_lock.specs.declared.who.Who.{Who}
 use Rattle.ce_lock.specs.declared.view.QueuePlace.{QueuePlace}
 use Rattle.ce_lock.specs.declared.view.Right.{Right}
 use Rattle.ce_lock.specs.declared.view.Last.{Last}
 use Rattle.ce_lock.specs.declared.view.View.{View}
-use Rattle.ce_lock.specs.Entries.{IsPrefix, Every, AtEach, IsIn, entries_of}
+use Rattle.ce_lock.specs.Entries.{AtEach, entries_of}
 use Rattle.ce_lock.specs.Meanings.{Meanings}
-use Rattle.ce_lock.specs.OneOrder.{IsQueue, IsFair, IsGone, who_of, IsMissable, IsTold, IsInOrder}
-use Rattle.ce_lock.specs.Telling.{idle_place, place_waiting, served_place, place_holding, view_at, view_with_seen, view_after_entry, settled_view, HasDrawn, HasLooked, HasGiven, HasLeft, HasTaken, HasCommitted, IsSettled}
+use Rattle.ce_lock.specs.OneOrder.{IsQueue, IsFair, IsGone, who_of, IsMissable, IsToldPage, IsBookInOrder}
+use Rattle.ce_lock.specs.Telling.{idle_place, place_waiting, served_place, place_holding, view_at, view_with_seen, view_after_entry, settled_view, HasDrawn, HasLookedAtTicket, HasGivenObject, HasLeft, HasTakenObject, HasCommitted, IsSettled}
+use Rattle.ce_lock.proofs.Members.{in_none}
 use Rattle.ce_lock.proofs.Seats.{at_same, at_other, at_one, at_unmap, map_kept, each_kept, each_set, each_unset}
 use Rattle.ce_lock.proofs.Tickets.{retell, draw, leave, one_at_turn, served}
 use Rattle.ce_lock.proofs.Fair.{its_head}
@@ -69,7 +72,7 @@ module _ {O E F : Type 0} (m : Meanings O E F) (opening : O) (families : ℕ) wh
   M = Me O V
 
   abbrev pub IsRuled : St → Type 0
-  IsRuled = IsInOrder m opening families
+  IsRuled = IsBookInOrder m opening families
 
   abbrev pub place_of : V → QueuePlace
   place_of v = v.place
@@ -102,7 +105,7 @@ module _ {O E F : Type 0} (m : Meanings O E F) (opening : O) (families : ℕ) wh
 
   -- a step that makes no entry, of a view that keeps its right
   turns : (s : St) (r : IsRuled s) (id : ℕ) (v w : V) → get_elem? s.views id ≡ some v → w.right ≡ v.right → w.page.joined_heads ≡ v.page.joined_heads
-      → (w.right.is_spent ≡ false → IsTold m opening r.history w.right w.page) → (v.page.seen ≡ r.history → w.page.seen ≡ r.history)
+      → (w.right.is_spent ≡ false → IsToldPage m opening r.history w.right w.page) → (v.page.seen ≡ r.history → w.page.seen ≡ r.history)
       → (now next : ℕ) (words : List ℕ) → words ≡ next % 2 ^ 64 ∷ now % 2 ^ 64 ∷ length r.history ∷ [] → IsQueue now next (set (map place_of s.views) id w.place)
       → (w.place.has_ticket ≡ true → w.right.may_draw ≡ true) → (homes : List (Option O)) → (AtEach (set s.views id w) (λ u. u.place.out ≡ false) → IsHome homes r.history)
       → (w.place.out ≡ true → w.page.seen ≡ r.history) → IsRuled record { words = words; homes = homes; views = set s.views id w }
@@ -119,12 +122,12 @@ module _ {O E F : Type 0} (m : Meanings O E F) (opening : O) (families : ℕ) wh
         entitled = each_kept (λ (u : V). u.place.has_ticket ≡ true → u.right.may_draw ≡ true) s.views id w entitled r.entitled;
         home = home;
         informed = each_kept (λ (u : V). u.place.out ≡ true → u.page.seen ≡ r.history) s.views id w informed r.informed;
-        told = each_kept (λ (u : V). u.right.is_spent ≡ false → IsTold m opening r.history u.right u.page) s.views id w told r.told;
-        gone = subst (λ (rs : List Right). AtEach (set s.views id w) (λ u. Every (λ l. IsGone rs l.family) u.page.joined_heads)) (sym rights)
-            (each_kept (λ (u : V). Every (λ l. IsGone (map right_of s.views) l.family) u.page.joined_heads) s.views id w
-            (subst (λ (ls : List (Last E)). Every (λ l. IsGone (map right_of s.views) l.family) ls) (sym lasts) (r.gone id v at)) r.gone);
-        made = each_kept (λ (u : V). 0 < u.right.heads → Every (λ e. (m.whose e).family < u.right.heads) r.history) s.views id w
-            (subst (λ (z : Right). 0 < z.heads → Every (λ e. (m.whose e).family < z.heads) r.history) (sym right) (r.made id v at)) r.made;
+        told = each_kept (λ (u : V). u.right.is_spent ≡ false → IsToldPage m opening r.history u.right u.page) s.views id w told r.told;
+        gone = subst (λ (rs : List Right). AtEach (set s.views id w) (λ u. AllByRecursion (λ l. IsGone rs l.family) u.page.joined_heads)) (sym rights)
+            (each_kept (λ (u : V). AllByRecursion (λ l. IsGone (map right_of s.views) l.family) u.page.joined_heads) s.views id w
+            (subst (λ (ls : List (Last E)). AllByRecursion (λ l. IsGone (map right_of s.views) l.family) ls) (sym lasts) (r.gone id v at)) r.gone);
+        made = each_kept (λ (u : V). 0 < u.right.heads → AllByRecursion (λ e. (m.whose e).family < u.right.heads) r.history) s.views id w
+            (subst (λ (z : Right). 0 < z.heads → AllByRecursion (λ e. (m.whose e).family < z.heads) r.history) (sym right) (r.made id v at)) r.made;
         longest = longest_kept s.views r.history id v w at (ap (λ (z : Right). z.is_spent) right) seen r.longest;
       }
 
@@ -184,7 +187,7 @@ module _ {O E F : Type 0} (m : Meanings O E F) (opening : O) (families : ℕ) wh
         record { ticket = r.next; found_is = sym word; after_is = refl },
       )
 
-  pub looks : (slots id : ℕ) (me : M) (t : ℕ) → me.0.place ≡ place_waiting t → Allows IsRuled slots id me 1 (λ n. n) (HasLooked me)
+  pub looks : (slots id : ℕ) (me : M) (t : ℕ) → me.0.place ≡ place_waiting t → Allows IsRuled slots id me 1 (λ n. n) (HasLookedAtTicket me)
   looks slots id me t is s r _ at _ =
       let word : get_or s.words 1 0 ≡ r.now % 2 ^ 64 = ap (λ (l : List ℕ). get_or l 1 0) r.words in
       let drawn : me.0.place.has_ticket ≡ true = ap (λ (p : QueuePlace). p.has_ticket) is in let ticket : me.0.place.ticket ≡ t = ap (λ (p : QueuePlace). p.ticket) is in
@@ -215,35 +218,35 @@ module _ {O E F : Type 0} (m : Meanings O E F) (opening : O) (families : ℕ) wh
       ap (λ (z : V). z.place.out) (sym (at_one s.views id v u at (ap (get_elem? s.views) same ∙ e))) ∙ in_)
       (λ (i : u.place.out ≡ false). i) (is_true_or_false u.place.out)
 
-  pub takes_out : (slots id : ℕ) (me : M) (t : ℕ) → me.0.place ≡ served_place t → Allows IsRuled slots id me 2 (λ n. n) (λ _ m'. HasTaken m me m')
+  pub takes_out : (slots id : ℕ) (me : M) (t : ℕ) → me.0.place ≡ served_place t → Allows IsRuled slots id me 2 (λ n. n) (λ _ m'. HasTakenObject m me m')
   takes_out slots id me t is s r _ at _ =
       let drawn : me.0.place.has_ticket ≡ true = ap (λ (p : QueuePlace). p.has_ticket) is in let draws : me.0.right.may_draw ≡ true = r.entitled id me.0 at drawn in
       let ticket : me.0.place.ticket ≡ t = ap (λ (p : QueuePlace). p.ticket) is in let turn : me.0.place.turn ≡ true = ap (λ (p : QueuePlace). p.turn) is in
       let told = r.told id me.0 at (not_spent s r id me.0 at draws) in let y = r.home (all_in s r id me.0 at turn (ap (λ (p : QueuePlace). p.out) is)) in
-      let w : V = view_at (view_with_seen me.0 (me.0.page.seen ++ told.missed)) (place_holding t) in (
+      let w : V = view_at (view_with_seen me.0 (me.0.page.seen ++ told.missed_entries)) (place_holding t) in (
         w,
         takes 0 y.0,
         y.1,
-        turns s r id me.0 w at refl refl (λ _. subst (λ (l : List E). IsTold m opening r.history me.0.right (record me.0.page { seen = l })) (sym told.whole) (told_reads m opening r.history me.0.right me.0.page told)) (λ _. told.whole)
+        turns s r id me.0 w at refl refl (λ _. subst (λ (l : List E). IsToldPage m opening r.history me.0.right (record me.0.page { seen = l })) (sym told.whole) (told_reads m opening r.history me.0.right me.0.page told)) (λ _. told.whole)
             r.now r.next (set s.words 2 (get_or s.words 2 0)) (same_words s r 2)
             (retell r.now r.next (map place_of s.views) r.queue id me.0.place (place_holding t) (place_at s.views id me.0 at) drawn refl (sym ticket) (λ _. sym ticket ∙ (r.queue.turn id me.0.place (place_at s.views id me.0 at) turn).1) (λ _. refl))
             (λ _. draws) (set s.homes 0 none) (λ all. clash (sym (all id w (at_same s.views id me.0 w at)))) (λ _. told.whole),
         record {
           opening = opening;
           object = y.0;
-          missed = told.missed;
+          missed_entries = told.missed_entries;
           opening_is = told.opening_is;
           fixed = y.2;
           history = y.3 ∙ sym told.whole;
           lawful = subst (m.lawful (m.fixed opening)) (sym told.whole) r.lawful;
           short = subst (λ (l : List E). length l < 2 ^ 63) (sym told.whole) r.short;
           missable = told.missable draws;
-          after_is = λ t' is'. let same : t ≡ t' = sym ticket ∙ ap (λ (p : QueuePlace). p.ticket) is' in ap (λ (z : ℕ). (view_at (view_with_seen me.0 (me.0.page.seen ++ told.missed)) (place_holding z), (0, y.0) ∷ me.1)) same;
+          after_is = λ t' is'. let same : t ≡ t' = sym ticket ∙ ap (λ (p : QueuePlace). p.ticket) is' in ap (λ (z : ℕ). (view_at (view_with_seen me.0 (me.0.page.seen ++ told.missed_entries)) (place_holding z), (0, y.0) ∷ me.1)) same;
         },
       )
 
   pub gives_back : (slots id : ℕ) (me : M) (t : ℕ) (y o : O) → slots ≡ 1 → me.0.place ≡ place_holding t → me.1 ≡ (0, y) ∷ [] → me.0.page.opening ≡ Some o → m.fixed y ≡ m.fixed o → m.history y ≡ me.0.page.seen
-      → Allows IsRuled slots id me 2 (λ n. n) (λ _ m'. HasGiven me m')
+      → Allows IsRuled slots id me 2 (λ n. n) (λ _ m'. HasGivenObject me m')
   gives_back slots id me t y o one is hand opened fixed history s r count at _ =
       let drawn : me.0.place.has_ticket ≡ true = ap (λ (p : QueuePlace). p.has_ticket) is in let draws : me.0.right.may_draw ≡ true = r.entitled id me.0 at drawn in
       let ticket : me.0.place.ticket ≡ t = ap (λ (p : QueuePlace). p.ticket) is in let turn : me.0.place.turn ≡ true = ap (λ (p : QueuePlace). p.turn) is in
@@ -274,8 +277,8 @@ module _ {O E F : Type 0} (m : Meanings O E F) (opening : O) (families : ℕ) wh
   pub settles : (slots id : ℕ) (me : M) → ((f : F) (xs ys : List E) → m.lawful f (xs ++ ys) → m.lawful f xs) → me.0.place ≡ idle_place → me.0.right.is_spent ≡ false
       → Allows IsRuled slots id me 2 (λ n. n) (λ _ m'. IsSettled m me m')
   settles slots id me fronts is live s r _ at _ =
-      let told = r.told id me.0 at live in let seen : List E = me.0.page.seen in let missed : List E = told.missed in
-      let count : length seen ≤ length r.history = omega (arith, ap length told.whole, length-append seen missed) in (
+      let told = r.told id me.0 at live in let seen : List E = me.0.page.seen in let missed_entries : List E = told.missed_entries in
+      let count : length seen ≤ length r.history = omega (arith, ap length told.whole, length-append seen missed_entries) in (
         settled_view me.0,
         keeps,
         tt,
@@ -286,11 +289,11 @@ module _ {O E F : Type 0} (m : Meanings O E F) (opening : O) (families : ℕ) wh
           opening = opening;
           opening_is = told.opening_is;
           after_is = refl;
-          lawful = fronts (m.fixed opening) seen missed (subst (m.lawful (m.fixed opening)) (sym told.whole) r.lawful);
+          lawful = fronts (m.fixed opening) seen missed_entries (subst (m.lawful (m.fixed opening)) (sym told.whole) r.lawful);
           short = let short : length r.history < 2 ^ 63 = r.short in omega arith;
-          own = λ d. sym (own_missed m.whose m.alone (who_of me.0.right) seen missed (foreign_missed m opening me.0.right missed (told.missable d))) ∙ (ap (entries_of m.whose (who_of me.0.right)) told.whole ∙ told.own d);
-          longest = every_map (λ old. IsPrefix old r.history) (λ old. length old ≤ length seen → IsPrefix old seen)
-              (λ old p le. let t = between old p.rest seen missed (p.whole ∙ sym told.whole) le in record { rest = t.0; whole = t.1 }) me.0.page.older_histories told.older_histories;
+          own = λ d. sym (own_missed m.whose m.alone (who_of me.0.right) seen missed_entries (foreign_missed m opening me.0.right missed_entries (told.missable d))) ∙ (ap (entries_of m.whose (who_of me.0.right)) told.whole ∙ told.own d);
+          longest = every_map (λ old. IsFront old r.history) (λ old. length old ≤ length seen → IsFront old seen)
+              (λ old p le. let t = between old p.0 seen missed_entries (p.1 ∙ sym told.whole) le in (t.0, t.1)) me.0.page.older_histories told.older_histories;
         },
       )
 
@@ -309,8 +312,8 @@ module _ {O E F : Type 0} (m : Meanings O E F) (opening : O) (families : ℕ) wh
 
     not_alone : (j : ℕ) (u : V) → j ≢ id → get_elem? s.views j ≡ some u → u.right.may_draw ≡ true → v.right.family ≡ u.right.family → m.alone e ≡ false
     not_alone j u ne at' du same = ⊎_elim
-        (λ (t : m.alone e ≡ true). let a = alone t in let there : IsIn u.right.actor [] = subst (IsIn u.right.actor) a.1
-        (its_head families (map right_of s.views) r.fair id j v.right u.right (right_at s.views id v at) d a.0 (right_at s.views j u at') du (sym same) (λ h. apart j u ne at' du same (a.0 ∙ sym h))) in absurd there)
+        (λ (t : m.alone e ≡ true). let a = alone t in let there : Contains [] u.right.actor = subst (λ (xs : List ℕ). Contains xs u.right.actor) a.1
+        (its_head families (map right_of s.views) r.fair id j v.right u.right (right_at s.views id v at) d a.0 (right_at s.views j u at') du (sym same) (λ h. apart j u ne at' du same (a.0 ∙ sym h))) in absurd (in_none u.right.actor there))
         (λ (t : m.alone e ≡ false). t) (is_true_or_false (m.alone e))
 
     missable_by : (j : ℕ) (u : V) → j ≢ id → get_elem? s.views j ≡ some u → u.right.may_draw ≡ true → IsMissable m u.right e
@@ -318,12 +321,12 @@ module _ {O E F : Type 0} (m : Meanings O E F) (opening : O) (families : ℕ) wh
       dite (ℕ_discrete v.right.family u.right.family)
           (λ same. inr ((λ is. apart j u ne at' du same (sym actor_is ∙ is)), not_alone j u ne at' du same))
           (λ other. inl (λ is. other (sym family_is ∙ is))),
-      λ host is. subst (λ (z : ℕ). IsIn z u.right.absent_actors) (sym actor_is)
+      λ host is. subst (λ (z : ℕ). Contains u.right.absent_actors z) (sym actor_is)
           (its_head families (map right_of s.views) r.fair j id u.right v.right (right_at s.views j u at') du host (right_at s.views id v at) d (sym family_is ∙ is)
           (λ h. apart j u ne at' du (sym family_is ∙ is) (h ∙ sym host))),
     )
 
-    apart_from_gone : (j : ℕ) (u : V) → get_elem? s.views j ≡ some u → Every (λ l. (m.whose e).family ≢ l.family) u.page.joined_heads
+    apart_from_gone : (j : ℕ) (u : V) → get_elem? s.views j ≡ some u → AllByRecursion (λ l. (m.whose e).family ≢ l.family) u.page.joined_heads
     apart_from_gone j u at' = every_map (λ l. IsGone (map right_of s.views) l.family) (λ l. (m.whose e).family ≢ l.family)
         (λ l g is. (g id v.right (right_at s.views id v at)).0 d (sym family_is ∙ is)) u.page.joined_heads (r.gone j u at')
 
@@ -358,12 +361,12 @@ module _ {O E F : Type 0} (m : Meanings O E F) (opening : O) (families : ℕ) wh
           informed = each_set (λ (u : V). u.place.out ≡ true → u.page.seen ≡ h') s.views id w (λ _. longer_is)
               (λ j u ne at' out. absurd (ne (one_at_turn r.now r.next (map place_of s.views) r.queue j id u.place me.0.place (place_at s.views j u at') (place_at s.views id me.0 at)
               (r.queue.out j u.place (place_at s.views j u at') out) turn)));
-          told = each_set (λ (u : V). u.right.is_spent ≡ false → IsTold m opening h' u.right u.page) s.views id w
+          told = each_set (λ (u : V). u.right.is_spent ≡ false → IsToldPage m opening h' u.right u.page) s.views id w
               (λ _. told_wrote m opening r.history me.0.right me.0.page e told all mine (apart_from_gone s r id me.0 at d e mine alone id me.0 at))
               (λ j u ne at' live. told_grows m opening r.history u.right u.page e (r.told j u at' live) (λ du. missable_by s r id me.0 at d e mine alone j u ne at' du) (apart_from_gone s r id me.0 at d e mine alone j u at'));
-          gone = subst (λ (rs : List Right). AtEach (set s.views id w) (λ u. Every (λ l. IsGone rs l.family) u.page.joined_heads)) (sym rights)
-              (each_kept (λ (u : V). Every (λ l. IsGone (map right_of s.views) l.family) u.page.joined_heads) s.views id w (r.gone id me.0 at) r.gone);
-          made = each_kept (λ (u : V). 0 < u.right.heads → Every (λ x. (m.whose x).family < u.right.heads) h') s.views id w (maker_knows s r id me.0 at d e mine id me.0 at) (λ j u at'. maker_knows s r id me.0 at d e mine j u at');
+          gone = subst (λ (rs : List Right). AtEach (set s.views id w) (λ u. AllByRecursion (λ l. IsGone rs l.family) u.page.joined_heads)) (sym rights)
+              (each_kept (λ (u : V). AllByRecursion (λ l. IsGone (map right_of s.views) l.family) u.page.joined_heads) s.views id w (r.gone id me.0 at) r.gone);
+          made = each_kept (λ (u : V). 0 < u.right.heads → AllByRecursion (λ x. (m.whose x).family < u.right.heads) h') s.views id w (maker_knows s r id me.0 at d e mine id me.0 at) (λ j u at'. maker_knows s r id me.0 at d e mine j u at');
           longest = (id, w, at_same s.views id me.0 w at, not_spent s r id me.0 at d, longer_is);
         },
         λ y' e' hand' history'. let same_y : y ≡ y' = ap (object_or y) (sym hand ∙ hand') in let lists : me.0.page.seen ++ e ∷ [] ≡ me.0.page.seen ++ e' ∷ [] = sym history ∙ (ap m.history same_y ∙ history') in
@@ -371,6 +374,6 @@ module _ {O E F : Type 0} (m : Meanings O E F) (opening : O) (families : ℕ) wh
       )
     where
       maker_knows : (s : St) (r : IsRuled s) (id : ℕ) (v : V) → get_elem? s.views id ≡ some v → v.right.may_draw ≡ true → (e : E) → m.whose e ≡ who_of v.right → (j : ℕ) (u : V) → get_elem? s.views j ≡ some u
-          → 0 < u.right.heads → Every (λ x. (m.whose x).family < u.right.heads) (r.history ++ e ∷ [])
+          → 0 < u.right.heads → AllByRecursion (λ x. (m.whose x).family < u.right.heads) (r.history ++ e ∷ [])
       maker_knows s r id v at d e mine j u at' some_heads = every_append (λ x. (m.whose x).family < u.right.heads) r.history (e ∷ []) (r.made j u at' some_heads)
           (subst (λ (z : ℕ). z < u.right.heads) (sym (ap (λ (w : Who). w.family) mine)) (r.fair.made j id u.right v.right (right_at s.views j u at') (right_at s.views id v at) some_heads d), tt)

@@ -3,3 +3,4 @@ pub mod Meanings
 pub mod OneOrder
 pub mod Telling
 pub mod Sitting
+pub mod Chairs

@@ -1,16 +1,19 @@
 -- The rule of a book: the six points that hold between any two steps.
 use Rattle.std.specs.Prelude.{◌≡◌, ◌≢◌, ℕ, ◌+◌, ◌%◌, ◌^◌, ◌<◌, ◌≤◌, true, false, List, [], ◌∷◌, ◌++◌, map, length, Some}
+use Rattle.std.specs.List.{AllByRecursion, Contains}
 use mathlib.Core.Option.{some}
 use lib.ListN.{get_elem?}
 use Rattle.atomic_table.specs.Table.{State}
 use Rattle.ce_model.specs.declared.topology.TheConstants.{HOST}
+use Rattle.ce_model.specs.Lists.{IsFront}
+use Rattle.ce_lock.specs.declared.limits.TheConstants.{HISTORY_LIMIT}
 use Rattle.ce_lock.specs.declared.who.Who.{Who}
 use Rattle.ce_lock.specs.declared.view.QueuePlace.{QueuePlace}
 use Rattle.ce_lock.specs.declared.view.Right.{Right}
 use Rattle.ce_lock.specs.declared.view.Last.{Last}
 use Rattle.ce_lock.specs.declared.view.Page.{Page}
 use Rattle.ce_lock.specs.declared.view.View.{View}
-use Rattle.ce_lock.specs.Entries.{IsPrefix, Every, AtEach, IsIn, entries_of, IsForeign}
+use Rattle.ce_lock.specs.Entries.{AtEach, entries_of, IsForeignEntry}
 use Rattle.ce_lock.specs.Meanings.{Meanings}
 
 -- Tickets. The first point: each ticket from `now` up to `next` is in exactly one view, and no view has
@@ -36,7 +39,7 @@ pub record IsHeaded (rights : List Right) (r : Right) : Type 0 where
   pub may_draw : head.may_draw ≡ true
   pub host : head.actor ≡ HOST
   pub family : head.family ≡ r.family
-  pub absent_actors : r.actor ≢ HOST → IsIn r.actor head.absent_actors
+  pub absent_actors : r.actor ≢ HOST → Contains head.absent_actors r.actor
 
 -- a view of this actor may draw
 pub record IsSeated (rights : List Right) (family actor : ℕ) : Type 0 where
@@ -58,7 +61,7 @@ pub record IsFair (families : ℕ) (rights : List Right) : Type 0 where
       → p.may_draw ≡ true → q.may_draw ≡ true → p.family ≡ q.family → p.actor ≡ q.actor → i ≡ j
   pub headed : AtEach rights (λ r. r.may_draw ≡ true → IsHeaded rights r)
   pub seated : AtEach rights (λ r. r.may_draw ≡ true → r.actor ≡ HOST
-      → (a : ℕ) → IsIn a r.absent_actors → (a ≢ HOST) × IsSeated rights r.family a)
+      → (a : ℕ) → Contains r.absent_actors a → (a ≢ HOST) × IsSeated rights r.family a)
   pub maker : (i j : ℕ) (p q : Right) → get_elem? rights i ≡ some p → get_elem? rights j ≡ some q
       → 0 < p.heads → 0 < q.heads → i ≡ j
   pub made : (i j : ℕ) (p q : Right) → get_elem? rights i ≡ some p → get_elem? rights j ≡ some q
@@ -76,51 +79,51 @@ module _ {O E F : Type 0} (m : Meanings O E F) where
   -- An entry that a view need not have seen: it is foreign to it, and the view of a head has the entry's
   -- actor out, if that is of its family.
   abbrev pub IsMissable : Right → E → Type 0
-  IsMissable r e = IsForeign m.whose m.alone (who_of r) e
-      × (r.actor ≡ HOST → (m.whose e).family ≡ r.family → IsIn (m.whose e).actor r.absent_actors)
+  IsMissable r e = IsForeignEntry m.whose m.alone (who_of r) e
+      × (r.actor ≡ HOST → (m.whose e).family ≡ r.family → Contains r.absent_actors (m.whose e).actor)
 
   -- Of a head that was joined away: its entries are the kept ones, and all entries of its family are in
   -- what it had seen.
   pub record IsLast (history : List E) (l : Last E) : Type 0 where
-    pub missed : List E
-    pub whole : l.seen ++ missed ≡ history
+    pub missed_entries : List E
+    pub whole : l.seen ++ missed_entries ≡ history
     pub own : entries_of m.whose (record { family = l.family; actor = HOST }) history ≡ l.mine
-    pub others : Every (λ e. (m.whose e).family ≢ l.family) missed
+    pub others : AllByRecursion (λ e. (m.whose e).family ≢ l.family) missed_entries
 
   -- What a view tells. The fifth point: what it has seen, and each old list that it keeps, is a prefix of
   -- the history; its own entries are those there of its actor since its seat was made; and the same of each
   -- head that was joined into it. The second half of the sixth point: a view that may draw has seen each
   -- entry of its actor, each alone one of its family, and, if it is a head's, each one of an actor of its
   -- family that is not out.
-  pub record IsTold (opening : O) (history : List E) (r : Right) (p : Page O E) : Type 0 where
+  pub record IsToldPage (opening : O) (history : List E) (r : Right) (p : Page O E) : Type 0 where
     pub opening_is : p.opening ≡ Some opening
-    pub missed : List E
-    pub whole : p.seen ++ missed ≡ history
-    pub missable : r.may_draw ≡ true → Every (IsMissable r) missed
+    pub missed_entries : List E
+    pub whole : p.seen ++ missed_entries ≡ history
+    pub missable : r.may_draw ≡ true → AllByRecursion (IsMissable r) missed_entries
     pub own : r.may_draw ≡ true → entries_of m.whose (who_of r) history ≡ p.earlier ++ p.mine
-    pub older_histories : Every (λ old. IsPrefix old history) p.older_histories
-    pub joined_heads : Every (IsLast history) p.joined_heads
+    pub older_histories : AllByRecursion (λ old. IsFront old history) p.older_histories
+    pub joined_heads : AllByRecursion (IsLast history) p.joined_heads
 
   -- The rule. There is one history, lawful at every moment, and its length is the third word.
   -- The third point: the slot holds the object unless a view tells that it is out; it has the fixed data
   -- of the opening object, and just this history.
   -- The fourth point: a view that tells that the object is out has seen the whole history.
   -- Spent views tell nothing, and some view that isn't spent has seen all of the history.
-  pub record IsInOrder (opening : O) (families : ℕ) (s : State O (View O E)) : Type 0 where
+  pub record IsBookInOrder (opening : O) (families : ℕ) (s : State O (View O E)) : Type 0 where
     pub now : ℕ
     pub next : ℕ
     pub history : List E
     pub words : s.words ≡ next % 2 ^ 64 ∷ now % 2 ^ 64 ∷ length history ∷ []
     pub lawful : m.lawful (m.fixed opening) history
-    pub short : length history < 2 ^ 63
+    pub short : length history < HISTORY_LIMIT
     pub queue : IsQueue now next (map (λ v. v.place) s.views)
     pub fair : IsFair families (map (λ v. v.right) s.views)
     pub entitled : AtEach s.views (λ v. v.place.has_ticket ≡ true → v.right.may_draw ≡ true)
     pub home : AtEach s.views (λ v. v.place.out ≡ false)
         → (y : O) × (get_elem? s.homes 0 ≡ some (some y)) × (m.fixed y ≡ m.fixed opening) × (m.history y ≡ history)
     pub informed : AtEach s.views (λ v. v.place.out ≡ true → v.page.seen ≡ history)
-    pub told : AtEach s.views (λ v. v.right.is_spent ≡ false → IsTold opening history v.right v.page)
-    pub gone : AtEach s.views (λ v. Every (λ l. IsGone (map (λ w. w.right) s.views) l.family) v.page.joined_heads)
-    pub made : AtEach s.views (λ v. 0 < v.right.heads → Every (λ e. (m.whose e).family < v.right.heads) history)
+    pub told : AtEach s.views (λ v. v.right.is_spent ≡ false → IsToldPage opening history v.right v.page)
+    pub gone : AtEach s.views (λ v. AllByRecursion (λ l. IsGone (map (λ w. w.right) s.views) l.family) v.page.joined_heads)
+    pub made : AtEach s.views (λ v. 0 < v.right.heads → AllByRecursion (λ e. (m.whose e).family < v.right.heads) history)
     pub longest : (i : ℕ) × (v : View O E) × (get_elem? s.views i ≡ some v) × (v.right.is_spent ≡ false)
         × (v.page.seen ≡ history)

@@ -1,12 +1,15 @@
 -- Books and seats as their callers see them.
-use Rattle.std.specs.Prelude.{◌≡◌, ◌≢◌, ℕ, ◌^◌, ◌<◌, Bool, true, false, List, [], ◌∷◌, ◌++◌, length, Option, Some, Result, MatchResult}
+use Rattle.std.specs.Prelude.{◌≡◌, ◌≢◌, ℕ, ◌<◌, Bool, true, false, List, [], ◌∷◌, ◌++◌, length, Option, Some, Result, MatchResult}
+use Rattle.std.specs.List.{AllByRecursion}
 use Rattle.atomic_table.specs.Table.{Me}
 use Rattle.atomic_table.specs.Seated.{TableId}
 use Rattle.atomic_table.specs.declared.shared.Seat.{Seat}
 use Rattle.ce_model.specs.declared.topology.TheConstants.{HOST}
+use Rattle.ce_model.specs.Lists.{IsFront}
+use Rattle.ce_lock.specs.declared.limits.TheConstants.{HISTORY_LIMIT}
 use Rattle.ce_lock.specs.declared.who.Who.{Who}
 use Rattle.ce_lock.specs.declared.view.View.{View}
-use Rattle.ce_lock.specs.Entries.{IsPrefix, Every, entries_of}
+use Rattle.ce_lock.specs.Entries.{entries_of}
 use Rattle.ce_lock.specs.Meanings.{Meanings}
 use Rattle.ce_lock.specs.OneOrder.{who_of, IsMissable}
 use Rattle.ce_lock.specs.Telling.{idle_place, view_with_seen, view_after_entry}
@@ -60,33 +63,29 @@ module _ {O E : Type 0} where
     pub actor : who after ≡ who before
     pub since : earlier after ≡ earlier before
 
-  -- the raw seat stays one of its table
-  abbrev pub IsSameChair : Seat O (View O E) → Seat O (View O E) → Type 0
-  IsSameChair a b = (b.table_id ≡ a.table_id) × (b.id ≡ a.id)
-
-  -- two raw seats of the table without tickets, the second with nothing in hand: what each join asks of both
-  pub record AreIdle (table : TableId) (a b : Seat O (View O E)) : Type 0 where
-    pub of_table : (a.table_id ≡ table) × (b.table_id ≡ table)
+  -- two raw seats of one table without tickets, the second with nothing in hand: what each join asks of both
+  pub record AreIdle (a b : Seat O (View O E)) : Type 0 where
+    pub same_table : b.table_id ≡ a.table_id
     pub places : (a.me.0.place ≡ idle_place) × (b.me.0.place ≡ idle_place)
     pub hand : b.me.1 ≡ []
 
 module _ {O E F : Type 0} (m : Meanings O E F) where
-  -- What a seat has seen is a lawful history of fewer than 2^63 entries. Its actor's entries in it are the
+  -- What a seat has seen is a lawful history of fewer than `HISTORY_LIMIT` entries. Its actor's entries in it are the
   -- earlier ones and its own, each once, in its order.
   pub record IsKnown (opening : O) (s : Sitting O E) : Type 0 where
     pub lawful : m.lawful (m.fixed opening) (seen_history s)
-    pub short : length (seen_history s) < 2 ^ 63
+    pub short : length (seen_history s) < HISTORY_LIMIT
     pub own : entries_of m.whose (who s) (seen_history s) ≡ earlier s ++ mine s
 
   -- The list begins with what the seat has seen, and goes on by entries that the seat need not have seen.
-  pub record IsBehind (s : Sitting O E) (before : List E) : Type 0 where
-    pub missed : List E
-    pub whole : seen_history s ++ missed ≡ before
-    pub missable : Every (IsMissable m s.1.right) missed
+  pub record IsSeatBehind (s : Sitting O E) (before : List E) : Type 0 where
+    pub missed_entries : List E
+    pub whole : seen_history s ++ missed_entries ≡ before
+    pub missable : AllByRecursion (IsMissable m s.1.right) missed_entries
 
   -- so what the seat has seen is a front part of the list
-  pub IsBehind-prefix : (s : Sitting O E) (before : List E) → IsBehind s before → IsPrefix (seen_history s) before
-  IsBehind-prefix s before behind = record { rest = behind.missed; whole = behind.whole }
+  pub IsBehind-front : (s : Sitting O E) (before : List E) → IsSeatBehind s before → IsFront (seen_history s) before
+  IsBehind-front s before behind = (behind.missed_entries, behind.whole)
 
   -- The head of family `number` of a fresh book.
   pub record IsNewHead (book : BookFacts O) (number : ℕ) (s : Sitting O E) : Type 0 where
@@ -105,14 +104,14 @@ module _ {O E F : Type 0} (m : Meanings O E F) where
 
   -- The history begins with what the seat has seen. Its actor's entries there are the seat's own, and all
   -- entries of its family there are among those seen.
-  pub record IsWhole (history : List E) (s : Sitting O E) : Type 0 where
-    pub missed : List E
-    pub whole : seen_history s ++ missed ≡ history
+  pub record IsWholeSeat (history : List E) (s : Sitting O E) : Type 0 where
+    pub missed_entries : List E
+    pub whole : seen_history s ++ missed_entries ≡ history
     pub own : entries_of m.whose (who s) history ≡ mine s
-    pub others : Every (λ e. (m.whose e).family ≢ (who s).family) missed
+    pub others : AllByRecursion (λ e. (m.whose e).family ≢ (who s).family) missed_entries
 
   -- What holds of a seat that no call is using.
-  pub record IsSound (actor : Who) (me : Me O (View O E)) : Type 0 where
+  pub record IsSoundSeat (actor : Who) (me : Me O (View O E)) : Type 0 where
     pub opening : O
     pub opening_is : me.0.page.opening ≡ Some opening
     pub place : me.0.place ≡ idle_place
@@ -123,13 +122,13 @@ module _ {O E F : Type 0} (m : Meanings O E F) where
     pub older_histories : me.0.page.older_histories ≡ []
     pub joined_heads : me.0.page.joined_heads ≡ []
     pub lawful : m.lawful (m.fixed opening) me.0.page.seen
-    pub short : length me.0.page.seen < 2 ^ 63
+    pub short : length me.0.page.seen < HISTORY_LIMIT
     pub own : entries_of m.whose (who_of me.0.right) me.0.page.seen ≡ me.0.page.earlier ++ me.0.page.mine
     pub fresh : me.0.right.actor ≡ HOST → me.0.page.earlier ≡ []
 
   -- What a turn asks of the seat that makes it: it acts for this actor, knows the opening object and has nothing in
   -- hand; the call fits what it has seen, and is not alone, or the seat is a head's with nobody out.
-  pub record IsReady {C : Type 0} (fits : F → List E → Who → C → Type 0) (alone : C → Bool)
+  pub record IsReadySeat {C : Type 0} (fits : F → List E → Who → C → Type 0) (alone : C → Bool)
       (actor : Who) (call : C) (me : Me O (View O E)) : Type 0 where
     pub opening : O
     pub opening_is : me.0.page.opening ≡ Some opening
@@ -144,18 +143,18 @@ module _ {O E F : Type 0} (m : Meanings O E F) where
       pub fixed : m.fixed z ≡ m.fixed y
       pub answered : MatchResult result
           (λ reply. (entry : E) × (m.history z ≡ m.history y ++ entry ∷ []) × stands (m.fixed y) (m.history y) entry actor call reply
-          × (m.lawful (m.fixed y) (m.history y) → m.lawful (m.fixed y) (m.history z)) × (length (m.history z) < 2 ^ 63))
+          × (m.lawful (m.fixed y) (m.history y) → m.lawful (m.fixed y) (m.history z)) × (length (m.history z) < HISTORY_LIMIT))
           (λ back. (z ≡ y) × (back.0 ≡ call))
 
     -- what a turn makes of the view: it has seen all before its entry, and made that, or none
-    pub record IsTurn (before after : View O E) (call : C) (result : Result R (C × X)) : Type 0 where
+    pub record IsSeatTurn (before after : View O E) (call : C) (result : Result R (C × X)) : Type 0 where
       pub opening : O
-      pub missed : List E
+      pub missed_entries : List E
       pub opening_is : before.page.opening ≡ Some opening
-      pub missable : Every (IsMissable m before.right) missed
+      pub missable : AllByRecursion (IsMissable m before.right) missed_entries
       pub lawful : m.lawful (m.fixed opening) after.page.seen
-      pub short : length after.page.seen < 2 ^ 63
+      pub short : length after.page.seen < HISTORY_LIMIT
       pub answered : MatchResult result
-          (λ reply. (entry : E) × (after ≡ view_after_entry (view_with_seen before (before.page.seen ++ missed)) entry) × (m.whose entry ≡ who_of before.right)
-          × stands (m.fixed opening) (before.page.seen ++ missed) entry (who_of before.right) call reply)
-          (λ back. (after ≡ view_with_seen before (before.page.seen ++ missed)) × (back.0 ≡ call))
+          (λ reply. (entry : E) × (after ≡ view_after_entry (view_with_seen before (before.page.seen ++ missed_entries)) entry) × (m.whose entry ≡ who_of before.right)
+          × stands (m.fixed opening) (before.page.seen ++ missed_entries) entry (who_of before.right) call reply)
+          (λ back. (after ≡ view_with_seen before (before.page.seen ++ missed_entries)) × (back.0 ≡ call))

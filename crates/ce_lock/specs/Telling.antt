@@ -1,14 +1,17 @@
 -- What each kind of step tells the seat that makes it, and how a view is cut in two and two are joined.
 use Rattle.std.specs.Prelude.{◌≡◌, ◌≢◌, ℕ, ◌+◌, ◌%◌, ◌^◌, ◌<◌, ◌≤◌, true, false, List, [], ◌∷◌, ◌++◌, length, Some, None}
+use Rattle.std.specs.List.{AllByRecursion}
 use Rattle.atomic_table.specs.Table.{Me, rest}
 use Rattle.ce_model.specs.declared.topology.TheConstants.{HOST}
+use Rattle.ce_model.specs.Lists.{IsFront}
 use Rattle.ce_lock.specs.declared.view.QueuePlace.{QueuePlace}
 use Rattle.ce_lock.specs.declared.view.Right.{Right}
 use Rattle.ce_lock.specs.declared.view.Last.{Last}
 use Rattle.ce_lock.specs.declared.view.Page.{Page}
 use Rattle.ce_lock.specs.declared.view.View.{View}
+use Rattle.ce_lock.specs.declared.limits.TheConstants.{HISTORY_LIMIT}
 use Rattle.ce_lock.specs.declared.who.Who.{Who}
-use Rattle.ce_lock.specs.Entries.{IsPrefix, longer_list, Every, without, entries_of}
+use Rattle.ce_lock.specs.Entries.{longer_list, ids_without, entries_of}
 use Rattle.ce_lock.specs.Meanings.{Meanings}
 use Rattle.ce_lock.specs.OneOrder.{who_of, IsMissable, IsLast}
 
@@ -89,7 +92,7 @@ module _ {O E : Type 0} where
 
   -- the view of a head after it has taken an actor back
   abbrev pub view_after_joining : View O E → View O E → View O E
-  view_after_joining v w = record (view_after_meeting v w) { right = record v.right { absent_actors = without w.right.actor v.right.absent_actors } }
+  view_after_joining v w = record (view_after_meeting v w) { right = record v.right { absent_actors = ids_without w.right.actor v.right.absent_actors } }
 
   -- what is kept of a head that is joined away
   abbrev pub last_of : View O E → Last E
@@ -133,13 +136,13 @@ module _ {O E : Type 0} where
     pub after_is : after ≡ (view_at me.0 (place_waiting ticket), me.1)
 
   -- look: it is the view's turn where the word equals its ticket
-  pub record HasLooked (me : Me O (View O E)) (found : ℕ) (after : Me O (View O E)) : Type 0 where
+  pub record HasLookedAtTicket (me : Me O (View O E)) (found : ℕ) (after : Me O (View O E)) : Type 0 where
     pub yes : (t : ℕ) → me.0.place ≡ place_waiting t → found ≡ t % 2 ^ 64 → after ≡ (view_at me.0 (served_place t), me.1)
     pub no : (t : ℕ) → me.0.place ≡ place_waiting t → found ≢ t % 2 ^ 64 → after ≡ me
 
   -- give: the object is home
-  abbrev pub HasGiven : Me O (View O E) → Me O (View O E) → Type 0
-  HasGiven me after = (t : ℕ) → me.0.place ≡ place_holding t → after ≡ (view_at me.0 (served_place t), rest me.1)
+  abbrev pub HasGivenObject : Me O (View O E) → Me O (View O E) → Type 0
+  HasGivenObject me after = (t : ℕ) → me.0.place ≡ place_holding t → after ≡ (view_at me.0 (served_place t), rest me.1)
 
   -- leave: the view holds no ticket
   abbrev pub HasLeft : Me O (View O E) → Me O (View O E) → Type 0
@@ -147,18 +150,18 @@ module _ {O E : Type 0} where
 
 module _ {O E F : Type 0} (m : Meanings O E F) where
   -- take: the view has seen the whole history, and has the object, which has just this history
-  pub record HasTaken (me : Me O (View O E)) (after : Me O (View O E)) : Type 0 where
+  pub record HasTakenObject (me : Me O (View O E)) (after : Me O (View O E)) : Type 0 where
     pub opening : O
     pub object : O
-    pub missed : List E
+    pub missed_entries : List E
     pub opening_is : me.0.page.opening ≡ Some opening
     pub fixed : m.fixed object ≡ m.fixed opening
-    pub history : m.history object ≡ me.0.page.seen ++ missed
-    pub lawful : m.lawful (m.fixed opening) (me.0.page.seen ++ missed)
-    pub short : length (me.0.page.seen ++ missed) < 2 ^ 63
-    pub missable : Every (IsMissable m me.0.right) missed
+    pub history : m.history object ≡ me.0.page.seen ++ missed_entries
+    pub lawful : m.lawful (m.fixed opening) (me.0.page.seen ++ missed_entries)
+    pub short : length (me.0.page.seen ++ missed_entries) < HISTORY_LIMIT
+    pub missable : AllByRecursion (IsMissable m me.0.right) missed_entries
     pub after_is : (t : ℕ) → me.0.place ≡ served_place t
-        → after ≡ (view_at (view_with_seen me.0 (me.0.page.seen ++ missed)) (place_holding t), (0, object) ∷ me.1)
+        → after ≡ (view_at (view_with_seen me.0 (me.0.page.seen ++ missed_entries)) (place_holding t), (0, object) ∷ me.1)
 
   -- commit: the view gains the entry that the object gained
   abbrev pub HasCommitted : Me O (View O E) → Me O (View O E) → Type 0
@@ -171,15 +174,15 @@ module _ {O E F : Type 0} (m : Meanings O E F) where
     pub opening_is : me.0.page.opening ≡ Some opening
     pub after_is : after ≡ (settled_view me.0, me.1)
     pub lawful : m.lawful (m.fixed opening) me.0.page.seen
-    pub short : length me.0.page.seen < 2 ^ 63
+    pub short : length me.0.page.seen < HISTORY_LIMIT
     pub own : me.0.right.may_draw ≡ true
         → entries_of m.whose (who_of me.0.right) me.0.page.seen ≡ me.0.page.earlier ++ me.0.page.mine
-    pub longest : Every (λ old. length old ≤ length me.0.page.seen → IsPrefix old me.0.page.seen) me.0.page.older_histories
+    pub longest : AllByRecursion (λ old. length old ≤ length me.0.page.seen → IsFront old me.0.page.seen) me.0.page.older_histories
 
   -- What is left when all heads were joined away: the object has the fixed data of the opening one, and its
   -- history is lawful, and is what each head saw and made.
   pub record IsLeft (opening : O) (lasts : List (Last E)) (y : O) : Type 0 where
     pub fixed : m.fixed y ≡ m.fixed opening
     pub lawful : m.lawful (m.fixed opening) (m.history y)
-    pub short : length (m.history y) < 2 ^ 63
-    pub each : Every (IsLast m (m.history y)) lasts
+    pub short : length (m.history y) < HISTORY_LIMIT
+    pub each : AllByRecursion (IsLast m (m.history y)) lasts

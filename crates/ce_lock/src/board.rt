@@ -1,5 +1,6 @@
 //! The table that the seats of a book share. Word 0 is the next ticket, word 1 the ticket that is
 //! served, word 2 the number of entries, all modulo 2^64. The one slot holds the object.
+ghost use Rattle.std.specs.Prelude.{◌≡◌};
 ghost use Rattle.ce_lock.specs.Sitting.{IsSized};
 
 use crate::kept::Kept;
@@ -34,10 +35,10 @@ pub struct InOneOrder<O> {
 
 impl<O: Kept> TableRule<O, View<O, O::Entry>, About<O>> for InOneOrder<O> {
     ghost use Rattle.ce_lock.specs.Meanings.{meanings};
-    ghost use Rattle.ce_lock.specs.OneOrder.{IsInOrder};
+    ghost use Rattle.ce_lock.specs.OneOrder.{IsBookInOrder};
     ghost use Rattle.ce_lock.specs.Telling.{first_view};
 
-    ghost holds = { λ about. IsInOrder (meanings O.fixed O.history O.lawful O.whose O.alone_entry)
+    ghost holds = { λ about. IsBookInOrder (meanings O.fixed O.history O.lawful O.whose O.alone_entry)
         about.opening.value about.families };
 
     ghost first = { λ about. first_view about.opening.value };
@@ -51,3 +52,11 @@ pub struct Board<O: Kept> {
 }
 
 pub type Chair<O> = Seat<O, View<O, <O as Kept>::Entry>>;
+
+/// A raw seat and the board that it is at.
+#[derive(Drop)]
+pub struct ChairAtBoard<'a, O: Kept> {
+    pub board: &'a Board<O>,
+    pub chair: &'a mut Chair<O>,
+    ghost at_table: { chair.now.table_id ≡ board.now.table.shared.table_id },
+}

@@ -1,17 +1,19 @@
 //! The book: an object behind a ticket lock, whose history each caller sees a part of.
-ghost use Rattle.std.specs.Prelude.{◌≡◌, ◌≢◌, ◌⊎◌, ℕ, ◌+◌, ◌^◌, ◌<◌, true, List, [], ◌∷◌, ◌++◌, map, length, IfOk, IfErr, slice_index_or};
+ghost use Rattle.std.specs.Prelude.{◌≡◌, ◌≢◌, ◌⊎◌, ◌+◌, ◌<◌, List, [], ◌∷◌, ◌++◌, IfOk, IfErr, IsTrue};
+ghost use Rattle.std.specs.List.{Contains};
 ghost use Rattle.ce_model.specs.declared.topology.TheConstants.{HOST};
+ghost use Rattle.ce_model.specs.Lists.{IsFront};
 ghost use Rattle.ce_lock.specs.declared.who.Who.{Who};
-ghost use Rattle.ce_lock.specs.Entries.{IsPrefix, Every, IsIn, without, entries_of};
+ghost use Rattle.ce_lock.specs.Entries.{ids_without, entries_of};
 ghost use Rattle.ce_lock.specs.Meanings.{meanings};
-ghost use Rattle.ce_lock.specs.Sitting.{IsOf, IsSameSeat, IsKnown, IsBehind, IsNewHead, IsHeadIn, IsWhole, who, seen_history, earlier, mine, out};
+ghost use Rattle.ce_lock.specs.Telling.{copy};
+ghost use Rattle.ce_lock.specs.Sitting.{IsOf, IsSameSeat, IsKnown, IsSeatBehind, who, seen_history, earlier, mine, out};
 
-use crate::board::Board;
+use crate::board::{Board, Chair, ChairAtBoard};
 use crate::kept::Kept;
 use crate::plays::Named;
 use crate::seat::Seat;
-use crate::steps::{copy_seat, meet_copy, settle, take_back, worker_seat};
-use crate::turn::take_turn;
+use crate::turn::ActorCall;
 use crate::who::Who;
 use ce_model::NoMemory;
 use std::alloc::Global;
@@ -45,7 +47,7 @@ impl<O: Kept> Book<O> {
     pub fn split(&self, head: &mut Seat<O>, actor: u32) -> Seat<O>
         requires of_book { IsOf self.now head.old }
         requires head { (who head.old).actor ≡ HOST }
-        requires actor { (actor ≢ HOST) × ¬ IsIn actor (out head.old) }
+        requires actor { (actor ≢ HOST) × ¬ Contains (out head.old) actor }
         ensures worker { IsOf self.now result }
         ensures actor { who result ≡ record { family = (who head.old).family; actor = actor } }
         ensures seen { seen_history result ≡ seen_history head.old }
@@ -60,7 +62,11 @@ impl<O: Kept> Book<O> {
             × (mine head.new ≡ mine head.old) }
     {
         let family = head.who.family;
-        let chair = worker_seat::<O, Brand>(&self.board, &mut head.chair, actor);
+        let mut pair = ChairAtBoard {
+            board: &self.board,
+            chair: &mut head.chair,
+        };
+        let chair = pair.worker_seat::<Brand>(actor);
         Seat {
             who: Who { family, actor },
             chair,
@@ -79,22 +85,27 @@ impl<O: Kept> Book<O> {
         requires of_book { IsOf self.now seat.old }
         requires fits { O.fits (O.fixed self.now.opening) (seen_history seat.old) (who seat.old)
             call }
-        requires alone { O.alone call ≡ true → ((who seat.old).actor ≡ HOST) × (out seat.old ≡ []) }
+        requires alone { IsTrue (O.alone call)
+            → ((who seat.old).actor ≡ HOST) × (out seat.old ≡ []) }
         ensures same { IsSameSeat seat.old seat.new }
         ensures out { out seat.new ≡ out seat.old }
         ensures answered { IfOk result (λ reply. (before : List O.Entry) × (entry : O.Entry)
-            × IsBehind (meanings O.fixed O.history O.lawful O.whose O.alone_entry) seat.old before
+            × IsSeatBehind (meanings O.fixed O.history O.lawful O.whose O.alone_entry) seat.old before
             × (seen_history seat.new ≡ before ++ entry ∷ [])
             × (mine seat.new ≡ mine seat.old ++ entry ∷ [])
             × O.stands (O.fixed self.now.opening) before entry (who seat.old) call reply) }
         ensures refused { IfErr result (λ back. (back.0 ≡ call)
-            × IsPrefix (seen_history seat.old) (seen_history seat.new)
+            × IsFront (seen_history seat.old) (seen_history seat.new)
             × (mine seat.new ≡ mine seat.old)) }
         ensures known { IsKnown (meanings O.fixed O.history O.lawful O.whose O.alone_entry)
             self.now.opening seat.new }
     {
         let who = seat.who;
-        take_turn(rt, &self.board, alloc, &mut seat.chair, who, call)
+        let mut pair = ChairAtBoard {
+            board: &self.board,
+            chair: &mut seat.chair,
+        };
+        pair.take_turn(rt, ActorCall { alloc, who, call })
     }
 
     /// Makes both seats see what either saw.
@@ -105,8 +116,8 @@ impl<O: Kept> Book<O> {
         ensures same_seen { seen_history a.new ≡ seen_history b.new }
         ensures longer { (seen_history a.new ≡ seen_history a.old)
             ⊎ (seen_history a.new ≡ seen_history b.old) }
-        ensures begins_a { IsPrefix (seen_history a.old) (seen_history a.new) }
-        ensures begins_b { IsPrefix (seen_history b.old) (seen_history a.new) }
+        ensures begins_a { IsFront (seen_history a.old) (seen_history a.new) }
+        ensures begins_b { IsFront (seen_history b.old) (seen_history a.new) }
         ensures rest_a { (mine a.new ≡ mine a.old) × (out a.new ≡ out a.old) }
         ensures rest_b { (mine b.new ≡ mine b.old) × (out b.new ≡ out b.old) }
         ensures known_a { IsKnown (meanings O.fixed O.history O.lawful O.whose O.alone_entry)
@@ -135,18 +146,37 @@ impl<O: Kept> Book<O> {
         ensures same { IsSameSeat to.old to.new }
         ensures longer { (seen_history to.new ≡ seen_history to.old)
             ⊎ (seen_history to.new ≡ seen_history from.old) }
-        ensures begins_to { IsPrefix (seen_history to.old) (seen_history to.new) }
-        ensures begins_from { IsPrefix (seen_history from.old) (seen_history to.new) }
+        ensures begins_to { IsFront (seen_history to.old) (seen_history to.new) }
+        ensures begins_from { IsFront (seen_history from.old) (seen_history to.new) }
         ensures rest { (mine to.new ≡ mine to.old) × (out to.new ≡ out to.old) }
         ensures known { IsKnown (meanings O.fixed O.history O.lawful O.whose O.alone_entry)
             self.now.opening to.new }
         ensures known_from { IsKnown (meanings O.fixed O.history O.lawful O.whose O.alone_entry)
             self.now.opening from.new }
     {
-        let board = &self.board;
-        let copy = copy_seat(board, &mut from.chair);
-        meet_copy(board, &mut to.chair, copy);
-        settle(board, &mut to.chair);
+        let copy = self.copy_of(from);
+        let mut pair = ChairAtBoard {
+            board: &self.board,
+            chair: &mut to.chair,
+        };
+        pair.meet_copy(copy);
+        pair.settle();
+    }
+
+    /// A raw seat that knows what this one has seen, and may do nothing.
+    pub(crate) fn copy_of(&self, seat: &mut Seat<O>) -> Chair<O>
+        requires of_book { IsOf self.now seat.old }
+        ensures seat { seat.new ≡ seat.old }
+        ensures table { result.table_id ≡ self.now.table }
+        ensures copied { result.me ≡ (copy seat.old.1, []) }
+        ensures known { IsKnown (meanings O.fixed O.history O.lawful O.whose O.alone_entry)
+            self.now.opening seat.new }
+    {
+        let mut pair = ChairAtBoard {
+            board: &self.board,
+            chair: &mut seat.chair,
+        };
+        pair.copy_seat()
     }
 
     /// Takes an actor's seat back into its head's, which sees what the actor saw.
@@ -154,19 +184,22 @@ impl<O: Kept> Book<O> {
         requires of_book { IsOf self.now head.old × IsOf self.now worker }
         requires head { (who head.old).actor ≡ HOST }
         requires family { (who worker).family ≡ (who head.old).family }
-        requires out { IsIn (who worker).actor (out head.old) }
+        requires out { Contains (out head.old) (who worker).actor }
         ensures same { IsSameSeat head.old head.new }
-        ensures out { out head.new ≡ without (who worker).actor (out head.old) }
+        ensures out { out head.new ≡ ids_without (who worker).actor (out head.old) }
         ensures longer { (seen_history head.new ≡ seen_history head.old)
             ⊎ (seen_history head.new ≡ seen_history worker) }
-        ensures begins_head { IsPrefix (seen_history head.old) (seen_history head.new) }
-        ensures begins_worker { IsPrefix (seen_history worker) (seen_history head.new) }
+        ensures begins_head { IsFront (seen_history head.old) (seen_history head.new) }
+        ensures begins_worker { IsFront (seen_history worker) (seen_history head.new) }
         ensures mine { mine head.new ≡ mine head.old }
         ensures known { IsKnown (meanings O.fixed O.history O.lawful O.whose O.alone_entry)
             self.now.opening head.new }
     {
-        let board = &self.board;
-        take_back(board, &mut head.chair, worker.into_chair());
-        settle(board, &mut head.chair);
+        let mut pair = ChairAtBoard {
+            board: &self.board,
+            chair: &mut head.chair,
+        };
+        pair.take_back(worker.into_chair());
+        pair.settle();
     }
 }

@@ -1,7 +1,8 @@
 //! What an object is asked for, so that a book can keep it.
-ghost use Rattle.std.specs.Prelude.{◌≡◌, ◌+◌, ◌^◌, ◌<◌, ◌⊎◌, ◌≢◌, ℕ, Bool, true, false, List, [], ◌∷◌, ◌++◌, length, IfOk, IfErr};
+ghost use Rattle.std.specs.Prelude.{◌≡◌, ◌+◌, ◌<◌, Bool, List, [], ◌∷◌, ◌++◌, length, IfOk, IfErr};
+ghost use Rattle.ce_lock.specs.declared.limits.TheConstants.{HISTORY_LIMIT};
 ghost use Rattle.ce_lock.specs.declared.who.Who.{Who};
-ghost use Rattle.ce_lock.specs.Entries.{IsForeign};
+ghost use Rattle.ce_lock.specs.Entries.{IsForeignEntry};
 
 use crate::who::Who;
 use ce_model::NoMemory;
@@ -61,7 +62,7 @@ pub trait Kept: Sized {
             × stands (fixed self.old) (history self.old) entry who call reply) }
         ensures lawful { IfOk result (λ _. lawful (fixed self.old) (history self.old)
             → lawful (fixed self.old) (history self.new)) }
-        ensures few { IfOk result (λ _. length (history self.new) < 2 ^ 63) }
+        ensures few { IfOk result (λ _. length (history self.new) < HISTORY_LIMIT) }
         ensures refused { IfErr result (λ back. (self.new ≡ self.old) × (back.0 ≡ call)) };
 
     // The empty history is lawful.
@@ -82,5 +83,5 @@ pub trait Kept: Sized {
     ghost still_fits: { (f : Fixed) (before : List Self.Entry) (entry : Self.Entry) (who : Who)
         (call : Self.Call)
         → lawful f (before ++ entry ∷ []) → fits f before who call
-        → IsForeign whose alone_entry who entry → fits f (before ++ entry ∷ []) who call };
+        → IsForeignEntry whose alone_entry who entry → fits f (before ++ entry ∷ []) who call };
 }

@@ -5,6 +5,7 @@ mod board;
 mod book;
 mod closing;
 mod kept;
+mod limits;
 mod opening;
 mod plays;
 mod seat;
@@ -15,5 +16,6 @@ mod who;
 
 pub use book::Book;
 pub use kept::Kept;
+pub use limits::HISTORY_LIMIT;
 pub use seat::Seat;
 pub use who::Who;

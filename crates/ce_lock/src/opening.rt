@@ -1,14 +1,13 @@
 //! How a book begins.
-ghost use Rattle.std.specs.Prelude.{◌≡◌, ℕ, ◌+◌, ◌-◌, ◌<◌, ◌≤◌, [], ◌∷◌, length, IfOk, IfErr, slice_index_or, vec_capacity};
+ghost use Rattle.std.specs.Prelude.{◌≡◌, ℕ, ◌-◌, ◌<◌, ◌≤◌, [], ◌∷◌, length, IfOk, IfErr, slice_index_or, vec_capacity};
 ghost use Rattle.ce_lock.specs.Meanings.{meanings};
 ghost use Rattle.ce_lock.specs.Telling.{first_view};
-ghost use Rattle.ce_lock.specs.Sitting.{IsNewHead, IsKnown};
+ghost use Rattle.ce_lock.specs.Sitting.{IsNewHead};
 
-use crate::board::{About, Board, Chair};
+use crate::board::{About, Board, Chair, ChairAtBoard};
 use crate::book::Book;
 use crate::kept::Kept;
 use crate::seat::Seat;
-use crate::steps::next_seat;
 use atomic_table::{Refused, Table};
 use ce_model::NoMemory;
 use std::alloc::Global;
@@ -24,12 +23,12 @@ impl<O: Kept> Book<O> {
     ) -> Result<(Book<O>, Vec<Seat<O>>), (O, NoMemory)>
         requires families { 1 ≤ families }
         requires empty { O.history object ≡ [] }
-        ensures book { IfOk result (λ made. (made.0.opening ≡ object)
-            × (made.0.families ≡ families)) }
-        ensures count { IfOk result (λ made. length made.1.items ≡ families) }
-        ensures heads { IfOk result (λ made. (k : ℕ) (d : _) → k < families
+        ensures book { IfOk result (λ pair. (pair.0.opening ≡ object)
+            × (pair.0.families ≡ families)) }
+        ensures count { IfOk result (λ pair. length pair.1.items ≡ families) }
+        ensures heads { IfOk result (λ pair. (k : ℕ) (d : _) → k < families
             → IsNewHead (meanings O.fixed O.history O.lawful O.whose O.alone_entry)
-            made.0 k (slice_index_or made.1.items k d)) }
+            pair.0 k (slice_index_or pair.1.items k d)) }
         ensures refused { IfErr result (λ back. back.0 ≡ object) }
     {
         let Ok(heads) = Vec::with_capacity(alloc, families as usize) else {
@@ -44,10 +43,10 @@ impl<O: Kept> Book<O> {
     fn lay(alloc: Global, object: O, families: u32) -> Result<(Book<O>, Chair<O>), (O, NoMemory)>
         requires families { 1 ≤ families }
         requires empty { O.history object ≡ [] }
-        ensures book { IfOk result (λ made. (made.0.opening ≡ object)
-            × (made.0.families ≡ families)) }
-        ensures first { IfOk result (λ made. (made.1.table_id ≡ made.0.table)
-            × (made.1.me ≡ (first_view object, []))) }
+        ensures book { IfOk result (λ pair. (pair.0.opening ≡ object)
+            × (pair.0.families ≡ families)) }
+        ensures first { IfOk result (λ pair. (pair.1.table_id ≡ pair.0.table)
+            × (pair.1.me ≡ (first_view object, []))) }
         ensures refused { IfErr result (λ back. back.0 ≡ object) }
     {
         let about = About {
@@ -80,7 +79,11 @@ impl<O: Kept> Book<O> {
     {
         let mut maker = first;
         for family in 0..families - 1 {
-            let next = next_seat(&self.board, &mut maker);
+            let mut pair = ChairAtBoard {
+                board: &self.board,
+                chair: &mut maker,
+            };
+            let next = pair.next_seat();
             heads.push_reserved(Seat::of_head(family, maker));
             maker = next;
         }

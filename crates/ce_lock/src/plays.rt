@@ -1,7 +1,7 @@
 //! What each kind of step tells, and how views are cut in two and joined.
 ghost use Rattle.std.specs.Prelude.{ℕ};
 ghost use Rattle.ce_lock.specs.Meanings.{meanings};
-ghost use Rattle.ce_lock.specs.Telling.{HasDrawn, HasLooked, HasTaken, HasCommitted, HasGiven, HasLeft, IsSettled, copy, view_after_making, next_head, view_with_out, actor_view, view_after_meeting, view_after_joining, view_after_closing, spent_view};
+ghost use Rattle.ce_lock.specs.Telling.{HasDrawn, HasLookedAtTicket, HasTakenObject, HasCommitted, HasGivenObject, HasLeft, IsSettled, copy, view_after_making, next_head, view_with_out, actor_view, view_after_meeting, view_after_joining, view_after_closing, spent_view};
 
 use crate::kept::Kept;
 use crate::view::View;
@@ -34,11 +34,11 @@ impl<O: Kept> Play<O, View<O, O::Entry>> for Draw {
 }
 
 impl<O: Kept> Play<O, View<O, O::Entry>> for Look {
-    ghost then = { λ _ me found after. HasLooked me found after };
+    ghost then = { λ _ me found after. HasLookedAtTicket me found after };
 }
 
 impl<O: Kept> Play<O, View<O, O::Entry>> for Take {
-    ghost then = { λ _ me _ after. HasTaken
+    ghost then = { λ _ me _ after. HasTakenObject
         (meanings O.fixed O.history O.lawful O.whose O.alone_entry)
         me after };
 }
@@ -50,7 +50,7 @@ impl<O: Kept> Play<O, View<O, O::Entry>> for Commit {
 }
 
 impl<O: Kept> Play<O, View<O, O::Entry>> for Give {
-    ghost then = { λ _ me _ after. HasGiven me after };
+    ghost then = { λ _ me _ after. HasGivenObject me after };
 }
 
 impl<O: Kept> Play<O, View<O, O::Entry>> for Leave {

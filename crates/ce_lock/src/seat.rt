@@ -2,7 +2,7 @@
 ghost use Rattle.std.specs.Prelude.{◌≡◌, ℕ, []};
 ghost use Rattle.ce_lock.specs.declared.who.Who.{Who};
 ghost use Rattle.ce_lock.specs.Meanings.{meanings};
-ghost use Rattle.ce_lock.specs.Sitting.{IsSound};
+ghost use Rattle.ce_lock.specs.Sitting.{IsSoundSeat};
 ghost use Rattle.ce_lock.specs.Telling.{fresh_head};
 
 use crate::board::Chair;
@@ -20,13 +20,13 @@ pub struct Seat<O: Kept> {
 
 impl<O: Kept> Model for Seat<O> {
     ghost use Rattle.ce_lock.specs.Meanings.{meanings};
-    ghost use Rattle.ce_lock.specs.Sitting.{Sitting, IsSound};
+    ghost use Rattle.ce_lock.specs.Sitting.{Sitting, IsSoundSeat};
 
     ghost Value = { Sitting O O.Entry };
 
     ghost view = { λ s. (s.chair.table_id, s.chair.me.0) };
 
-    ghost invariant = { λ s. IsSound (meanings O.fixed O.history O.lawful O.whose O.alone_entry)
+    ghost invariant = { λ s. IsSoundSeat (meanings O.fixed O.history O.lawful O.whose O.alone_entry)
         s.who s.chair.me };
 }
 
@@ -49,7 +49,7 @@ impl<O: Kept> Seat<O> {
     pub(crate) fn into_chair(self) -> Chair<O>
         ensures chair { (result.table_id, result.me.0) ≡ self }
         ensures sound { (actor : Who)
-            × IsSound (meanings O.fixed O.history O.lawful O.whose O.alone_entry) actor result.me }
+            × IsSoundSeat (meanings O.fixed O.history O.lawful O.whose O.alone_entry) actor result.me }
     {
         let Seat { who: _, chair } = self;
         chair

@@ -14,7 +14,7 @@ use Rattle.ce_model.specs.declared.entry.KillFound.TheVariants.{Killed, Unused, 
 use Rattle.ce_model.specs.Parcels.{Parcel, Item, start, mail, kill, is_eligible}
 use Rattle.ce_model.specs.Node.{Call, take_call, spawn_call, kill_call, note_call, arm_call, look_call, mail_call}
 use Rattle.ce_model.specs.Trace.{NodeRecord, taken_result, is_work, is_idle}
-use Rattle.ce_model.specs.Answers.{offer_of, is_among, kill_found, found_where, is_quiet_node, first_number}
+use Rattle.ce_model.specs.Answers.{offer_of, is_among, kill_found, look_result_where, is_quiet_node, first_number}
 use Rattle.ce_model.specs.Subcubes.{node_of, is_inside}
 use Rattle.ce_model.specs.Machine.{MachineParts, IsMachine, HeldCube, MachineState, cube_held_by, nodes_of, without_taken, record_by, cube_after_entry, after, IsCallOf, IsLawful}
 use Rattle.ce_solo.proofs.Sending.{place_parts}
@@ -79,7 +79,7 @@ module _ (parts : MachineParts) (machine : IsMachine parts) (h : List Entry) (la
   module _ (fits : IsCallOf parts h actor look_call cube) where
     -- what a look finds
     abbrev pub found : LookResult
-    found = found_where (list_all (λ node. is_quiet_node ((after h).node_record node)) (nodes_of cube.grant)) (cube.made_dispatches == cube.allowed_dispatches)
+    found = look_result_where (list_all (λ node. is_quiet_node ((after h).node_record node)) (nodes_of cube.grant)) (cube.made_dispatches == cube.allowed_dispatches)
 
     pub looked : answer_to (after h) cube actor look_call ≡ Look found
     looked = look-answer (after h) cube actor parts.dim (placed look_call fits)
@@ -233,7 +233,7 @@ module _ (parts : MachineParts) (machine : IsMachine parts) (h : List Entry) (la
       took-as = take-answer (after h) cube actor asking dead poller no_host ∙ ap (Take asking dead poller) e
 
       pub took-own : let kept = (after h).node_record actor in (next h (entry_of user actor (Take asking dead poller given))).node_record actor
-          ≡ record kept { waiting_items = without_taken (taken_result (Take asking dead poller given)) kept.waiting_items; mark = record { is_idle = is_idle given; asking_ids = asking; dead_ids = dead } }
+          ≡ record kept { waiting_items = without_taken (taken_result (Take asking dead poller given)) kept.waiting_items; mark = record { is_idle = is_idle given; asking = asking; dead = dead } }
       took-own =
           each call fits (Take asking dead poller given) took-as actor no_host
           ∙ take-own cube.grant.sub user actor actor (was actor) asking dead poller given (eq-eqb actor actor refl)

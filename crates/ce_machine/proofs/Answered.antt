@@ -9,7 +9,7 @@ use Rattle.ce_model.specs.declared.entry.What.TheVariants.{Arm, Look, HostTake, 
 use Rattle.ce_model.specs.Parcels.{is_eligible}
 use Rattle.ce_model.specs.Node.{Call, take_call, send_call, spawn_call, kill_call, note_call, arm_call, look_call, mail_call}
 use Rattle.ce_model.specs.Trace.{NodeRecord}
-use Rattle.ce_model.specs.Answers.{answer, offer_of, is_among, kill_found, is_quiet_node, is_quiet, found_where, first_number}
+use Rattle.ce_model.specs.Answers.{answer, offer_of, is_among, kill_found, is_quiet_node, is_quiet, look_result_where, first_number}
 use Rattle.ce_model.specs.Cube.{node_numbers}
 use Rattle.ce_model.specs.Subcubes.{node_of}
 use Rattle.ce_model.specs.Renaming.{place_outward, renamed_targets}
@@ -78,6 +78,6 @@ module _ (state : MachineState) (cube : HeldCube) (actor : ℕ) where
     all-quiet [] = refl
     all-quiet (r ∷ rs) = λ i. is_quiet_node (node-standing r i) && all-quiet rs i
 
-    pub look-answer : answer_to look_call ≡ Look (found_where (list_all (λ node. is_quiet_node (state.node_record node)) (nodes_of cube.grant)) (cube.made_dispatches == cube.allowed_dispatches))
+    pub look-answer : answer_to look_call ≡ Look (look_result_where (list_all (λ node. is_quiet_node (state.node_record node)) (nodes_of cube.grant)) (cube.made_dispatches == cube.allowed_dispatches))
     unfolding answer is_quiet
-    look-answer = ap (λ quiet. Look (found_where quiet (cube.made_dispatches == cube.allowed_dispatches))) (all-quiet (node_numbers cube.grant.dim))
+    look-answer = ap (λ quiet. Look (look_result_where quiet (cube.made_dispatches == cube.allowed_dispatches))) (all-quiet (node_numbers cube.grant.dim))

@@ -19,7 +19,7 @@ use Rattle.ce_model.specs.Lists.{without_first}
 use Rattle.ce_model.specs.Parcels.{Parcel, Item, start, mail, kill, is_named_by, message_parcels}
 use Rattle.ce_model.specs.Node.{Call, take_call, send_call, spawn_call, kill_call, note_call, arm_call, look_call, mail_call}
 use Rattle.ce_model.specs.Trace.{NodeRecord, Standing, taken_result, is_work, is_idle}
-use Rattle.ce_model.specs.Answers.{answer, recorded_call, is_quiet, is_used_up, found_where}
+use Rattle.ce_model.specs.Answers.{answer, recorded_call, is_quiet, is_used_up, look_result_where}
 use Rattle.ce_model.specs.Subcubes.{is_inside}
 use Rattle.ce_model.specs.Renaming.{CubeGrant, place_outward, number_outward, renamed_targets}
 use Rattle.ce_model.specs.Limits.{greatest_blocks}
@@ -135,12 +135,12 @@ module _ (sub : Subcube) (user actor node : ℕ) (kept : NodeRecord) where
 
   -- what a node takes
   pub take-own : (asking dead : ℕ) (poller : Option ℕ) (given : TakeResult) → (actor == node) ≡ true → by (Take asking dead poller given)
-      ≡ record kept { waiting_items = without_taken (taken_result (Take asking dead poller given)) kept.waiting_items; mark = record { is_idle = is_idle given; asking_ids = asking; dead_ids = dead } }
+      ≡ record kept { waiting_items = without_taken (taken_result (Take asking dead poller given)) kept.waiting_items; mark = record { is_idle = is_idle given; asking = asking; dead = dead } }
   take-own asking dead poller given own = rw own (λ i. record {
     waiting_items = append-nil (without_taken (taken_result (Take asking dead poller given)) kept.waiting_items) i;
     spawned_ids = append-nil kept.spawned_ids i;
     killed_ids = append-nil kept.killed_ids i;
-    mark = record { is_idle = is_idle given; asking_ids = asking; dead_ids = dead };
+    mark = record { is_idle = is_idle given; asking = asking; dead = dead };
   })
 
   -- what the calls of others leave
@@ -248,7 +248,7 @@ outside-quiet d grant user actor node kept nodes s (kill_call pid to) is other a
     kill-away grant.sub user actor node kept pid (place_outward grant.sub to) _ (apart to.node (inl (place_parts d to is).0)) ∙ busy-other actor node kept other
 outside-quiet d grant user actor node kept nodes s (note_call pid word) is other apart = note-record grant.sub user actor node kept pid word ∙ busy-other actor node kept other
 outside-quiet d grant user actor node kept nodes s (arm_call count) is other apart = arm-record grant.sub user actor node kept other count
-outside-quiet d grant user actor node kept nodes s look_call is other apart = look-record grant.sub user actor node kept other (found_where (is_quiet nodes s) (is_used_up s))
+outside-quiet d grant user actor node kept nodes s look_call is other apart = look-record grant.sub user actor node kept other (look_result_where (is_quiet nodes s) (is_used_up s))
 outside-quiet d grant user actor node kept nodes s mail_call is other apart = take_mail-record grant.sub user actor node kept other _
 
 module _ (parts : MachineParts) (machine : IsMachine parts) (h : List Entry) (lawful : IsLawful parts h) (user : ℕ) (cube : HeldCube) (holds : cube_held_by (after h) user ≡ Some cube)

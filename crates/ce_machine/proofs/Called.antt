@@ -11,7 +11,7 @@ use Rattle.ce_model.specs.Limits.{greatest_targets, process_count, process_count
 use Rattle.ce_model.specs.Node.{Node, Call, send_call, spawn_call, kill_call, is_place, host_place}
 use Rattle.ce_model.specs.Kernel.{is_target}
 use Rattle.ce_model.specs.Saying.{says}
-use Rattle.ce_model.specs.Cube.{Cube, CubeState, IsCube, opening, state_after_trace, asked_host_call, actor_call}
+use Rattle.ce_model.specs.Cube.{Cube, CubeState, IsCube, opening, state_after_trace, host_call_of, actor_call}
 use Rattle.ce_model.specs.Sound.{IsSound}
 use Rattle.ce_model.specs.Subcubes.{relative_number, is_inside}
 use Rattle.ce_model.specs.Renaming.{renamed_targets, renamed_call_blocks, block_outward}
@@ -132,18 +132,18 @@ module _ (parts : MachineParts) (machine : IsMachine parts) (h : List Entry) (la
     -- ---- a call of it that fits
 
     module _ (actor : ℕ) (call : Call) (fits : IsCallOf parts h actor call cube) where
-      is_made : IsMadeCall own left_now (relative_number cube.grant.sub actor) (asked_host_call fits.made) fits.made
+      is_made : IsMadeCall own left_now (relative_number cube.grant.sub actor) (host_call_of fits.made) fits.made
       is_made =
-          made own left_now (relative_number cube.grant.sub actor) (asked_host_call fits.made) fits.made
-          (subst (λ t. actor_call own (opening own) t (relative_number cube.grant.sub actor) (asked_host_call fits.made) ≡ Some fits.made)
+          made own left_now (relative_number cube.grant.sub actor) (host_call_of fits.made) fits.made
+          (subst (λ t. actor_call own (opening own) t (relative_number cube.grant.sub actor) (host_call_of fits.made) ≡ Some fits.made)
           (view-is h cube.number cube.grant was.behind was.found) fits.next)
 
       -- it names places of the cube
       pub call-places : HasPlacesOf cube.grant.dim call
       call-places = subst (HasPlacesOf cube.grant.dim) fits.renamed (has-places (block_outward cube.grant) cube.grant.dim fits.made (by_made is_made))
         where
-          by_made : IsMadeCall own left_now (relative_number cube.grant.sub actor) (asked_host_call fits.made) fits.made → HasPlacesOf cube.grant.dim fits.made
-          by_made (by_host is e) = host-places cube.grant.dim fits.made (asked-host_call own left_now.hoststore (asked_host_call fits.made) fits.made e)
+          by_made : IsMadeCall own left_now (relative_number cube.grant.sub actor) (host_call_of fits.made) fits.made → HasPlacesOf cube.grant.dim fits.made
+          by_made (by_host is e) = host-places cube.grant.dim fits.made (asked-host_call own left_now.hoststore (host_call_of fits.made) fits.made e)
           by_made (by_node below e) =
               let r = relative_number cube.grant.sub actor in
               let said = made-leaves own left_now r fits.made own-is below (sound-now fits.not_drained) e in
@@ -153,8 +153,8 @@ module _ (parts : MachineParts) (machine : IsMachine parts) (h : List Entry) (la
       pub host-call : (actor == HOST) ≡ true → IsHostCall cube.grant.dim call
       host-call host = subst (IsHostCall cube.grant.dim) fits.renamed (host-renamed (block_outward cube.grant) cube.grant.dim fits.made (by_made is_made))
         where
-          by_made : IsMadeCall own left_now (relative_number cube.grant.sub actor) (asked_host_call fits.made) fits.made → IsHostCall cube.grant.dim fits.made
-          by_made (by_host is e) = asked-host_call own left_now.hoststore (asked_host_call fits.made) fits.made e
+          by_made : IsMadeCall own left_now (relative_number cube.grant.sub actor) (host_call_of fits.made) fits.made → IsHostCall cube.grant.dim fits.made
+          by_made (by_host is e) = asked-host_call own left_now.hoststore (host_call_of fits.made) fits.made e
           by_made (by_node below e) =
               let is : relative_number cube.grant.sub actor ≡ HOST = ap (relative_number cube.grant.sub) (eqb-true actor HOST host) ∙ relative_host parts.dim cube.grant was.placed in
               absurd (omega (arith, is, not_host own _ own-is below))
@@ -163,7 +163,7 @@ module _ (parts : MachineParts) (machine : IsMachine parts) (h : List Entry) (la
       pub node-call : is_inside cube.grant.sub actor ≡ true → IsNodeCall call
       node-call inside = subst IsNodeCall fits.renamed (node-renamed (block_outward cube.grant) fits.made (by_made is_made))
         where
-          by_made : IsMadeCall own left_now (relative_number cube.grant.sub actor) (asked_host_call fits.made) fits.made → IsNodeCall fits.made
+          by_made : IsMadeCall own left_now (relative_number cube.grant.sub actor) (host_call_of fits.made) fits.made → IsNodeCall fits.made
           by_made (by_host is e) =
               absurd (omega (
                 arith,

@@ -7,8 +7,8 @@ use Rattle.ce_model.specs.Machine.{HeldCube, IsCallOf}
 use Rattle.ce_daemon.specs.declared.grant.Grant.{Grant}
 use Rattle.ce_daemon.specs.Holding as daemon
 use Rattle.ce_machine.specs.Desks.{AreChanged, IsOnDesks}
-use Rattle.ce_machine.proofs.Steps.{SoundMachine, IsIn, few-desks, actor-known, grant-is, has-grant, on-desks}
-use Rattle.ce_machine.proofs.SaySteps.{still-actor}
+use Rattle.ce_machine.proofs.Entries.{SoundMachine, IsIn, few-desks, actor-known, grant-is, has-grant, on-desks}
+use Rattle.ce_machine.proofs.SayEntries.{still-actor}
 
 module _ (m : SoundMachine) where
   open m use {parts, history as h, holding, desks}

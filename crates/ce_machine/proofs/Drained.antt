@@ -12,8 +12,8 @@ use Rattle.ce_model.specs.Machine.{MachineParts, IsMachine, HeldCube, MachineSta
 use Rattle.ce_model.proofs.Walked.{kept_by_each, each-more}
 use Rattle.ce_solo.proofs.Items.{among-append}
 use Rattle.ce_solo.proofs.Projection.Held.{held-own, record-own, granted-own, left-own}
-use Rattle.ce_solo.proofs.Projection.Invariant.{IsProjected, IsStep}
-use Rattle.ce_solo.proofs.Projection.Law.{projected, lawful-step}
+use Rattle.ce_solo.proofs.Projection.Invariant.{IsProjected, IsNextState}
+use Rattle.ce_solo.proofs.Projection.Law.{projected, lawful-entry}
 use Rattle.ce_machine.proofs.Changes.{same_cube, next, grant_to, Change, nothing, grants, drains, frees, calls, change-of}
 
 -- ---- nothing waits
@@ -31,8 +31,8 @@ module _ (parts : MachineParts) (machine : IsMachine parts) (h : List Entry) (en
   abbrev before : IsProjected parts (after h) h
   before = projected parts h machine empty.lawful
 
-  abbrev step : IsStep parts (after h) h entry (next h entry)
-  step = lawful-step parts machine h before entry is
+  abbrev step : IsNextState parts (after h) h entry (next h entry)
+  step = lawful-entry parts machine h before entry is
 
   own-empty : Change parts h entry → (cube : HeldCube) → cube_held_by (next h entry) entry.user ≡ Some cube → cube.is_drained ≡ true → IsEmpty (next h entry) cube
   own-empty (nothing e) cube held drained =

@@ -9,7 +9,7 @@ use Rattle.ce_model.specs.Answers.{recorded_call}
 use Rattle.ce_model.specs.Subcubes.{is_inside}
 use Rattle.ce_model.specs.Machine.{HeldCube, MachineState, is_held_by, cube_held_by, held_grants, record_by, cube_after_entry, with_cube, with_grant, with_drained, without_cube, state_after_call, after}
 use Rattle.ce_solo.proofs.Projection.Held.{held-own, held-other, record-own, record-other, granted-own, granted-other, left-own, left-other}
-use Rattle.ce_solo.proofs.Projection.Kinds.{entry_of}
+use Rattle.ce_solo.proofs.Projection.Kinds.{entry_of, drained_cube, drained_record}
 use Rattle.ce_solo.proofs.Projection.Law.{after-more}
 pub use Rattle.ce_machine.specs.Keeping.{grant_of, grants-kept, grant-found, grants-stay}
 use Rattle.ce_machine.proofs.Changes.{grant_to, next}
@@ -85,12 +85,6 @@ module _ (h : List Entry) (user actor : ℕ) where
   -- a cube is drained
   abbrev draining : Entry
   draining = entry_of user actor Drain
-
-  abbrev drained_cube : HeldCube → HeldCube
-  drained_cube cube = record cube { is_drained = true; mail = [] }
-
-  abbrev drained_record : HeldCube → ℕ → NodeRecord → NodeRecord
-  drained_record cube node kept = record kept { waiting_items = [] }
 
   pub drain-state : next h draining ≡ with_drained user (after h)
   drain-state = after-more h draining

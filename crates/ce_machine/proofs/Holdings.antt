@@ -11,9 +11,10 @@ use Rattle.ce_model.specs.Machine.{HeldCube, MachineState, cube_held_by, is_held
 use Rattle.ce_model.proofs.Subcubes.{node_of-within, ones_of-bound}
 use Rattle.ce_solo.proofs.Projection.Numbers.{IsPlaced}
 use Rattle.ce_daemon.specs.declared.grant.Grant.{Grant}
+use Rattle.ce_daemon.specs.Holding.{next_grant}
 use Rattle.ce_daemon.specs.Holding as daemon
 use Rattle.ce_daemon.specs.Peeks.{numbered_grant}
-use Rattle.ce_machine.specs.Replies.{next_grant}
+use Rattle.ce_machine.specs.Tables.{grant_table}
 use Rattle.ce_machine.proofs.Changes.{grant_to}
 use Rattle.ce_machine.proofs.Effects.{grant_of}
 
@@ -21,16 +22,12 @@ use Rattle.ce_machine.proofs.Effects.{grant_of}
 abbrev pub grants_in : MachineState → List Grant
 grants_in state = map numbered_grant (held_grants state)
 
--- what the daemon of a machine of this dimension holds
-abbrev pub holding_of : ℕ → MachineState → daemon.GrantTable
-holding_of dim state = record { dim = dim; count = state.grant_count; grants = grants_in state }
-
 -- the grant of a cube
 abbrev pub grant_held : HeldCube → Grant
 grant_held cube = numbered_grant (grant_of cube)
 
 -- the daemon has the grant of the cube that a user holds
-pub held-same : (dim : ℕ) (state : MachineState) (user : ℕ) → daemon.grant_held_by (holding_of dim state) user ≡ option_map grant_held (cube_held_by state user)
+pub held-same : (dim : ℕ) (state : MachineState) (user : ℕ) → daemon.grant_held_by (grant_table dim state) user ≡ option_map grant_held (cube_held_by state user)
 held-same dim state user = by_cubes state.cubes
   where
     by_cubes : (cubes : List HeldCube) → find (daemon.is_user user) (map numbered_grant (map grant_of cubes)) ≡ option_map grant_held (find (is_held_by user) cubes)
@@ -38,7 +35,7 @@ held-same dim state user = by_cubes state.cubes
     by_cubes (cube ∷ cubes) = elim (cases_Bool (is_held_by user cube)) [ inl t ↦ rw t refl | inr f ↦ rw f (by_cubes cubes) ]
 
 -- a node is free for the daemon where it is for the machine
-pub free-same : (dim : ℕ) (state : MachineState) → daemon.is_free (holding_of dim state) ≡ is_free state
+pub free-same : (dim : ℕ) (state : MachineState) → daemon.is_ungranted (grant_table dim state) ≡ is_free state
 free-same dim state = λ i node. not (by_cubes node state.cubes i)
   where
     by_cubes : (node : ℕ) (cubes : List HeldCube) → list_any (daemon.is_granted node) (map numbered_grant (map grant_of cubes)) ≡ list_any (λ (cube : HeldCube). is_inside cube.grant.sub node) cubes
@@ -47,13 +44,13 @@ free-same dim state = λ i node. not (by_cubes node state.cubes i)
 
 -- a cube is granted, and one is given back
 pub grant-holding : (dim : ℕ) (state : MachineState) (user d : ℕ) (sub : Subcube)
-    → holding_of dim (with_grant (grant_to user d sub) state) ≡ daemon.with_grant (next_grant state user d sub) (holding_of dim state)
+    → grant_table dim (with_grant (grant_to user d sub) state) ≡ daemon.table_with_grant (next_grant state.grant_count user d sub) (grant_table dim state)
 grant-holding dim state user d sub = λ i. record { dim = dim; count = state.grant_count + 1; grants = grants i }
   where
-    grants : grants_in (with_grant (grant_to user d sub) state) ≡ grants_in state ++ next_grant state user d sub ∷ []
+    grants : grants_in (with_grant (grant_to user d sub) state) ≡ grants_in state ++ next_grant state.grant_count user d sub ∷ []
     grants = ap (map numbered_grant) (map-append grant_of state.cubes _) ∙ map-append numbered_grant (held_grants state) _
 
-pub free-holding : (dim : ℕ) (state : MachineState) (user : ℕ) → holding_of dim (without_cube user state) ≡ daemon.without_user user (holding_of dim state)
+pub free-holding : (dim : ℕ) (state : MachineState) (user : ℕ) → grant_table dim (without_cube user state) ≡ daemon.without_user user (grant_table dim state)
 free-holding dim state user = λ i. record { dim = dim; count = state.grant_count; grants = by_cubes state.cubes i }
   where
     by_cubes : (cubes : List HeldCube) → map numbered_grant (map grant_of (filter (λ cube. not (is_held_by user cube)) cubes))
@@ -66,7 +63,7 @@ free-holding dim state user = λ i. record { dim = dim; count = state.grant_coun
         ]
 
 -- where the grants stay and their count does, the holding stays
-pub same-holding : (dim : ℕ) (state state' : MachineState) → state'.grant_count ≡ state.grant_count → held_grants state' ≡ held_grants state → holding_of dim state' ≡ holding_of dim state
+pub same-holding : (dim : ℕ) (state state' : MachineState) → state'.grant_count ≡ state.grant_count → held_grants state' ≡ held_grants state → grant_table dim state' ≡ grant_table dim state
 same-holding dim state state' count grants = λ i. record { dim = dim; count = count i; grants = map numbered_grant (grants i) }
 
 -- ---- a grant of a machine of this dimension

@@ -12,7 +12,7 @@ use Rattle.ce_model.specs.Subcubes.{node_of}
 use Rattle.ce_model.specs.Renaming.{number_outward}
 use Rattle.ce_model.specs.Limits.{node_room, mail_room}
 use Rattle.ce_machine.specs.Tables.{HostRecord, desk_at}
-use Rattle.ce_machine.specs.Desks.{AreChanged, at_node, with_items, letter, letters, IsOnDesks, IsInCube, HasMailRoom}
+use Rattle.ce_machine.specs.Desks.{AreChanged, change_at_node, with_items, letter, letters, IsOnDesks, IsInCube, HasMailRoom}
 use Rattle.ce_solo.proofs.Renaming.Grants.{few_nodes}
 
 -- so far this was posted, and these places are left
@@ -32,7 +32,7 @@ module _ {sub : Subcube} {from : Place} {number : ℕ} {targets : List (Place ×
   -- one place more
   pub posted-more : {number' : ℕ} {target : Place × Block} {rest : List (Place × Block)} {now then_is : List NodeRecord} {host' host'' : HostRecord}
       → IsPosted sub from number targets desks host number' (target ∷ rest) now host'
-      → AreChanged now then_is (at_node (number_outward sub target.0.node) (with_items (letter from number' target ∷ [])))
+      → AreChanged now then_is (change_at_node (number_outward sub target.0.node) (with_items (letter from number' target ∷ [])))
       → host'' ≡ record host' { mail = host'.mail ++ (if target.0.node == HOST then letter from number' target ∷ [] else []) }
       → (number_outward sub target.0.node == HOST) ≡ (target.0.node == HOST)
       → IsPosted sub from number targets desks host (number' + 1) rest then_is host''

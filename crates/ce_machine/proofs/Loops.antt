@@ -12,7 +12,7 @@ use Rattle.ce_model.specs.Subcubes.{node_of, extract, is_inside, IsSubcube}
 use Rattle.ce_model.proofs.Subcubes.{extract-node_of, extract-below, node_of-extract}
 use Rattle.ce_solo.proofs.Renaming.Grants.{few_nodes}
 use Rattle.ce_machine.specs.Tables.{desk_at}
-use Rattle.ce_machine.specs.Desks.{AreChanged, at_nodes}
+use Rattle.ce_machine.specs.Desks.{AreChanged, change_at_nodes}
 
 -- the nodes of a cube from its node r on
 abbrev pub rest_from : Subcube → ℕ → ℕ → List ℕ
@@ -52,7 +52,7 @@ first-none sub change desks = record {
 }
 
 pub first-all : (sub : Subcube) (d : ℕ) (change : NodeRecord → NodeRecord) (desks desks' : List NodeRecord) → IsSubcube greatest_dim d sub
-    → AreChanged desks desks' (at_first sub (2 ^ d) change) → AreChanged desks desks' (at_nodes sub change)
+    → AreChanged desks desks' (at_first sub (2 ^ d) change) → AreChanged desks desks' (change_at_nodes sub change)
 first-all sub d change desks desks' is all = record {
   count = all.count;
   each = λ node below. all.each node below ∙ ap (λ (b : Bool). if b then change (desk_at desks node) else desk_at desks node)

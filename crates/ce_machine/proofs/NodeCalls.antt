@@ -199,7 +199,7 @@ abbrev IfHostCall : ℕ → Option Call → Type 0
 IfHostCall d None = Unit {0}
 IfHostCall d (Some call) = IsHostCall d call
 
-host-good : (cube : Cube) (store : List BlockId) (asked : Option HostCall) → IfHostCall cube.dim (option_and_then (host_call cube store) asked)
+host-good : (cube : Cube) (store : List BlockId) (wish : Option HostCall) → IfHostCall cube.dim (option_and_then (host_call cube store) wish)
 host-good cube store None = tt
 host-good cube store (Some (send_bytes to bytes)) =
     cond_both (is_place cube.dim to) (option_map (λ id. send_call 0 ((to, id) ∷ []) bytes) (slice_get store 0)) None (IfHostCall cube.dim) (λ t. by_block (slice_get store 0) t) (λ f. tt)
@@ -216,6 +216,6 @@ host-good cube store (Some look_round) = tt
 host-good cube store (Some take_message) = tt
 
 -- what a host makes of what its user asks is a call that a host can make
-pub asked-host_call : (cube : Cube) (store : List BlockId) (asked : Option HostCall) (call : Call) → option_and_then (host_call cube store) asked ≡ Some call
+pub asked-host_call : (cube : Cube) (store : List BlockId) (wish : Option HostCall) (call : Call) → option_and_then (host_call cube store) wish ≡ Some call
     → IsHostCall cube.dim call
-asked-host_call cube store asked call e = subst (IfHostCall cube.dim) e (host-good cube store asked)
+asked-host_call cube store wish call e = subst (IfHostCall cube.dim) e (host-good cube store wish)

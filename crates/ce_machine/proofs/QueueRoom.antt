@@ -25,8 +25,8 @@ use Rattle.ce_solo.proofs.Records.{among-all}
 use Rattle.ce_solo.proofs.Renaming.Grants.{few_nodes}
 use Rattle.ce_solo.proofs.Projection.Numbers.{inside_below}
 use Rattle.ce_solo.proofs.Projection.Held.{held-own, granted-own, left-own}
-use Rattle.ce_solo.proofs.Projection.Invariant.{IsHeld, IsStep}
-use Rattle.ce_solo.proofs.Projection.Law.{projected, lawful-step}
+use Rattle.ce_solo.proofs.Projection.Invariant.{IsHeld, IsNextState}
+use Rattle.ce_solo.proofs.Projection.Law.{projected, lawful-entry}
 use Rattle.ce_machine.proofs.NodeCalls.{IsNodeCall}
 use Rattle.ce_machine.proofs.Changes.{same_cube, next, grant_to, Change, nothing, grants, drains, frees, calls, change-of}
 use Rattle.ce_machine.proofs.Called.{HasFewPlaces, left_now, own-is, sound-now, node-call, call-few}
@@ -240,8 +240,8 @@ module _ (parts : MachineParts) (machine : IsMachine parts) (h : List Entry) (en
   lawful-next : IsLawful parts h'
   lawful-next = each-more (IsLawfulEntry parts) h entry room.lawful is
 
-  abbrev step : IsStep parts (after h) h entry (after h')
-  step = lawful-step parts machine h (projected parts h machine room.lawful) entry is
+  abbrev step : IsNextState parts (after h) h entry (after h')
+  step = lawful-entry parts machine h (projected parts h machine room.lawful) entry is
 
   -- a cube that makes a call
   held_next : (cube : HeldCube) → cube_held_by (after h) entry.user ≡ Some cube

@@ -6,7 +6,7 @@ use Rattle.ce_model.specs.declared.entry.Entry.{Entry}
 use Rattle.ce_model.specs.declared.entry.TakeResult.{TakeResult}
 use Rattle.ce_model.specs.declared.entry.TakeResult.TheVariants.{Start, Mail, Kill, Poll, Idle, Spent}
 use Rattle.ce_model.specs.Lists.{without_first}
-use Rattle.ce_model.specs.Parcels.{Parcel, Item, start, mail, kill, is_eligible, given_as, is_named_by, parcel_in}
+use Rattle.ce_model.specs.Parcels.{Parcel, Item, start, mail, kill, is_eligible, take_result_of, is_named_by, parcel_in}
 use Rattle.ce_model.specs.Cube.{parcel_numbered}
 use Rattle.ce_model.specs.Trace.{NodeRecord}
 use Rattle.ce_model.specs.Subcubes.{extract, is_inside}
@@ -82,7 +82,7 @@ module _ (parts : MachineParts) (machine : IsMachine parts) (h : List Entry) (la
   items = ((after h).node_record node).waiting_items
 
   -- an item's name stands once among those that wait at a node of a cube
-  pub waiting-once : (item : Item) → count_by (is_named_by (given_as item)) ((after h).node_record node).waiting_items ≤ 1
+  pub waiting-once : (item : Item) → count_by (is_named_by (take_result_of item)) ((after h).node_record node).waiting_items ≤ 1
   waiting-once item =
       let was = (projected parts h machine lawful).held user cube holds in
       let s = left_now parts machine h lawful user cube holds in
@@ -93,22 +93,22 @@ module _ (parts : MachineParts) (machine : IsMachine parts) (h : List Entry) (la
       ap (λ n. ((after h).node_record n).waiting_items) (sym (node_of-extract cube.grant.sub node inside)) ∙ ap (λ (k : NodeRecord). k.waiting_items) ((was.kept goes).nodes r below) in
       omega (
         arith,
-        ap (count_by (is_named_by (given_as item))) is,
-        count-renamed (block_outward cube.grant) (given_as item) kept.waiting_items,
+        ap (count_by (is_named_by (take_result_of item))) is,
+        count-renamed (block_outward cube.grant) (take_result_of item) kept.waiting_items,
         named_once (own parts machine h lawful user cube holds) s.standing.parcel_count r kept item ((sound-now parts machine h lawful user cube holds goes).records r below),
       )
 
   -- the first item that the node can be given is the one that the entry takes out
   pub taken-first : (asking dead : ℕ) (item : Item) → find (is_eligible asking dead) ((after h).node_record node).waiting_items ≡ Some item
-      → without_first (is_named_by (given_as item)) ((after h).node_record node).waiting_items ≡ without_first (is_eligible asking dead) ((after h).node_record node).waiting_items
-  taken-first asking dead item found = same-without (is_eligible asking dead) (is_named_by (given_as item)) items item found (named-itself item) (waiting-once item)
+      → without_first (is_named_by (take_result_of item)) ((after h).node_record node).waiting_items ≡ without_first (is_eligible asking dead) ((after h).node_record node).waiting_items
+  taken-first asking dead item found = same-without (is_eligible asking dead) (is_named_by (take_result_of item)) items item found (named-itself item) (waiting-once item)
 
   -- and a parcel among them is the one of its number
   pub taken-parcel : (asking dead : ℕ) (parcel : Parcel) → find (is_eligible asking dead) ((after h).node_record node).waiting_items ≡ Some (mail parcel)
       → parcel_numbered parcel.number ((after h).node_record node).waiting_items ≡ Some parcel
   taken-parcel asking dead parcel found =
       ap (option_and_then parcel_in) (by_number items
-      ∙ (find-out (is_eligible asking dead) (is_named_by (given_as (mail parcel))) items (mail parcel) found (named-itself (mail parcel)) (waiting-once (mail parcel))).found)
+      ∙ (find-out (is_eligible asking dead) (is_named_by (take_result_of (mail parcel))) items (mail parcel) found (named-itself (mail parcel)) (waiting-once (mail parcel))).found)
     where
       by_number : (items : List Item) → find (is_named_by (Mail 0 parcel.number)) items ≡ find (is_named_by (Mail parcel.to.pid parcel.number)) items
       by_number [] = refl

@@ -1,7 +1,8 @@
 -- What a call of the machine does, as its caller sees it.
-use Rattle.std.specs.Prelude.{◌≡◌, ℕ, ◌^◌, ◌<◌, [], ◌∷◌, ◌++◌, length}
+use Rattle.std.specs.Prelude.{◌≡◌, ℕ, ◌<◌, [], ◌∷◌, ◌++◌, length}
 use Rattle.ce_model.specs.declared.entry.Entry.{Entry}
 use Rattle.ce_model.specs.Machine.{IsLawful}
+use Rattle.ce_lock.specs.declared.limits.TheConstants.{HISTORY_LIMIT}
 use Rattle.ce_lock.specs.declared.who.Who.{Who}
 use Rattle.ce_machine.specs.declared.call.Call.{Call}
 use Rattle.ce_machine.specs.declared.call.Reply.{Reply}
@@ -15,4 +16,4 @@ pub record HasAnswered {N : Type 0} (home : N → ℕ) (clean : N → Type 0) (o
   pub grows : new.history ≡ old.history ++ entry ∷ []
   pub stands : IsAnsweredBy home clean old.parts old.history entry who call reply
   pub lawful : IsLawful new.parts new.history
-  pub few : length new.history < 2 ^ 63
+  pub few : length new.history < HISTORY_LIMIT

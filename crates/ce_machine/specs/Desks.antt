@@ -19,40 +19,40 @@ pub record AreChanged (old new : List NodeRecord) (change : ℕ → NodeRecord �
   pub each : (node : ℕ) → node < length old → desk_at new node ≡ change node (desk_at old node)
 
 -- one desk changes
-abbrev pub at_node : ℕ → (NodeRecord → NodeRecord) → ℕ → NodeRecord → NodeRecord
-at_node r change node kept = if r == node then change kept else kept
+abbrev pub change_at_node : ℕ → (NodeRecord → NodeRecord) → ℕ → NodeRecord → NodeRecord
+change_at_node r change node node_record = if r == node then change node_record else node_record
 
 -- the desks of a subcube change
-abbrev pub at_nodes : Subcube → (NodeRecord → NodeRecord) → ℕ → NodeRecord → NodeRecord
-at_nodes sub change node kept = if is_inside sub node then change kept else kept
+abbrev pub change_at_nodes : Subcube → (NodeRecord → NodeRecord) → ℕ → NodeRecord → NodeRecord
+change_at_nodes sub change node node_record = if is_inside sub node then change node_record else node_record
 
 -- a node has made an entry that isn't a Take
 abbrev pub with_busy_mark : NodeRecord → NodeRecord
-with_busy_mark kept = record kept { mark = record kept.mark { is_idle = false } }
+with_busy_mark node_record = record node_record { mark = record node_record.mark { is_idle = false } }
 
 -- an item waits from now on
 abbrev pub with_items : List Item → NodeRecord → NodeRecord
-with_items items kept = record kept { waiting_items = kept.waiting_items ++ items }
+with_items items node_record = record node_record { waiting_items = node_record.waiting_items ++ items }
 
 -- nothing waits any longer
 abbrev pub without_items : NodeRecord → NodeRecord
-without_items kept = record kept { waiting_items = [] }
+without_items node_record = record node_record { waiting_items = [] }
 
 -- the start of a process waits from now on, and its id is used
 abbrev pub with_start : (pid image : ℕ) → NodeRecord → NodeRecord
-with_start pid image kept = record kept { waiting_items = kept.waiting_items ++ start pid image ∷ []; spawned_ids = kept.spawned_ids ++ pid ∷ [] }
+with_start pid image node_record = record node_record { waiting_items = node_record.waiting_items ++ start pid image ∷ []; spawned_ids = node_record.spawned_ids ++ pid ∷ [] }
 
 -- so does the end of a process, where a kill found it
 abbrev pub with_kill : KillFound → ℕ → NodeRecord → NodeRecord
-with_kill Killed pid kept = record kept { waiting_items = kept.waiting_items ++ kill pid ∷ []; killed_ids = kept.killed_ids ++ pid ∷ [] }
-with_kill other pid kept = kept
+with_kill Killed pid node_record = record node_record { waiting_items = node_record.waiting_items ++ kill pid ∷ []; killed_ids = node_record.killed_ids ++ pid ∷ [] }
+with_kill other pid node_record = node_record
 
 -- there is room for the start of a process, and for the end of one
 abbrev pub HasStartRoom : NodeRecord → Type 0
-HasStartRoom kept = (length kept.waiting_items < node_room) × (length kept.spawned_ids < process_count)
+HasStartRoom node_record = (length node_record.waiting_items < node_room) × (length node_record.spawned_ids < process_count)
 
 abbrev pub HasKillRoom : NodeRecord → Type 0
-HasKillRoom kept = (length kept.waiting_items < node_room) × (length kept.killed_ids < process_count)
+HasKillRoom node_record = (length node_record.waiting_items < node_room) × (length node_record.killed_ids < process_count)
 
 -- a subcube of a machine with so many nodes, none of which has the host's number
 pub record IsOnDesks (count dim : ℕ) (sub : Subcube) : Type 0 where

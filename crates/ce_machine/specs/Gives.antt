@@ -16,13 +16,13 @@ heard_item (Kill pid) = Some (kill pid)
 heard_item other = None
 
 -- how an entry names what a node hears
-abbrev pub given_in : Hearing → TakeResult
-given_in (Start pid image) = take_result.Start pid image
-given_in (Mail parcel) = take_result.Mail parcel.to.pid parcel.number
-given_in (Kill pid) = take_result.Kill pid
-given_in (Poll pid) = take_result.Poll pid
-given_in Spent = take_result.Spent
-given_in other = take_result.Idle
+abbrev pub result_of_hearing : Hearing → TakeResult
+result_of_hearing (Start pid image) = take_result.Start pid image
+result_of_hearing (Mail parcel) = take_result.Mail parcel.to.pid parcel.number
+result_of_hearing (Kill pid) = take_result.Kill pid
+result_of_hearing (Poll pid) = take_result.Poll pid
+result_of_hearing Spent = take_result.Spent
+result_of_hearing other = take_result.Idle
 
 -- the item that a node is given, if any, by whether the allowed dispatches are used up
 abbrev pub chosen_item : Bool → ℕ → ℕ → List Item → Option Item

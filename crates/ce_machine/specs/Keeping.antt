@@ -14,11 +14,11 @@ use Rattle.ce_model.proofs.Walked.{each_of_front, each_behind}
 use Rattle.ce_daemon.specs.Boxes.{AreBoxesOf}
 use Rattle.ce_daemon.specs.Peeks.{numbered_grant}
 use Rattle.ce_lock.specs.declared.who.Who.{Who}
-use Rattle.ce_lock.specs.Entries.{IsForeign}
+use Rattle.ce_lock.specs.Entries.{IsForeignEntry}
 use Rattle.ce_solo.specs.Laws as solo
 use Rattle.ce_solo.proofs.Projection.StillFits as requests
 use Rattle.ce_solo.proofs.Projection.Kinds.{entry_of}
-use Rattle.ce_solo.proofs.Projection.Law.{after-more, projected, lawful-step}
+use Rattle.ce_solo.proofs.Projection.Law.{after-more, projected, lawful-entry}
 use Rattle.ce_machine.specs.declared.call.Call.{Call}
 use Rattle.ce_machine.specs.declared.call.Call.TheVariants as calls
 use Rattle.ce_machine.specs.declared.call.Reply.{Reply}
@@ -129,7 +129,7 @@ module _ {N : Type 0} (home : N → ℕ) (clean : N → Type 0) (parts : Machine
 
   -- ---- what fits goes on fitting
 
-  still_foreign : (before : List Entry) (entry : Entry) (who : Who) (lawful : IsLawfulEntry parts before entry) → IsForeign whose is_alone_entry who entry
+  still_foreign : (before : List Entry) (entry : Entry) (who : Who) (lawful : IsLawfulEntry parts before entry) → IsForeignEntry whose is_alone_entry who entry
       → solo.IsForeign who.family who.actor entry lawful.request
   still_foreign before entry who lawful (inl family) = inl (ne_eqb _ _ family)
   still_foreign before entry who lawful (inr beside) = inr (
@@ -139,9 +139,9 @@ module _ {N : Type 0} (home : N → ℕ) (clean : N → Type 0) (parts : Machine
 
   -- the user holds the grant that it held
   grant_stays : (before : List Entry) (entry : Entry) (who : Who) → IsMachine parts → IsLawful parts before → IsLawfulEntry parts before entry
-      → IsForeign whose is_alone_entry who entry → option_map grant_of (cube_held_by (after (before ++ entry ∷ [])) who.family) ≡ option_map grant_of (cube_held_by (after before) who.family)
+      → IsForeignEntry whose is_alone_entry who entry → option_map grant_of (cube_held_by (after (before ++ entry ∷ [])) who.family) ≡ option_map grant_of (cube_held_by (after before) who.family)
   grant_stays before entry who machine is lawful (inl family) =
-      ap (option_map grant_of) ((lawful-step parts machine before (projected parts before machine is) entry lawful).others who.family (ne_eqb _ _ family))
+      ap (option_map grant_of) ((lawful-entry parts machine before (projected parts before machine is) entry lawful).others who.family (ne_eqb _ _ family))
   grant_stays before entry who machine is lawful (inr beside) =
       grant-found who.family (after (before ++ entry ∷ [])).cubes
       ∙ ap (find (λ (grant : ℕ × CubeGrant). grant.1.user == who.family)) (grants-stay before entry beside.1)
@@ -161,7 +161,7 @@ module _ {N : Type 0} (home : N → ℕ) (clean : N → Type 0) (parts : Machine
   boxes_stay before behind user other e some = some
 
   pub still_fits : (before : List Entry) (entry : Entry) (who : Who) (call : Call N) → IsLawful parts (before ++ entry ∷ [])
-      → IsFittingCall home clean parts before who call → IsForeign whose is_alone_entry who entry → IsFittingCall home clean parts (before ++ entry ∷ []) who call
+      → IsFittingCall home clean parts before who call → IsForeignEntry whose is_alone_entry who entry → IsFittingCall home clean parts (before ++ entry ∷ []) who call
   still_fits before entry who call lawful fits foreign =
       let was = prefix_is_lawful parts before (entry ∷ []) lawful in
       let last = last-lawful parts before entry lawful in

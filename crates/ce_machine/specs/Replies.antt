@@ -10,15 +10,12 @@ use Rattle.ce_model.specs.Cube.{parcel_numbered}
 use Rattle.ce_model.specs.Machine.{MachineParts, MachineState, HeldCube, cube_held_by, cube_standing, all_parcels}
 use Rattle.ce_daemon.specs.declared.grant.Grant.{Grant}
 use Rattle.ce_daemon.specs.Boxes.{AreBoxesOf}
+use Rattle.ce_daemon.specs.Holding.{next_grant}
 use Rattle.ce_daemon.specs.Peeks.{peek_result}
 use Rattle.rk_mail.specs.Items.{parcel_of}
 use Rattle.rk_mail.specs.Talk.{IsHeardIn}
 use Rattle.ce_machine.specs.declared.call.Reply.{Reply}
 use Rattle.ce_machine.specs.declared.call.Reply.TheVariants.{Granted, NoneFree, Peeked, Drained, Freed, Armed, Quiet, Spent, Busy, Mail, NoMail, Heard}
-
--- the grant of this subcube that a user gets next
-abbrev pub next_grant : MachineState → (user dim : ℕ) → Subcube → Grant
-next_grant state user dim sub = record { number = state.grant_count; user = user; dim = dim; sub = sub }
 
 -- what a getcube is answered that grants this
 abbrev pub IsGranted : {N : Type 0} → (N → ℕ) → (N → Type 0) → Grant → Reply N → Type 0
@@ -28,7 +25,7 @@ IsGranted home clean grant other = ⊥
 -- the answer to a getcube by the subcube that its entry grants: the next grant, with its clean boxes, or none
 abbrev pub IsGrantReply : {N : Type 0} → (N → ℕ) → (N → Type 0) → MachineState → (user dim : ℕ) → Option Subcube → Reply N → Type 0
 IsGrantReply home clean state user dim None reply = reply ≡ NoneFree
-IsGrantReply home clean state user dim (Some sub) reply = IsGranted home clean (next_grant state user dim sub) reply
+IsGrantReply home clean state user dim (Some sub) reply = IsGranted home clean (next_grant state.grant_count user dim sub) reply
 
 -- the answer to a drain: the blocks of these parcels
 abbrev pub IsDrained : {N : Type 0} → List Parcel → Reply N → Type 0

@@ -37,13 +37,13 @@ desk_at desks node = slice_index_or desks node blank_record
 abbrev pub host_at : List HostRecord → ℕ → HostRecord
 host_at hosts user = slice_index_or hosts user blank_host
 
--- what the daemon of a machine in this state has granted
-abbrev pub holding_of : MachineParts → MachineState → GrantTable
-holding_of parts state = record { dim = parts.dim; count = state.grant_count; grants = map numbered_grant (held_grants state) }
+-- what the daemon of a machine of this dimension has granted in this state
+abbrev pub grant_table : ℕ → MachineState → GrantTable
+grant_table dim state = record { dim = dim; count = state.grant_count; grants = map numbered_grant (held_grants state) }
 
 -- the tables of a machine show this state
 pub record AreTables (parts : MachineParts) (state : MachineState) (holding : GrantTable) (desks : List NodeRecord) (hosts : List HostRecord) : Type 0 where
-  pub holding_is : holding ≡ holding_of parts state
+  pub holding_is : holding ≡ grant_table parts.dim state
   pub desk_count : length desks ≡ 2 ^ parts.dim
   pub desk_is : (node : ℕ) → node < 2 ^ parts.dim → desk_at desks node ≡ state.node_record node
   pub host_count : length hosts ≡ parts.users

@@ -91,14 +91,14 @@ impl<N: Homed> Machine<N> {
 
 // The reply, or with no memory the call.
 fn or_back<N: Homed>(
-    replied: Result<Reply<N>, NoMemory>,
+    reply: Result<Reply<N>, NoMemory>,
     call: Call<N>,
 ) -> Result<Reply<N>, (Call<N>, NoMemory)>
-    ensures { MatchResult replied (λ reply. result ≡ Result.Ok reply)
+    ensures { MatchResult reply (λ value. result ≡ Result.Ok value)
         (λ error. result ≡ Result.Err (call, error)) }
 {
-    match replied {
-        Ok(reply) => Ok(reply),
+    match reply {
+        Ok(value) => Ok(value),
         Err(error) => Err((call, error)),
     }
 }

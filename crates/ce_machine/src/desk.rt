@@ -23,8 +23,8 @@ pub(crate) struct Desk {
     spawned_ids: Vec<u32>,
     killed_ids: Vec<u32>,
     is_idle: bool,
-    asking_ids: u32,
-    dead_ids: u32,
+    asking: u32,
+    dead: u32,
 }
 
 impl Model for Desk {
@@ -40,8 +40,8 @@ impl Model for Desk {
       killed_ids = desk.killed_ids.items;
       mark = record {
         is_idle = desk.is_idle;
-        asking_ids = desk.asking_ids;
-        dead_ids = desk.dead_ids;
+        asking = desk.asking;
+        dead = desk.dead;
       };
     } };
 
@@ -64,8 +64,8 @@ impl Desk {
             spawned_ids,
             killed_ids,
             is_idle: true,
-            asking_ids: 0,
-            dead_ids: 0,
+            asking: 0,
+            dead: 0,
         })
     }
 
@@ -158,12 +158,12 @@ impl Desk {
     /// The node has asked for work with these sets; whether it was answered that there is nothing to do.
     pub(crate) fn mark_take(&mut self, asking: u32, dead: u32, is_idle: bool)
         ensures { self.new ≡ record self.old {
-          mark = record { is_idle = is_idle; asking_ids = asking; dead_ids = dead };
+          mark = record { is_idle = is_idle; asking = asking; dead = dead };
         } }
     {
         self.is_idle = is_idle;
-        self.asking_ids = asking;
-        self.dead_ids = dead;
+        self.asking = asking;
+        self.dead = dead;
     }
 
     /// The node has made another entry.
@@ -177,7 +177,7 @@ impl Desk {
     pub(crate) fn is_quiet(&self) -> bool
         ensures { result ≡ is_quiet_node self.now }
     {
-        self.is_idle && !self.mailbox.has(self.asking_ids, self.dead_ids)
+        self.is_idle && !self.mailbox.has(self.asking, self.dead)
     }
 
     /// Takes all that waits out, and puts the blocks of the messages behind those that were taken before.
@@ -200,8 +200,8 @@ impl Desk {
         self.spawned_ids.clear();
         self.killed_ids.clear();
         self.is_idle = true;
-        self.asking_ids = 0;
-        self.dead_ids = 0;
+        self.asking = 0;
+        self.dead = 0;
     }
 }
 

@@ -1,4 +1,4 @@
-ghost use Rattle.std.specs.Prelude.{◌≡◌, ◌⊎◌, ℕ, ◌+◌, ◌^◌, ◌<◌, ◌≤◌, ◌==◌, if◌then◌else◌, Bool, true, false, not, List, [], ◌∷◌, ◌++◌, length, map, flat_map, vec_capacity, IfOk};
+ghost use Rattle.std.specs.Prelude.{◌≡◌, ◌⊎◌, ℕ, ◌+◌, ◌^◌, ◌<◌, ◌≤◌, ◌==◌, if◌then◌else◌, IsTrue, not, List, [], ◌∷◌, ◌++◌, length, map, flat_map, vec_capacity, IfOk};
 ghost use Rattle.std.specs.List.{list_all, AllByRecursion, range_with_len};
 ghost use Rattle.ce_model.specs.declared.topology.TheConstants.{HOST};
 ghost use Rattle.ce_model.specs.Limits.{greatest_dim, process_count, node_room, mail_room};
@@ -10,7 +10,7 @@ ghost use Rattle.ce_model.specs.Subcubes.{node_of, relative_number, IsSubcube};
 ghost use Rattle.rk_mail.specs.Items.{parcel_of};
 ghost use Rattle.rk_mail.specs.Targets.{targets_of};
 ghost use Rattle.ce_machine.specs.Tables.{HostRecord, blank_host, desk_at, host_at};
-ghost use Rattle.ce_machine.specs.Desks.{AreChanged, at_node, at_nodes, with_busy_mark, with_items, without_items, IsOnDesks, letters, IsInCube, HasMailRoom, HasStartRoom, HasKillRoom, with_start, with_kill};
+ghost use Rattle.ce_machine.specs.Desks.{AreChanged, change_at_node, change_at_nodes, with_busy_mark, with_items, without_items, IsOnDesks, letters, IsInCube, HasMailRoom, HasStartRoom, HasKillRoom, with_start, with_kill};
 
 use crate::desk::Desk;
 use crate::host_desk::HostDesk;
@@ -49,7 +49,7 @@ pub(crate) fn blank_hosts(alloc: Global, count: u32) -> Result<Vec<HostDesk>, No
 pub(crate) fn mark_busy(desks: &mut Vec<Desk>, actor: u32)
     requires actor { (actor ≡ HOST) ⊎ (actor < length desks.old.items) }
     requires few { length desks.old.items ≤ HOST }
-    ensures { AreChanged desks.old.items desks.new.items (at_node actor with_busy_mark) }
+    ensures { AreChanged desks.old.items desks.new.items (change_at_node actor with_busy_mark) }
 {
     if actor != HOST {
         let desk = &mut desks[actor as usize];
@@ -61,11 +61,11 @@ pub(crate) fn mark_busy(desks: &mut Vec<Desk>, actor: u32)
 pub(crate) fn start(desks: &mut Vec<Desk>, at: Place, image: u32) -> bool
     requires node { at.node < length desks.old.items }
     requires process { at.pid < process_count }
-    requires room { not (is_among at.pid (desk_at desks.old.items at.node).spawned_ids) ≡ true
+    requires room { IsTrue (not (is_among at.pid (desk_at desks.old.items at.node).spawned_ids))
         → HasStartRoom (desk_at desks.old.items at.node) }
     ensures fresh { result ≡ not (is_among at.pid (desk_at desks.old.items at.node).spawned_ids) }
     ensures desks { AreChanged desks.old.items desks.new.items
-        (at_node at.node (λ kept. if result then with_start at.pid image kept else kept)) }
+        (change_at_node at.node (λ kept. if result then with_start at.pid image kept else kept)) }
 {
     let desk = &mut desks[at.node as usize];
     let fresh = !desk.was_spawned(at.pid);
@@ -83,7 +83,7 @@ pub(crate) fn kill(desks: &mut Vec<Desk>, at: Place) -> KillFound
         → HasKillRoom (desk_at desks.old.items at.node) }
     ensures found { result ≡ kill_found (desk_at desks.old.items at.node) at.pid }
     ensures desks { AreChanged desks.old.items desks.new.items
-        (at_node at.node (λ kept. with_kill result at.pid kept)) }
+        (change_at_node at.node (λ kept. with_kill result at.pid kept)) }
 {
     let desk = &mut desks[at.node as usize];
     let found = desk.kill_found(at.pid);
@@ -130,7 +130,7 @@ pub(crate) fn drain_nodes(desks: &mut Vec<Desk>, grant: &Grant, blocks: &mut Vec
         (map (node_of grant.now.sub) (range_with_len 0 (2 ^ grant.now.dim))))
         ≤ vec_capacity blocks.old }
     ensures desks { AreChanged desks.old.items desks.new.items
-        (at_nodes grant.now.sub without_items) }
+        (change_at_nodes grant.now.sub without_items) }
     ensures blocks { blocks.new.items ≡ blocks.old.items ++ map (λ parcel. parcel.block)
         (item_parcels (flat_map (λ node. (desk_at desks.old.items node).waiting_items)
         (map (node_of grant.now.sub) (range_with_len 0 (2 ^ grant.now.dim))))) }
@@ -148,7 +148,7 @@ pub(crate) fn clear_nodes(desks: &mut Vec<Desk>, grant: &Grant)
     requires empty { (r : ℕ) → r < 2 ^ grant.now.dim
         → (desk_at desks.old.items (node_of grant.now.sub r)).waiting_items ≡ [] }
     ensures { AreChanged desks.old.items desks.new.items
-        (at_nodes grant.now.sub (λ kept. blank_record)) }
+        (change_at_nodes grant.now.sub (λ kept. blank_record)) }
 {
     for r in 0..node_count(grant) {
         let desk = &mut desks[node_at(grant, r)];
@@ -165,7 +165,7 @@ fn post(desks: &mut Vec<Desk>, host: &mut HostDesk, grant: &Grant, parcel: Parce
         < node_room }
     requires at_host { parcel.to.node ≡ HOST → length host.old.mail < mail_room }
     ensures desks { AreChanged desks.old.items desks.new.items
-        (at_node (number_outward grant.now.sub parcel.to.node)
+        (change_at_node (number_outward grant.now.sub parcel.to.node)
         (with_items (mail (parcel_of parcel) ∷ []))) }
     ensures host { host.new ≡ record host.old {
       mail = host.old.mail

@@ -3,7 +3,7 @@ ghost use Rattle.rk_mail.specs.Talk.{is_of_take};
 ghost use Rattle.ce_model.specs.Parcels.{is_eligible};
 ghost use Rattle.ce_model.specs.Trace.{is_work, is_idle};
 ghost use Rattle.ce_model.specs.Answers.{offer_of};
-ghost use Rattle.ce_machine.specs.Gives.{heard_item, given_in, chosen_item, items_left};
+ghost use Rattle.ce_machine.specs.Gives.{heard_item, result_of_hearing, chosen_item, items_left};
 
 use crate::desk::Desk;
 use ce_model::TakeResult;
@@ -19,7 +19,7 @@ pub(crate) fn offer(
     poller: Option<u32>,
     is_used_up: bool,
 ) -> Hearing
-    ensures given { given_in result
+    ensures given { result_of_hearing result
         ≡ offer_of (find (is_eligible asking dead) desk.old.waiting_items) poller is_used_up }
     ensures item { heard_item result ≡ chosen_item is_used_up asking dead desk.old.waiting_items }
     ensures kind { IsTrue (is_of_take result) }
@@ -48,7 +48,7 @@ pub(crate) fn offer(
 
 // How an entry names what a node hears that asked for work.
 pub(crate) fn given_of(heard: &Hearing) -> TakeResult
-    ensures { result ≡ given_in heard.now }
+    ensures { result ≡ result_of_hearing heard.now }
 {
     match heard {
         Hearing::Start { pid, image } => TakeResult::Start {

@@ -1,6 +1,6 @@
 //! What hosts ask of the machine.
 ghost use Rattle.std.specs.Prelude.{◌≡◌, IfOk, IfErr, OnErr};
-ghost use Rattle.ce_model.specs.Answers.{found_where};
+ghost use Rattle.ce_model.specs.Answers.{look_result_where};
 ghost use Rattle.ce_machine.specs.Replies.{found_reply};
 ghost use Rattle.ce_machine.specs.Requests.{IsFittingCall};
 ghost use Rattle.ce_machine.specs.Answering.{HasAnswered};
@@ -123,7 +123,7 @@ impl<N: Homed> Machine<N> {
         make_room(&mut self.history)?;
         let grant = grant_of(&self.daemon, who.family);
         let host = &self.hosts[who.family as usize];
-        let found = found_where(is_quiet(&self.desks, &grant), host.is_used_up());
+        let found = look_result_where(is_quiet(&self.desks, &grant), host.is_used_up());
         let reply = found_reply(found);
         add_entry(&mut self.history, who, What::Look { found });
         Ok(reply)
@@ -156,8 +156,8 @@ impl<N: Homed> Machine<N> {
 }
 
 // What a look finds.
-fn found_where(is_quiet: bool, is_used_up: bool) -> LookResult
-    ensures { result ≡ found_where is_quiet is_used_up }
+fn look_result_where(is_quiet: bool, is_used_up: bool) -> LookResult
+    ensures { result ≡ look_result_where is_quiet is_used_up }
 {
     if is_quiet {
         LookResult::Quiet

@@ -1,4 +1,4 @@
-ghost use Rattle.std.specs.Prelude.{◌≡◌, ℕ, ◌+◌, ◌<◌, ◌≤◌, ◌^◌, ◌==◌, if◌then◌else◌, false, true, List, [], ◌∷◌, ◌++◌, length, map, IfOk, IfSome, IfNone, option_to_list, vec_capacity};
+ghost use Rattle.std.specs.Prelude.{◌≡◌, ℕ, ◌+◌, ◌<◌, ◌≤◌, ◌^◌, ◌==◌, if◌then◌else◌, true, IsTrue, IsFalse, List, [], ◌∷◌, ◌++◌, length, map, IfOk, IfSome, IfNone, option_to_list, vec_capacity};
 ghost use Rattle.ce_model.specs.Limits.{process_count, mail_room};
 ghost use Rattle.ce_model.specs.Parcels.{mail, item_parcels};
 ghost use Rattle.rk_mail.specs.Items.{item_of, parcel_of};
@@ -82,8 +82,8 @@ impl HostDesk {
 
     /// A node was answered, with work or not; an answer with work is a dispatch.
     pub(crate) fn dispatch(&mut self, is_work: bool)
-        requires { is_work ≡ true
-            → (self.old.made_dispatches == self.old.allowed_dispatches) ≡ false }
+        requires { IsTrue is_work
+            → IsFalse (self.old.made_dispatches == self.old.allowed_dispatches) }
         ensures { self.new ≡ record self.old {
           made_dispatches = if is_work then self.old.made_dispatches + 1
               else self.old.made_dispatches;

@@ -1,7 +1,7 @@
 //! What nodes say to the machine, and hosts that send, spawn or kill.
-ghost use Rattle.std.specs.Prelude.{◌≡◌, ◌≤◌, [], if◌then◌else◌, length, vec_capacity, IfOk, IfErr, OnErr};
+ghost use Rattle.std.specs.Prelude.{◌≡◌, ◌<◌, ◌≤◌, [], if◌then◌else◌, length, vec_len, vec_capacity, Result, IfOk, IfErr, OnOk, OnErr, MatchResult};
 ghost use Rattle.rk_mail.specs.Targets.{bytes_of, HasEqualBytes};
-ghost use Rattle.ce_model.specs.Limits.{greatest_targets};
+ghost use Rattle.ce_model.specs.Limits.{greatest_targets, greatest_history};
 ghost use Rattle.ce_machine.specs.Requests.{IsFittingCall};
 ghost use Rattle.ce_machine.specs.Answering.{HasAnswered};
 
@@ -11,8 +11,8 @@ use crate::machine::{add_entry, grant_of, make_room};
 use crate::{Call, Machine, Reply};
 use ce_daemon::Homed;
 use ce_lock::Who;
-use ce_model::{BlockId, Bytes, NoMemory, Place, Targets, What};
-use rk_mail::{Batch, Hearing, Say, heard_of_kill, heard_of_spawn};
+use ce_model::{BlockId, Bytes, Entry, NoMemory, Place, Targets, What};
+use rk_mail::{Batch, Hearing, Say, kill_hearing, spawn_hearing};
 use std::alloc::Global;
 
 impl<N: Homed> Machine<N> {
@@ -29,40 +29,30 @@ impl<N: Homed> Machine<N> {
             HasAnswered N.home N.clean self.old self.new who (Call.Say said) reply) }
         ensures refused { IfErr result (λ back. (self.new ≡ self.old) × (back.0 ≡ said)) }
     {
-        let heard = match said {
+        match said {
             Say::Take {
                 asking,
                 dead,
                 poller,
-            } => match self.take(who, asking, dead, poller) {
-                Ok(heard) => heard,
-                Err(e) => return Err((
-                    Say::Take {
-                        asking,
-                        dead,
-                        poller,
-                    },
-                    e,
-                )),
-            },
+            } => or_said(
+                self.take(who, asking, dead, poller),
+                Say::Take {
+                    asking,
+                    dead,
+                    poller,
+                },
+            ),
             Say::Send { pid, batch } => match self.send(alloc, who, pid, batch) {
-                Ok(heard) => heard,
-                Err((batch, e)) => return Err((Say::Send { pid, batch }, e)),
+                Ok(heard) => Ok(Reply::Heard(heard)),
+                Err((batch, error)) => Err((Say::Send { pid, batch }, error)),
             },
-            Say::Spawn { pid, image, to } => match self.spawn(who, pid, image, to) {
-                Ok(heard) => heard,
-                Err(e) => return Err((Say::Spawn { pid, image, to }, e)),
-            },
-            Say::Kill { pid, to } => match self.kill(who, pid, to) {
-                Ok(heard) => heard,
-                Err(e) => return Err((Say::Kill { pid, to }, e)),
-            },
-            Say::Note { pid, word } => match self.note(who, pid, word) {
-                Ok(heard) => heard,
-                Err(e) => return Err((Say::Note { pid, word }, e)),
-            },
-        };
-        Ok(Reply::Heard(heard))
+            Say::Spawn { pid, image, to } => or_said(
+                self.spawn(who, pid, image, to),
+                Say::Spawn { pid, image, to },
+            ),
+            Say::Kill { pid, to } => or_said(self.kill(who, pid, to), Say::Kill { pid, to }),
+            Say::Note { pid, word } => or_said(self.note(who, pid, word), Say::Note { pid, word }),
+        }
     }
 
     // A node asks for work.
@@ -113,10 +103,7 @@ impl<N: Homed> Machine<N> {
             (Call.Say (Say.Send pid batch)) (Reply.Heard heard)) }
         ensures refused { IfErr result (λ back. (self.new ≡ self.old) × (back.0 ≡ batch)) }
     {
-        let Ok(()) = make_room(&mut self.history) else {
-            return Err((batch, NoMemory));
-        };
-        let Ok((mut to, bytes)) = room_for(alloc, &batch) else {
+        let Ok((mut to, bytes)) = room_for(alloc, &mut self.history, &batch) else {
             return Err((batch, NoMemory));
         };
         let grant = grant_of(&self.daemon, who.family);
@@ -155,7 +142,7 @@ impl<N: Homed> Machine<N> {
         let place = place_outward(&grant, to);
         let fresh = start(&mut self.desks, place, image);
         mark_busy(&mut self.desks, who.actor);
-        let heard = heard_of_spawn(fresh);
+        let heard = spawn_hearing(fresh);
         add_entry(
             &mut self.history,
             who,
@@ -182,7 +169,7 @@ impl<N: Homed> Machine<N> {
         let place = place_outward(&grant, to);
         let found = kill(&mut self.desks, place);
         mark_busy(&mut self.desks, who.actor);
-        let heard = heard_of_kill(found);
+        let heard = kill_hearing(found);
         add_entry(
             &mut self.history,
             who,
@@ -210,9 +197,30 @@ impl<N: Homed> Machine<N> {
     }
 }
 
-// The memory for a message's entry: room for its targets, and its bytes.
+// What was heard, or with no memory what was said.
+fn or_said<N: Homed>(
+    heard: Result<Hearing, NoMemory>,
+    said: Say,
+) -> Result<Reply<N>, (Say, NoMemory)>
+    ensures { MatchResult heard (λ value. result ≡ Result.Ok (Reply.Heard value))
+        (λ error. result ≡ Result.Err (said, error)) }
+{
+    match heard {
+        Ok(value) => Ok(Reply::Heard(value)),
+        Err(error) => Err((said, error)),
+    }
+}
+
+// The memory for a message's entry: that of the entry, room for its targets, and its bytes.
 #[tactic(auto, using(ce_model::specs::Limits::block_room_lem))]
-fn room_for(alloc: Global, batch: &Batch) -> Result<(Vec<(Place, BlockId)>, Bytes), NoMemory>
+fn room_for(
+    alloc: Global,
+    history: &mut Vec<Entry>,
+    batch: &Batch,
+) -> Result<(Vec<(Place, BlockId)>, Bytes), NoMemory>
+    ensures same { history.new.items ≡ history.old.items }
+    ensures entry { OnOk result (vec_len history.new < vec_capacity history.new) }
+    ensures short { OnOk result (length history.old.items < greatest_history) }
     ensures none { IfOk result (λ taken. taken.0.items ≡ []) }
     ensures room { IfOk result (λ taken. length batch.now ≤ vec_capacity taken.0) }
     ensures bytes { IfOk result (λ taken. taken.1 ≡ bytes_of batch.now) }
@@ -220,6 +228,7 @@ fn room_for(alloc: Global, batch: &Batch) -> Result<(Vec<(Place, BlockId)>, Byte
     ensures few { length batch.now ≤ greatest_targets }
 {
     let count = batch.count();
+    make_room(history)?;
     let to = Vec::with_capacity(alloc, count as usize)?;
     let bytes = if count == 0 {
         Vec::new(alloc)

@@ -8,7 +8,7 @@ use Rattle.ce_model.specs.Lists.{EachAfter}
 use Rattle.ce_model.specs.Node.{Call, take_call, send_call, spawn_call, kill_call, note_call, arm_call, look_call, mail_call, is_place}
 use Rattle.ce_model.specs.Trace.{Standing, standing}
 use Rattle.ce_model.specs.Answers.{answer, recorded_call}
-use Rattle.ce_model.specs.Cube.{Cube, CubeState, HostCall, send_bytes, start_image, end_process, allow, look_round, take_message, host_call, asked_host_call, actor_call, actor_entry, next_entry, Solo, next_solo, continued_solo, whole_trace, solo, entry_host_call, host_calls, actors, hoststore, is_node, next_call, node_numbers, IsNext, IsAloneFrom}
+use Rattle.ce_model.specs.Cube.{Cube, CubeState, HostCall, send_bytes, start_image, end_process, allow, look_round, take_message, host_call, host_call_of, actor_call, actor_entry, next_entry, Solo, next_solo, continued_solo, whole_trace, solo, entry_host_call, host_calls, actors, hoststore, is_node, next_call, node_numbers, IsNext, IsAloneFrom}
 use Rattle.ce_model.proofs.Walked.{one_further}
 
 -- ---- what an entry tells of its call
@@ -30,23 +30,23 @@ chosen true x y e = e
 chosen false x y e = cc
 
 sent_back : (to : Place) (bytes : List ℕ) (least : Option BlockId) (call : Call)
-    → option_map (λ id. send_call 0 ((to, id) ∷ []) bytes) least ≡ Some call → asked_host_call call ≡ Some (send_bytes to bytes)
+    → option_map (λ id. send_call 0 ((to, id) ∷ []) bytes) least ≡ Some call → host_call_of call ≡ Some (send_bytes to bytes)
 sent_back to bytes None call e = cc
-sent_back to bytes (Some id) call e = ap (option_and_then asked_host_call) (sym e)
+sent_back to bytes (Some id) call e = ap (option_and_then host_call_of) (sym e)
 
 -- a host's call tells what its user asked for
-pub asked_host_call-host_call : (cube : Cube) (store : List BlockId) (asked : HostCall) (call : Call)
-    → host_call cube store asked ≡ Some call → asked_host_call call ≡ Some asked
+pub asked_host_call-host_call : (cube : Cube) (store : List BlockId) (wishes : HostCall) (call : Call)
+    → host_call cube store wishes ≡ Some call → host_call_of call ≡ Some wishes
 asked_host_call-host_call cube store (send_bytes to bytes) call e =
     sent_back to bytes (slice_get store 0) call
     (chosen (is_place cube.dim to) (option_map (λ id. send_call 0 ((to, id) ∷ []) bytes) (slice_get store 0)) call e)
 asked_host_call-host_call cube store (start_image image to) call e =
-    ap (option_and_then asked_host_call) (sym (chosen (is_place cube.dim to && nat_lt image (length cube.images)) (Some (spawn_call 0 image to)) call e))
+    ap (option_and_then host_call_of) (sym (chosen (is_place cube.dim to && nat_lt image (length cube.images)) (Some (spawn_call 0 image to)) call e))
 asked_host_call-host_call cube store (end_process to) call e =
-    ap (option_and_then asked_host_call) (sym (chosen (is_place cube.dim to) (Some (kill_call 0 to)) call e))
-asked_host_call-host_call cube store (allow count) call e = ap (option_and_then asked_host_call) (sym e)
-asked_host_call-host_call cube store look_round call e = ap (option_and_then asked_host_call) (sym e)
-asked_host_call-host_call cube store take_message call e = ap (option_and_then asked_host_call) (sym e)
+    ap (option_and_then host_call_of) (sym (chosen (is_place cube.dim to) (Some (kill_call 0 to)) call e))
+asked_host_call-host_call cube store (allow count) call e = ap (option_and_then host_call_of) (sym e)
+asked_host_call-host_call cube store look_round call e = ap (option_and_then host_call_of) (sym e)
+asked_host_call-host_call cube store take_message call e = ap (option_and_then host_call_of) (sym e)
 
 -- ---- the next entry
 
@@ -61,32 +61,32 @@ unfolding next_entry
 none_of_host cube o t actor a = rw a refl
 
 -- what is known of an entry that is its actor's next one: the call that made it
-pub record IsMade (cube : Cube) (o : CubeState) (t : List Entry) (actor : ℕ) (asked : Option HostCall) (entry : Entry) : Type 0 where
+pub record IsMade (cube : Cube) (o : CubeState) (t : List Entry) (actor : ℕ) (wishes : Option HostCall) (entry : Entry) : Type 0 where
   pub call : Call
-  pub made : actor_call cube o t actor asked ≡ Some call
+  pub made : actor_call cube o t actor wishes ≡ Some call
   pub is : entry ≡ actor_entry cube o t actor call
 
-made_by : (cube : Cube) (o : CubeState) (t : List Entry) (actor : ℕ) (asked : Option HostCall) (entry : Entry) (call : Option Call)
-    → actor_call cube o t actor asked ≡ call → option_map (actor_entry cube o t actor) call ≡ Some entry → IsMade cube o t actor asked entry
-made_by cube o t actor asked entry None m e = cc
-made_by cube o t actor asked entry (Some call) m e = record { call = call; made = m; is = ap (λ made. elim made [ None ↦ entry | Some x ↦ x ]) (sym e) }
+made_by : (cube : Cube) (o : CubeState) (t : List Entry) (actor : ℕ) (wishes : Option HostCall) (entry : Entry) (call : Option Call)
+    → actor_call cube o t actor wishes ≡ call → option_map (actor_entry cube o t actor) call ≡ Some entry → IsMade cube o t actor wishes entry
+made_by cube o t actor wishes entry None m e = cc
+made_by cube o t actor wishes entry (Some call) m e = record { call = call; made = m; is = ap (λ made. elim made [ None ↦ entry | Some x ↦ x ]) (sym e) }
 
-pub is_made : (cube : Cube) (o : CubeState) (t : List Entry) (actor : ℕ) (asked : Option HostCall) (entry : Entry)
-    → next_entry cube o t actor asked ≡ Some entry → IsMade cube o t actor asked entry
+pub is_made : (cube : Cube) (o : CubeState) (t : List Entry) (actor : ℕ) (wishes : Option HostCall) (entry : Entry)
+    → next_entry cube o t actor wishes ≡ Some entry → IsMade cube o t actor wishes entry
 unfolding next_entry
-is_made cube o t actor asked entry e = made_by cube o t actor asked entry (actor_call cube o t actor asked) refl e
+is_made cube o t actor wishes entry e = made_by cube o t actor wishes entry (actor_call cube o t actor wishes) refl e
 
 -- the call that a host makes is the one of what is asked of it
-host_asked : (cube : Cube) (store : List BlockId) (asked : Option HostCall) (call : Call)
-    → option_and_then (host_call cube store) asked ≡ Some call → asked_host_call call ≡ asked
+host_asked : (cube : Cube) (store : List BlockId) (wishes : Option HostCall) (call : Call)
+    → option_and_then (host_call cube store) wishes ≡ Some call → host_call_of call ≡ wishes
 host_asked cube store None call e = cc
-host_asked cube store (Some asked) call e = asked_host_call-host_call cube store asked call e
+host_asked cube store (Some wishes) call e = asked_host_call-host_call cube store wishes call e
 
-asked_in_made : (cube : Cube) (o : CubeState) (t : List Entry) (actor : ℕ) (asked : Option HostCall) (call : Call)
-    → (actor == HOST) ≡ true → actor_call cube o t actor asked ≡ Some call → entry_host_call (actor_entry cube o t actor call) ≡ asked
-asked_in_made cube o t actor asked call a m =
+asked_in_made : (cube : Cube) (o : CubeState) (t : List Entry) (actor : ℕ) (wishes : Option HostCall) (call : Call)
+    → (actor == HOST) ≡ true → actor_call cube o t actor wishes ≡ Some call → entry_host_call (actor_entry cube o t actor call) ≡ wishes
+asked_in_made cube o t actor wishes call a m =
     rw (a, call_of-answer (node_numbers cube.dim) (standing o.standing t) actor call)
-    (host_asked cube (hoststore o t) asked call (subst (λ b. (if b then option_and_then (host_call cube (hoststore o t)) asked else
+    (host_asked cube (hoststore o t) wishes call (subst (λ b. (if b then option_and_then (host_call cube (hoststore o t)) wishes else
     (if is_node cube actor then Some (next_call cube o actor t) else None)) ≡ Some call) a m))
 
 -- ---- from entries to the schedule
@@ -97,23 +97,23 @@ end_trace end = whole_trace end.trace end.calls_left
 
 -- the cube with this trace, of whose host this is still asked
 abbrev pub solo_at : List Entry → List HostCall → Solo
-solo_at t asked = record { trace = t; calls_left = asked }
+solo_at t wishes = record { trace = t; calls_left = wishes }
 
 -- one actor more acts
 abbrev pub acts_more : Cube → CubeState → Option Solo → ℕ → Option Solo
 acts_more cube o now actor = option_and_then (λ solo. next_solo cube o solo actor) now
 
-host_acts : (cube : Cube) (o : CubeState) (t : List Entry) (entry : Entry) (asked : Option HostCall) (others : List HostCall)
-    → (entry.actor == HOST) ≡ true → next_entry cube o t entry.actor asked ≡ Some entry
-    → next_solo cube o (solo_at t (filter_map (λ (x : Option HostCall). x) (asked ∷ []) ++ others)) entry.actor ≡ Some (solo_at (t ++ entry ∷ []) others)
+host_acts : (cube : Cube) (o : CubeState) (t : List Entry) (entry : Entry) (wishes : Option HostCall) (others : List HostCall)
+    → (entry.actor == HOST) ≡ true → next_entry cube o t entry.actor wishes ≡ Some entry
+    → next_solo cube o (solo_at t (filter_map (λ (x : Option HostCall). x) (wishes ∷ []) ++ others)) entry.actor ≡ Some (solo_at (t ++ entry ∷ []) others)
 host_acts cube o t entry None others a e = let n = none_of_host cube o t entry.actor a in cc
 host_acts cube o t entry (Some call) others a e = rw (e, a) refl
 
-node_acts : (cube : Cube) (o : CubeState) (t : List Entry) (entry : Entry) (asked : Option HostCall) (others : List HostCall)
-    → (entry.actor == HOST) ≡ false → next_entry cube o t entry.actor asked ≡ Some entry
+node_acts : (cube : Cube) (o : CubeState) (t : List Entry) (entry : Entry) (wishes : Option HostCall) (others : List HostCall)
+    → (entry.actor == HOST) ≡ false → next_entry cube o t entry.actor wishes ≡ Some entry
     → next_solo cube o (solo_at t others) entry.actor ≡ Some (solo_at (t ++ entry ∷ []) others)
-node_acts cube o t entry asked others a e =
-    rw (next_of_node cube o t entry.actor (slice_get others 0) asked a, e, a) refl
+node_acts cube o t entry wishes others a e =
+    rw (next_of_node cube o t entry.actor (slice_get others 0) wishes a, e, a) refl
 
 -- what is asked of the host in the first entry stands before what is asked later
 asked_first : (entry : Entry) (behind : List Entry) (more : List HostCall)
@@ -140,7 +140,7 @@ entries_act : (cube : Cube) (o : CubeState) (more : List HostCall) (before behin
     → fold (acts_more cube o) (Some (solo_at before (host_calls behind ++ more))) (actors behind) ≡ Some (solo_at (before ++ behind) more)
 entries_act cube o more before [] each = ap (λ t. Some (solo_at t more)) (sym (append-nil before))
 entries_act cube o more before (entry ∷ behind) each =
-    ap (λ asked. fold (acts_more cube o) (next_solo cube o (solo_at before asked) entry.actor) (actors behind)) (asked_first entry behind more)
+    ap (λ wishes. fold (acts_more cube o) (next_solo cube o (solo_at before wishes) entry.actor) (actors behind)) (asked_first entry behind more)
     ∙ ap (λ now. fold (acts_more cube o) now (actors behind))
     (one_acts cube o before entry (host_calls behind ++ more) (entry.actor == HOST) refl each.0)
     ∙ entries_act cube o more (before ++ entry ∷ []) behind each.1
@@ -155,57 +155,57 @@ alone_by_entries cube o t each =
 -- ---- from the schedule to entries
 
 -- what a schedule adds to a trace: entries of its actors, each the next one, in which this is asked of the host
-pub record AreAdded (cube : Cube) (o : CubeState) (before : List Entry) (asked : List HostCall) (schedule : List ℕ) (end : Solo) : Type 0 where
+pub record AreAdded (cube : Cube) (o : CubeState) (before : List Entry) (wishes : List HostCall) (schedule : List ℕ) (end : Solo) : Type 0 where
   pub behind : List Entry
   pub whole : before ++ behind ≡ end.trace
   pub order : actors behind ≡ schedule
   pub each : EachAfter (IsNext cube o) before behind
-  pub calls : host_calls behind ++ end.calls_left ≡ asked
+  pub calls : host_calls behind ++ end.calls_left ≡ wishes
 
 nothing_acts : (cube : Cube) (o : CubeState) (schedule : List ℕ) (end : Solo) → fold (acts_more cube o) None schedule ≡ Some end → ⊥
 nothing_acts cube o [] end e = cc
 nothing_acts cube o (actor ∷ schedule) end e = nothing_acts cube o schedule end e
 
 -- what is asked of a host that acts is the first that is left, and the rest is left
-asked_of_host : (cube : Cube) (o : CubeState) (t : List Entry) (actor : ℕ) (asked : List HostCall) (entry : Entry) → (actor == HOST) ≡ true
-    → next_entry cube o t actor (slice_get asked 0) ≡ Some entry
-    → filter_map (λ (x : Option HostCall). x) (slice_get asked 0 ∷ []) ++ drop 1 asked ≡ asked
+asked_of_host : (cube : Cube) (o : CubeState) (t : List Entry) (actor : ℕ) (wishes : List HostCall) (entry : Entry) → (actor == HOST) ≡ true
+    → next_entry cube o t actor (slice_get wishes 0) ≡ Some entry
+    → filter_map (λ (x : Option HostCall). x) (slice_get wishes 0 ∷ []) ++ drop 1 wishes ≡ wishes
 asked_of_host cube o t actor [] entry a e = let n = none_of_host cube o t actor a in cc
-asked_of_host cube o t actor (call ∷ asked) entry a e = refl
+asked_of_host cube o t actor (call ∷ wishes) entry a e = refl
 
 -- an entry that is an actor's next one is its own next one
-pub record IsOwnNext (cube : Cube) (o : CubeState) (t : List Entry) (actor : ℕ) (asked : List HostCall) (entry : Entry) : Type 0 where
+pub record IsOwnNext (cube : Cube) (o : CubeState) (t : List Entry) (actor : ℕ) (wishes : List HostCall) (entry : Entry) : Type 0 where
   pub actor_is : entry.actor ≡ actor
   pub next : IsNext cube o t entry
-  pub calls : filter_map (λ (x : Option HostCall). x) (entry_host_call entry ∷ []) ++ (if actor == HOST then drop 1 asked else asked) ≡ asked
+  pub calls : filter_map (λ (x : Option HostCall). x) (entry_host_call entry ∷ []) ++ (if actor == HOST then drop 1 wishes else wishes) ≡ wishes
 
-own_next : (cube : Cube) (o : CubeState) (t : List Entry) (actor : ℕ) (asked : List HostCall) (call : Call) (b : Bool) → (actor == HOST) ≡ b
-    → actor_call cube o t actor (slice_get asked 0) ≡ Some call
-    → next_entry cube o t actor (slice_get asked 0) ≡ Some (actor_entry cube o t actor call)
-    → IsOwnNext cube o t actor asked (actor_entry cube o t actor call)
-own_next cube o t actor asked call true a m e = record {
+own_next : (cube : Cube) (o : CubeState) (t : List Entry) (actor : ℕ) (wishes : List HostCall) (call : Call) (b : Bool) → (actor == HOST) ≡ b
+    → actor_call cube o t actor (slice_get wishes 0) ≡ Some call
+    → next_entry cube o t actor (slice_get wishes 0) ≡ Some (actor_entry cube o t actor call)
+    → IsOwnNext cube o t actor wishes (actor_entry cube o t actor call)
+own_next cube o t actor wishes call true a m e = record {
   actor_is = refl;
-  next = rw (asked_in_made cube o t actor (slice_get asked 0) call a m) e;
-  calls = rw (asked_in_made cube o t actor (slice_get asked 0) call a m, a) (asked_of_host cube o t actor asked (actor_entry cube o t actor call) a e);
+  next = rw (asked_in_made cube o t actor (slice_get wishes 0) call a m) e;
+  calls = rw (asked_in_made cube o t actor (slice_get wishes 0) call a m, a) (asked_of_host cube o t actor wishes (actor_entry cube o t actor call) a e);
 }
-own_next cube o t actor asked call false a m e = record {
+own_next cube o t actor wishes call false a m e = record {
   actor_is = refl;
-  next = next_of_node cube o t actor (entry_host_call (actor_entry cube o t actor call)) (slice_get asked 0) a ∙ e;
+  next = next_of_node cube o t actor (entry_host_call (actor_entry cube o t actor call)) (slice_get wishes 0) a ∙ e;
   calls = rw (a) refl;
 }
 
-is_own_next : (cube : Cube) (o : CubeState) (t : List Entry) (actor : ℕ) (asked : List HostCall) (entry : Entry)
-    → next_entry cube o t actor (slice_get asked 0) ≡ Some entry → IsOwnNext cube o t actor asked entry
-is_own_next cube o t actor asked entry e =
-    let m = is_made cube o t actor (slice_get asked 0) entry e in
-    subst (IsOwnNext cube o t actor asked) (sym m.is)
-    (own_next cube o t actor asked m.call (actor == HOST) refl m.made (e ∙ ap Some m.is))
+is_own_next : (cube : Cube) (o : CubeState) (t : List Entry) (actor : ℕ) (wishes : List HostCall) (entry : Entry)
+    → next_entry cube o t actor (slice_get wishes 0) ≡ Some entry → IsOwnNext cube o t actor wishes entry
+is_own_next cube o t actor wishes entry e =
+    let m = is_made cube o t actor (slice_get wishes 0) entry e in
+    subst (IsOwnNext cube o t actor wishes) (sym m.is)
+    (own_next cube o t actor wishes m.call (actor == HOST) refl m.made (e ∙ ap Some m.is))
 
-add_first : (cube : Cube) (o : CubeState) (before : List Entry) (actor : ℕ) (asked : List HostCall) (schedule : List ℕ) (end : Solo) (entry : Entry)
-    → IsOwnNext cube o before actor asked entry
-    → AreAdded cube o (before ++ entry ∷ []) (if actor == HOST then drop 1 asked else asked) schedule end
-    → AreAdded cube o before asked (actor ∷ schedule) end
-add_first cube o before actor asked schedule end entry own added = record {
+add_first : (cube : Cube) (o : CubeState) (before : List Entry) (actor : ℕ) (wishes : List HostCall) (schedule : List ℕ) (end : Solo) (entry : Entry)
+    → IsOwnNext cube o before actor wishes entry
+    → AreAdded cube o (before ++ entry ∷ []) (if actor == HOST then drop 1 wishes else wishes) schedule end
+    → AreAdded cube o before wishes (actor ∷ schedule) end
+add_first cube o before actor wishes schedule end entry own added = record {
   behind = entry ∷ added.behind;
   whole = sym (one_further before entry added.behind) ∙ added.whole;
   order = rw (own.actor_is, added.order) refl;
@@ -215,39 +215,39 @@ add_first cube o before actor asked schedule end entry own added = record {
 }
 
 -- the first actor of a schedule adds its entry, and the others add theirs
-first_adds : (cube : Cube) (o : CubeState) (before : List Entry) (actor : ℕ) (asked : List HostCall) (schedule : List ℕ) (end : Solo)
-    → ((entry : Entry) → fold (acts_more cube o) (Some (solo_at (before ++ entry ∷ []) (if actor == HOST then drop 1 asked else asked))) schedule ≡ Some end
-    → AreAdded cube o (before ++ entry ∷ []) (if actor == HOST then drop 1 asked else asked) schedule end)
-    → (next : Option Entry) → next_entry cube o before actor (slice_get asked 0) ≡ next
-    → fold (acts_more cube o) (option_map (λ entry. solo_at (before ++ entry ∷ []) (if actor == HOST then drop 1 asked else asked)) next) schedule ≡ Some end
-    → AreAdded cube o before asked (actor ∷ schedule) end
-first_adds cube o before actor asked schedule end others None n f = absurd (nothing_acts cube o schedule end f)
-first_adds cube o before actor asked schedule end others (Some entry) n f =
-    add_first cube o before actor asked schedule end entry (is_own_next cube o before actor asked entry n) (others entry f)
+first_adds : (cube : Cube) (o : CubeState) (before : List Entry) (actor : ℕ) (wishes : List HostCall) (schedule : List ℕ) (end : Solo)
+    → ((entry : Entry) → fold (acts_more cube o) (Some (solo_at (before ++ entry ∷ []) (if actor == HOST then drop 1 wishes else wishes))) schedule ≡ Some end
+    → AreAdded cube o (before ++ entry ∷ []) (if actor == HOST then drop 1 wishes else wishes) schedule end)
+    → (next : Option Entry) → next_entry cube o before actor (slice_get wishes 0) ≡ next
+    → fold (acts_more cube o) (option_map (λ entry. solo_at (before ++ entry ∷ []) (if actor == HOST then drop 1 wishes else wishes)) next) schedule ≡ Some end
+    → AreAdded cube o before wishes (actor ∷ schedule) end
+first_adds cube o before actor wishes schedule end others None n f = absurd (nothing_acts cube o schedule end f)
+first_adds cube o before actor wishes schedule end others (Some entry) n f =
+    add_first cube o before actor wishes schedule end entry (is_own_next cube o before actor wishes entry n) (others entry f)
 
-schedule_adds : (cube : Cube) (o : CubeState) (schedule : List ℕ) (before : List Entry) (asked : List HostCall) (end : Solo)
-    → fold (acts_more cube o) (Some (solo_at before asked)) schedule ≡ Some end → AreAdded cube o before asked schedule end
-schedule_adds cube o [] before asked end e = record {
+schedule_adds : (cube : Cube) (o : CubeState) (schedule : List ℕ) (before : List Entry) (wishes : List HostCall) (end : Solo)
+    → fold (acts_more cube o) (Some (solo_at before wishes)) schedule ≡ Some end → AreAdded cube o before wishes schedule end
+schedule_adds cube o [] before wishes end e = record {
   behind = [];
   whole = append-nil before ∙ ap (λ now. elim now [ None ↦ before | Some solo ↦ solo.trace ]) e;
   order = refl;
   each = tt;
-  calls = sym (ap (λ now. elim now [ None ↦ asked | Some solo ↦ solo.calls_left ]) e);
+  calls = sym (ap (λ now. elim now [ None ↦ wishes | Some solo ↦ solo.calls_left ]) e);
 }
-schedule_adds cube o (actor ∷ schedule) before asked end e =
-    first_adds cube o before actor asked schedule end
-    (λ entry. schedule_adds cube o schedule (before ++ entry ∷ []) (if actor == HOST then drop 1 asked else asked) end)
-    (next_entry cube o before actor (slice_get asked 0)) refl e
+schedule_adds cube o (actor ∷ schedule) before wishes end e =
+    first_adds cube o before actor wishes schedule end
+    (λ entry. schedule_adds cube o schedule (before ++ entry ∷ []) (if actor == HOST then drop 1 wishes else wishes) end)
+    (next_entry cube o before actor (slice_get wishes 0)) refl e
 
-ended_with : (cube : Cube) (o : CubeState) (asked : List HostCall) (schedule : List ℕ) (t : List Entry) (now : Option Solo)
-    → fold (acts_more cube o) (Some (solo_at [] asked)) schedule ≡ now → option_and_then end_trace now ≡ Some t
-    → AreAdded cube o [] asked schedule (solo_at t [])
-ended_with cube o asked schedule t None f e = cc
-ended_with cube o asked schedule t (Some now) f e = ended_at now.calls_left f e
+ended_with : (cube : Cube) (o : CubeState) (wishes : List HostCall) (schedule : List ℕ) (t : List Entry) (now : Option Solo)
+    → fold (acts_more cube o) (Some (solo_at [] wishes)) schedule ≡ now → option_and_then end_trace now ≡ Some t
+    → AreAdded cube o [] wishes schedule (solo_at t [])
+ended_with cube o wishes schedule t None f e = cc
+ended_with cube o wishes schedule t (Some now) f e = ended_at now.calls_left f e
   where
-    ended_at : (left : List HostCall) → fold (acts_more cube o) (Some (solo_at [] asked)) schedule ≡ Some (solo_at now.trace left)
-        → option_and_then end_trace (Some (solo_at now.trace left)) ≡ Some t → AreAdded cube o [] asked schedule (solo_at t [])
-    ended_at [] f e = schedule_adds cube o schedule [] asked (solo_at t []) (f ∙ ap (option_map (λ t. solo_at t [])) e)
+    ended_at : (left : List HostCall) → fold (acts_more cube o) (Some (solo_at [] wishes)) schedule ≡ Some (solo_at now.trace left)
+        → option_and_then end_trace (Some (solo_at now.trace left)) ≡ Some t → AreAdded cube o [] wishes schedule (solo_at t [])
+    ended_at [] f e = schedule_adds cube o schedule [] wishes (solo_at t []) (f ∙ ap (option_map (λ t. solo_at t [])) e)
     ended_at (call ∷ calls) f e = cc
 
 pub entries_of_alone : (cube : Cube) (o : CubeState) (t : List Entry) → IsAloneFrom cube o t → EachAfter (IsNext cube o) [] t

@@ -1,4 +1,5 @@
 pub mod AloneByEntries
+pub mod CallNumbers
 pub mod OneMore
 pub mod Rows
 pub mod Subcubes

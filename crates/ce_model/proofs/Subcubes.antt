@@ -7,7 +7,7 @@ use Rattle.std.proofs.lemmas.List.Elements.{All-append, All-nil, All-cons, All-h
 use Rattle.std.proofs.lemmas.Nat.Bits.{bit_at_lowest, bit_at-suc, bit_at-zero}
 use Rattle.ce_model.specs.declared.topology.Subcube.{Subcube}
 use Rattle.ce_model.specs.Limits.{greatest_dim}
-use Rattle.ce_model.specs.Subcubes.{extracted_bits, extract, deposited_bits, deposit, node_of, is_inside, ones_of, IsPart, all_nodes, IsSubcube, is_base, masked_subcube, with_mask, subcubes, first_free}
+use Rattle.ce_model.specs.Subcubes.{extracted_bits, extract, deposited_bits, deposit, node_of, is_inside, ones_of, IsPart, are_all_nodes, IsSubcube, is_base, subcube, with_mask, subcubes, first_free}
 
 -- ---- one bit of the mask after the other
 
@@ -227,20 +227,20 @@ list_all-each test from (suc count) each =
     and_from _ _ (ap test (omega arith) ∙ each 0 (omega arith))
     (list_all-each test (from + 1) count (λ k below. ap test (omega arith) ∙ each (suc k) (omega arith)))
 
-pub all_nodes-at : (test : ℕ → Bool) (d : ℕ) (sub : Subcube) (r : ℕ) → all_nodes test d sub ≡ true → r < 2 ^ d → test (node_of sub r) ≡ true
+pub all_nodes-at : (test : ℕ → Bool) (d : ℕ) (sub : Subcube) (r : ℕ) → are_all_nodes test d sub ≡ true → r < 2 ^ d → test (node_of sub r) ≡ true
 all_nodes-at test d sub r all below = ap (λ s. test (node_of sub s)) (omega arith) ∙ list_all-at (λ s. test (node_of sub s)) 0 (2 ^ d) r all below
 
-pub all_nodes-each : (test : ℕ → Bool) (d : ℕ) (sub : Subcube) → ((r : ℕ) → r < 2 ^ d → test (node_of sub r) ≡ true) → all_nodes test d sub ≡ true
+pub all_nodes-each : (test : ℕ → Bool) (d : ℕ) (sub : Subcube) → ((r : ℕ) → r < 2 ^ d → test (node_of sub r) ≡ true) → are_all_nodes test d sub ≡ true
 all_nodes-each test d sub each =
     list_all-each (λ s. test (node_of sub s)) 0 (2 ^ d) (λ k below. ap (λ s. test (node_of sub s)) (omega arith) ∙ each k below)
 
 -- each node inside passes a test that all nodes pass
-pub all_nodes-inside : (test : ℕ → Bool) (d : ℕ) (sub : Subcube) (node : ℕ) → all_nodes test d sub ≡ true → ones_of greatest_dim sub.mask ≡ d → is_inside sub node ≡ true → test node ≡ true
+pub all_nodes-inside : (test : ℕ → Bool) (d : ℕ) (sub : Subcube) (node : ℕ) → are_all_nodes test d sub ≡ true → ones_of greatest_dim sub.mask ≡ d → is_inside sub node ≡ true → test node ≡ true
 all_nodes-inside test d sub node all ones inside =
     ap test (sym (node_of-extract sub node inside)) ∙ all_nodes-at test d sub (extract node sub.mask) all (rw (← ones) (extract-below node sub.mask))
 
 -- subcubes of which one has all its nodes outside the other have no node in common
-pub apart_nodes : (d : ℕ) (one other : Subcube) (node : ℕ) → all_nodes (λ n. not (is_inside other n)) d one ≡ true → ones_of greatest_dim one.mask ≡ d → is_inside one node ≡ true → is_inside other node ≡ false
+pub apart_nodes : (d : ℕ) (one other : Subcube) (node : ℕ) → are_all_nodes (λ n. not (is_inside other n)) d one ≡ true → ones_of greatest_dim one.mask ≡ d → is_inside one node ≡ true → is_inside other node ≡ false
 apart_nodes d one other node all ones inside =
     not-true _ (all_nodes-inside (λ n. not (is_inside other n)) d one node all ones inside)
 
@@ -339,7 +339,7 @@ unfolding subcubes
 all_subcubes dim d =
     all_images (λ sub. IsSubcube dim d sub) (with_mask (2 ^ dim)) (λ mask. ones_of greatest_dim mask == d) 0 (2 ^ dim)
     (λ mask mask_in ones.
-    all_picked (λ sub. IsSubcube dim d sub) (masked_subcube mask) (is_base mask) 0 (2 ^ dim)
+    all_picked (λ sub. IsSubcube dim d sub) (subcube mask) (is_base mask) 0 (2 ^ dim)
     (λ base base_in is_apart. record {
       mask_within = omega arith;
       base_within = omega arith;
@@ -351,11 +351,11 @@ all_subcubes dim d =
 pub first_free-subcube : (is_free : ℕ → Bool) (dim d : ℕ) (sub : Subcube) → first_free is_free dim d ≡ Some sub → IsSubcube dim d sub
 unfolding first_free
 first_free-subcube is_free dim d sub found =
-    find-among (λ s. IsSubcube dim d s) (all_nodes is_free d) (subcubes dim d) sub (all_subcubes dim d) found
+    find-among (λ s. IsSubcube dim d s) (are_all_nodes is_free d) (subcubes dim d) sub (all_subcubes dim d) found
 
-pub first_free-all_free : (is_free : ℕ → Bool) (dim d : ℕ) (sub : Subcube) → first_free is_free dim d ≡ Some sub → all_nodes is_free d sub ≡ true
+pub first_free-all_free : (is_free : ℕ → Bool) (dim d : ℕ) (sub : Subcube) → first_free is_free dim d ≡ Some sub → are_all_nodes is_free d sub ≡ true
 unfolding first_free
-first_free-all_free is_free dim d sub found = find-passes (all_nodes is_free d) (subcubes dim d) sub found
+first_free-all_free is_free dim d sub found = find-passes (are_all_nodes is_free d) (subcubes dim d) sub found
 
 -- ---- tests that agree on the nodes of the machine
 
@@ -373,7 +373,7 @@ find-same p q (x ∷ xs) same =
 pub first_free-same : (p q : ℕ → Bool) (dim d : ℕ) → ((node : ℕ) → node < 2 ^ dim → p node ≡ q node) → first_free p dim d ≡ first_free q dim d
 unfolding first_free
 first_free-same p q dim d same =
-    find-same (all_nodes p d) (all_nodes q d) (subcubes dim d)
-    (All-weaker (λ sub. IsSubcube dim d sub) (λ sub. all_nodes p d sub ≡ all_nodes q d sub)
+    find-same (are_all_nodes p d) (are_all_nodes q d) (subcubes dim d)
+    (All-weaker (λ sub. IsSubcube dim d sub) (λ sub. are_all_nodes p d sub ≡ are_all_nodes q d sub)
     (λ sub known. list_all-same (λ r. p (node_of sub r)) (λ r. q (node_of sub r)) 0 (2 ^ d) (λ k below. same (node_of sub (0 + k)) (node_of-within dim (0 + k) sub known.base_within known.mask_within known.apart)))
     (subcubes dim d) (all_subcubes dim d))

@@ -9,7 +9,7 @@ use Rattle.ce_model.specs.declared.entry.KillFound.{KillFound}
 use Rattle.ce_model.specs.declared.entry.KillFound.TheVariants.{Killed, Unused, Already}
 use Rattle.ce_model.specs.declared.entry.TakeResult.{TakeResult}
 use Rattle.ce_model.specs.declared.entry.TakeResult.TheVariants.{Poll, Idle, Spent}
-use Rattle.ce_model.specs.Parcels.{Item, is_eligible, given_as, parcel_in}
+use Rattle.ce_model.specs.Parcels.{Item, is_eligible, take_result_of, parcel_in}
 use Rattle.ce_model.specs.Node.{Call, take_call, send_call, spawn_call, kill_call, note_call, arm_call, look_call, mail_call}
 use Rattle.ce_model.specs.Trace.{NodeRecord, Standing}
 
@@ -20,7 +20,7 @@ is_used_up standing = standing.made_dispatches == standing.allowed_dispatches
 -- what a node is given, by the first item that it can be given, the process that polls longest, and whether the allowed
 -- dispatches are used up
 abbrev pub offer_of : Option Item → Option ℕ → Bool → TakeResult
-offer_of (Some item) poller used = if used then Spent else given_as item
+offer_of (Some item) poller used = if used then Spent else take_result_of item
 offer_of None (Some pid) used = if used then Spent else Poll pid
 offer_of None None used = Idle
 
@@ -35,15 +35,15 @@ kill_found node_record pid =
 
 -- a node is quiet: its last entry is a Take answered Idle, or it has none, and no item that waits can be given to it
 abbrev pub is_quiet_node : NodeRecord → Bool
-is_quiet_node node_record = node_record.mark.is_idle && not (list_any (is_eligible node_record.mark.asking_ids node_record.mark.dead_ids) node_record.waiting_items)
+is_quiet_node node_record = node_record.mark.is_idle && not (list_any (is_eligible node_record.mark.asking node_record.mark.dead) node_record.waiting_items)
 
 -- a cube of these nodes is quiet
 unfoldable pub is_quiet : List ℕ → Standing → Bool
 is_quiet nodes standing = list_all (λ r. is_quiet_node (standing.node_record r)) nodes
 
 -- what a look finds, by whether the cube is quiet and whether the allowed dispatches are used up
-abbrev pub found_where : Bool → Bool → LookResult
-found_where quiet used = if quiet then look_result.Quiet else (if used then look_result.Spent else look_result.Busy)
+abbrev pub look_result_where : Bool → Bool → LookResult
+look_result_where quiet used = if quiet then look_result.Quiet else (if used then look_result.Spent else look_result.Busy)
 
 -- the number of the first parcel that waits
 abbrev pub first_number : List Item → Option ℕ
@@ -58,7 +58,7 @@ answer nodes standing actor (spawn_call pid image to) = Spawn pid image to (not 
 answer nodes standing actor (kill_call pid to) = Kill pid to (kill_found (standing.node_record to.node) to.pid)
 answer nodes standing actor (note_call pid word) = Note pid word
 answer nodes standing actor (arm_call count) = Arm count
-answer nodes standing actor look_call = Look (found_where (is_quiet nodes standing) (is_used_up standing))
+answer nodes standing actor look_call = Look (look_result_where (is_quiet nodes standing) (is_used_up standing))
 answer nodes standing actor mail_call = HostTake (first_number (standing.node_record actor).waiting_items)
 
 -- the call of which this is the entry, where it is one of a cube

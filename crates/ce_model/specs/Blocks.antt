@@ -15,13 +15,13 @@ abbrev pub is_lower : BlockId → BlockId → Bool
 is_lower a b = nat_lt a.home b.home || (a.home == b.home && nat_lt a.index b.index)
 
 -- a list of names that rises, with one name more in its place
-abbrev pub put : BlockId → List BlockId → List BlockId
-put id [] = id ∷ []
-put id (other ∷ ids) = if is_lower id other then id ∷ other ∷ ids else other ∷ put id ids
+abbrev pub with_id : BlockId → List BlockId → List BlockId
+with_id id [] = id ∷ []
+with_id id (other ∷ ids) = if is_lower id other then id ∷ other ∷ ids else other ∷ with_id id ids
 
 -- several names more
-abbrev pub put_all : List BlockId → List BlockId → List BlockId
-put_all ids store = fold (λ others id. put id others) store ids
+abbrev pub with_ids : List BlockId → List BlockId → List BlockId
+with_ids ids store = fold (λ others id. with_id id others) store ids
 
 abbrev pub is_same_id : BlockId → BlockId → Bool
 is_same_id a b = a.home == b.home && a.index == b.index

@@ -14,7 +14,7 @@ use Rattle.ce_model.specs.declared.entry.TakeResult.{TakeResult}
 use Rattle.ce_model.specs.declared.entry.TakeResult.TheVariants as take_result
 use Rattle.ce_model.specs.Limits.{greatest_dim, greatest_users, greatest_images, host_home}
 use Rattle.ce_model.specs.Lists.{fold_with_front}
-use Rattle.ce_model.specs.Blocks.{put, without_id, blocks_of_home}
+use Rattle.ce_model.specs.Blocks.{with_id, without_id, blocks_of_home}
 use Rattle.ce_model.specs.Parcels.{Parcel, Item, is_named_by, parcel_in}
 use Rattle.ce_model.specs.Node.{Node, opening_node, is_place, Call, send_call, spawn_call, kill_call, arm_call, look_call, mail_call, take_call, note_call}
 use Rattle.ce_model.specs.Saying.{says}
@@ -115,7 +115,7 @@ next_call cube o r t = (says (state cube o r t)).call
 -- a store with the block of a parcel, if there is one
 abbrev pub with_parcel : List BlockId → Option Parcel → List BlockId
 with_parcel store None = store
-with_parcel store (Some parcel) = put parcel.block.id store
+with_parcel store (Some parcel) = with_id parcel.block.id store
 
 -- the store of the host, once its host has made an entry: the block that it sends is out of it, and the block of a parcel that
 -- it takes is in it
@@ -163,20 +163,20 @@ host_call cube store look_round = Some look_call
 host_call cube store take_message = Some mail_call
 
 -- what a user had its host do that made this call
-abbrev pub asked_host_call : Call → Option HostCall
-asked_host_call (send_call pid to bytes) = option_map (λ target. send_bytes target.0 bytes) (slice_get to 0)
-asked_host_call (spawn_call pid image to) = Some (start_image image to)
-asked_host_call (kill_call pid to) = Some (end_process to)
-asked_host_call (arm_call count) = Some (allow count)
-asked_host_call look_call = Some look_round
-asked_host_call mail_call = Some take_message
-asked_host_call (take_call asking dead poller) = None
-asked_host_call (note_call pid word) = None
+abbrev pub host_call_of : Call → Option HostCall
+host_call_of (send_call pid to bytes) = option_map (λ target. send_bytes target.0 bytes) (slice_get to 0)
+host_call_of (spawn_call pid image to) = Some (start_image image to)
+host_call_of (kill_call pid to) = Some (end_process to)
+host_call_of (arm_call count) = Some (allow count)
+host_call_of look_call = Some look_round
+host_call_of mail_call = Some take_message
+host_call_of (take_call asking dead poller) = None
+host_call_of (note_call pid word) = None
 
 -- the call that an actor makes next: a host the one that its user asks for, a node the one that it says
 abbrev pub actor_call : Cube → CubeState → List Entry → ℕ → Option HostCall → Option Call
-actor_call cube o t actor asked =
-    if actor == HOST then option_and_then (host_call cube (hoststore o t)) asked
+actor_call cube o t actor wish =
+    if actor == HOST then option_and_then (host_call cube (hoststore o t)) wish
     else (if is_node cube actor then Some (next_call cube o actor t) else None)
 
 -- the entry that a call makes after a trace
@@ -186,7 +186,7 @@ actor_entry cube o t actor call =
 
 -- the entry that an actor makes next
 unfoldable pub next_entry : Cube → CubeState → List Entry → ℕ → Option HostCall → Option Entry
-next_entry cube o t actor asked = option_map (actor_entry cube o t actor) (actor_call cube o t actor asked)
+next_entry cube o t actor wish = option_map (actor_entry cube o t actor) (actor_call cube o t actor wish)
 
 -- ---- the cube on a machine of its own
 
@@ -203,8 +203,8 @@ next_solo cube o now actor =
 
 -- the actors of a schedule act one after another
 unfoldable pub continued_solo : Cube → CubeState → List HostCall → List ℕ → Option Solo
-continued_solo cube o asked schedule =
-    fold (λ now actor. option_and_then (λ solo. next_solo cube o solo actor) now) (Some (record { trace = []; calls_left = asked })) schedule
+continued_solo cube o wishes schedule =
+    fold (λ now actor. option_and_then (λ solo. next_solo cube o solo actor) now) (Some (record { trace = []; calls_left = wishes })) schedule
 
 -- the trace, where nothing more is asked of the host
 abbrev pub whole_trace : List Entry → List HostCall → Option (List Entry)
@@ -214,11 +214,11 @@ whole_trace t (call ∷ calls) = None
 -- the trace of the cube alone, by what its user asks of its host and by the order in which its actors act; none where that is too
 -- little or too much, or can't be done
 unfoldable pub solo : Cube → CubeState → List HostCall → List ℕ → Option (List Entry)
-solo cube o asked schedule = option_and_then (λ end. whole_trace end.trace end.calls_left) (continued_solo cube o asked schedule)
+solo cube o wishes schedule = option_and_then (λ end. whole_trace end.trace end.calls_left) (continued_solo cube o wishes schedule)
 
 -- what was asked of the host in a trace
 abbrev pub entry_host_call : Entry → Option HostCall
-entry_host_call entry = if entry.actor == HOST then option_and_then asked_host_call (recorded_call entry.what) else None
+entry_host_call entry = if entry.actor == HOST then option_and_then host_call_of (recorded_call entry.what) else None
 
 abbrev pub host_calls : List Entry → List HostCall
 host_calls t = filter_map entry_host_call t

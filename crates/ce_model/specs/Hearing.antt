@@ -1,10 +1,11 @@
 -- What a node becomes by the answer to its call.
 use Rattle.std.specs.Prelude.{ℕ, if◌then◌else◌, List, [], length, Option, Some, None, slice_index_or, slice_set}
+use Rattle.rv_model.specs.declared.limits.TheConstants.{PRIVATE_START}
 use Rattle.rv_model.specs.declared.stop.Stop.TheVariants.{Killed, WindowsSpent}
-use Rattle.rv_model.specs.Image.{ImageParts, image_start}
+use Rattle.rv_model.specs.Image.{ImageParts}
 use Rattle.ce_model.specs.declared.process.Status.TheVariants.{Running}
 use Rattle.ce_model.specs.Limits.{turn_instructions}
-use Rattle.ce_model.specs.Blocks.{put}
+use Rattle.ce_model.specs.Blocks.{with_id}
 use Rattle.ce_model.specs.Parcels.{Parcel}
 use Rattle.ce_model.specs.Space.{window_start, has_unused_window, mapped_space}
 use Rattle.ce_model.specs.Process.{Process, started_process, with_answer, is_receiving, is_stopped}
@@ -27,7 +28,7 @@ pub data Hearing : Type 0 where
 
 -- the image of a number; the machine gives no other number than those of its images
 abbrev pub image_at : List ImageParts → ℕ → ImageParts
-image_at images number = slice_index_or images number (record { entry = image_start; loaded = []; zero = 0 })
+image_at images number = slice_index_or images number (record { entry = PRIVATE_START; loaded = []; zero = 0 })
 
 -- a turn of this process begins
 abbrev pub with_turn : Node → ℕ → Process → Node
@@ -43,7 +44,7 @@ with_answered_turn node pid p value = with_turn node pid (with_answer value p)
 
 -- the parcel's block goes to the store
 abbrev pub with_stored : Node → Parcel → Node
-with_stored node parcel = record node { store = put parcel.block.id node.store }
+with_stored node parcel = record node { store = with_id parcel.block.id node.store }
 
 -- a process that waits for a message gets the parcel: its block is mapped at the next window, and its turn begins; where no
 -- window is left it stops, and this block and all its others are in the store

@@ -1,5 +1,6 @@
 -- The kernel: what each of its calls does, and which of them leave the node.
 use Rattle.std.specs.Prelude.{ℕ, ◌+◌, ◌-◌, ◌^◌, Bool, true, false, not, ◌||◌, ◌==◌, nat_lt, if◌then◌else◌, List, [], ◌∷◌, ◌++◌, length, take, drop, replicate, slice_get, zip, Option, Some, None, Result, Ok, Err}
+use Rattle.std.specs.Option.{option_map_or}
 use Rattle.std.specs.List.{list_all}
 use Rattle.rv_model.specs.declared.stop.Stop.{Stop}
 use Rattle.rv_model.specs.declared.stop.Stop.TheVariants.{Exited, NoCall, TurnSpent}
@@ -8,7 +9,7 @@ use Rattle.ce_model.specs.declared.process.Status.TheVariants.{Asking, Polling}
 use Rattle.ce_model.specs.declared.topology.Place.{Place}
 use Rattle.ce_model.specs.declared.topology.BlockId.{BlockId}
 use Rattle.ce_model.specs.Limits.{block_room, greatest_targets, turn_calls}
-use Rattle.ce_model.specs.Blocks.{Block, put}
+use Rattle.ce_model.specs.Blocks.{Block, with_id}
 use Rattle.ce_model.specs.Space.{Space, window_start, has_unused_window, mapped_space, unmapped_space, block_named, places_at}
 use Rattle.ce_model.specs.Process.{Process, argument, call_number, with_answer}
 use Rattle.ce_model.specs.Node.{Turn, Node, is_place, is_host_place, with_process, with_stopped, Call, send_call, spawn_call, kill_call, note_call}
@@ -74,7 +75,7 @@ xmalloc node turn p =
 
 -- the block that the call names goes to the store, and the answer is 0
 abbrev pub free_outcome : Node → Turn → Process → ℕ × Block → CallOutcome
-free_outcome node turn p found = return_outcome (with_store (put found.1.id node.store) node) turn (process_left_behind found.0 p) 0
+free_outcome node turn p found = return_outcome (with_store (with_id found.1.id node.store) node) turn (process_left_behind found.0 p) 0
 
 abbrev pub xfree : Node → Turn → Process → CallOutcome
 xfree node turn p = read_outcome node turn p (block_named p.space (argument p 0)) (free_outcome node turn p)
@@ -138,6 +139,22 @@ abbrev pub ckill : Node → Turn → Process → CallOutcome
 ckill node turn p =
     if is_place node.dim (place_named p 0) then leave_outcome node turn p (kill_call turn.pid (place_named p 0)) else return_outcome node turn p 1
 
+abbrev pub mynode : Node → Turn → Process → CallOutcome
+mynode node turn p = return_outcome node turn p node.number
+
+abbrev pub mypid : Node → Turn → Process → CallOutcome
+mypid node turn p = return_outcome node turn p turn.pid
+
+abbrev pub nnodes : Node → Turn → Process → CallOutcome
+nnodes node turn p = return_outcome node turn p (2 ^ node.dim)
+
+abbrev pub exit : Node → Turn → Process → CallOutcome
+exit node turn p = stop_outcome node turn p (Exited (argument p 0))
+
+-- a word goes into the trace
+abbrev pub note : Node → Turn → Process → CallOutcome
+note node turn p = leave_outcome node turn p (note_call turn.pid (argument p 0))
+
 -- ---- all calls
 
 -- a kernel call: whether a turn's limit counts it, and what it does
@@ -163,15 +180,19 @@ kernel_calls =
     ∷ uncounted_call xrecvb
     ∷ counted_call spawn
     ∷ counted_call ckill
-    ∷ uncounted_call (λ node turn p. return_outcome node turn p node.number)
-    ∷ uncounted_call (λ node turn p. return_outcome node turn p turn.pid)
-    ∷ uncounted_call (λ node turn p. return_outcome node turn p (2 ^ node.dim))
-    ∷ uncounted_call (λ node turn p. stop_outcome node turn p (Exited (argument p 0)))
-    ∷ counted_call (λ node turn p. leave_outcome node turn p (note_call turn.pid (argument p 0)))
+    ∷ uncounted_call mynode
+    ∷ uncounted_call mypid
+    ∷ uncounted_call nnodes
+    ∷ uncounted_call exit
+    ∷ counted_call note
     ∷ []
 
 abbrev pub kernel_call : ℕ → Option KernelCall
 kernel_call number = if number == 0 then None else slice_get kernel_calls (number - 1)
+
+-- whether a turn's limit counts the calls of this number
+abbrev pub is_counted_at : ℕ → Bool
+is_counted_at number = option_map_or (λ call. call.is_counted) (kernel_call number) false
 
 -- a counted call counts whatever it returns, and the one past the turn's limit isn't made
 abbrev pub counted_outcome : KernelCall → Node → Turn → Process → CallOutcome

@@ -1,6 +1,6 @@
 -- The machine's limits: a name for each, behind which no proof computes unless it asks, and a lemma of its value.
 use Rattle.std.specs.Prelude.{◌≡◌, ℕ, ◌^◌, refl}
-use Rattle.ce_model.specs.declared.limits.TheConstants.{GREATEST_DIMENSION, PROCESS_COUNT, HOME_BLOCKS, GREATEST_BLOCKS, BLOCK_ROOM, WINDOW_COUNT, WINDOW_BASE, WINDOW_SIZE, GREATEST_TARGETS, TURN_INSTRUCTIONS, TURN_CALLS, GREATEST_COUNT, GREATEST_USERS, GREATEST_IMAGES, MAIL_ROOM, NODE_ROOM, GREATEST_HISTORY, HOST_HOME}
+use Rattle.ce_model.specs.declared.limits.TheConstants.{GREATEST_DIMENSION, GREATEST_NODES, PROCESS_COUNT, HOME_BLOCKS, GREATEST_BLOCKS, BLOCK_ROOM, WINDOW_COUNT, WINDOW_BASE, WINDOW_SIZE, GREATEST_TARGETS, TURN_INSTRUCTIONS, TURN_CALLS, GREATEST_COUNT, GREATEST_USERS, GREATEST_IMAGES, MAIL_ROOM, NODE_ROOM, GREATEST_HISTORY, HOST_HOME}
 
 -- the greatest dimension of a machine or a cube
 unfoldable pub greatest_dim : ℕ
@@ -146,7 +146,7 @@ pub host_home_lem : host_home ≡ 256
 unfolding host_home
 host_home_lem = refl
 
--- how many nodes the largest machine has
-pub greatest_nodes_lem : 2 ^ greatest_dim ≡ 64
+-- how many nodes a machine or a cube has at most
+pub greatest_nodes_lem : 2 ^ greatest_dim ≡ GREATEST_NODES
 unfolding greatest_dim
 greatest_nodes_lem = refl

@@ -9,11 +9,11 @@ without_first test (x ∷ xs) = if test x then xs else x ∷ without_first test 
 
 -- what comes of a state when a list is walked from its front, each step seeing the members before its own
 abbrev pub fold_behind : {S X : Type 0} → (List X → S → X → S) → List X → S → List X → S
-fold_behind step before state [] = state
-fold_behind step before state (x ∷ behind) = fold_behind step (before ++ x ∷ []) (step before state x) behind
+fold_behind next before state [] = state
+fold_behind next before state (x ∷ behind) = fold_behind next (before ++ x ∷ []) (next before state x) behind
 
 abbrev pub fold_with_front : {S X : Type 0} → (List X → S → X → S) → S → List X → S
-fold_with_front step state xs = fold_behind step [] state xs
+fold_with_front next state xs = fold_behind next [] state xs
 
 -- each member of a list that stands behind others has a property that may speak of those before it
 abbrev pub EachAfter : {X : Type 0} → (List X → X → Type 0) → List X → List X → Type 0

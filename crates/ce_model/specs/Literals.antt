@@ -4,9 +4,9 @@ use Rattle.rv_model.specs.Image.{ImageParts}
 use Rattle.ce_model.specs.declared.topology.TheConstants.{HOST}
 use Rattle.ce_model.specs.declared.topology.Place.{Place}
 use Rattle.ce_model.specs.declared.topology.BlockId.{BlockId}
-use Rattle.ce_model.specs.declared.topology.Subcube.{Subcube}
 use Rattle.ce_model.specs.declared.entry.Entry.{Entry}
 use Rattle.ce_model.specs.declared.entry.What.{What}
+pub use Rattle.ce_model.specs.Subcubes.{subcube}
 use Rattle.ce_model.specs.Machine.{MachineParts}
 
 -- a machine of one image
@@ -19,9 +19,6 @@ entry_of user actor what = record { user = user; actor = actor; what = what }
 
 abbrev pub of_host : ℕ → What → Entry
 of_host user what = entry_of user HOST what
-
-abbrev pub subcube : ℕ → ℕ → Subcube
-subcube mask base = record { mask = mask; base = base }
 
 abbrev pub place : ℕ → ℕ → Place
 place node pid = record { node = node; pid = pid }

@@ -15,7 +15,7 @@ use Rattle.ce_model.specs.Parcels.{Parcel, Item, mail, item_parcels, is_named_by
 use Rattle.ce_model.specs.Node.{Call, send_call, arm_call}
 use Rattle.ce_model.specs.Trace.{NodeRecord, Standing, blank_record, items_to, taken_result, sent_parcels, start_ids_in, kill_ids_in, mark_after, allowed_dispatches_after, made_dispatches_after}
 use Rattle.ce_model.specs.Answers.{answer, recorded_call}
-use Rattle.ce_model.specs.Cube.{Cube, opening, asked_host_call, actor_call, node_numbers}
+use Rattle.ce_model.specs.Cube.{Cube, opening, host_call_of, actor_call, node_numbers}
 use Rattle.ce_model.specs.Subcubes.{relative_number, node_of, is_inside, first_free}
 use Rattle.ce_model.specs.Renaming.{CubeGrant, place_inward, place_outward, block_outward, renamed_call, renamed_call_blocks}
 use Rattle.ce_model.specs.Views.{view}
@@ -133,8 +133,8 @@ cube_after_entry entry cube = record cube {
 
 -- what is kept for a node changes where it is one of this cube, if any
 abbrev pub changed_record : (HeldCube → ℕ → NodeRecord → NodeRecord) → ℕ → NodeRecord → Option HeldCube → NodeRecord
-changed_record change node kept None = kept
-changed_record change node kept (Some cube) = if is_inside cube.grant.sub node then change cube node kept else kept
+changed_record change node node_record None = node_record
+changed_record change node node_record (Some cube) = if is_inside cube.grant.sub node then change cube node node_record else node_record
 
 -- the cube that a user holds changes, and so does what is kept for its nodes; the others stay
 abbrev pub with_cube : ℕ → (HeldCube → HeldCube) → (HeldCube → ℕ → NodeRecord → NodeRecord) → MachineState → MachineState
@@ -143,22 +143,27 @@ with_cube user change change_record state = record state {
   node_record = λ node. changed_record change_record node (state.node_record node) (cube_held_by state user);
 }
 
+-- a cube that was just granted
+abbrev pub new_cube : ℕ → CubeGrant → HeldCube
+new_cube number grant =
+    record { number = number; grant = grant; is_drained = false; allowed_dispatches = 0; made_dispatches = 0; parcel_count = 0; mail = [] }
+
 -- a cube is granted
 abbrev pub with_grant : CubeGrant → MachineState → MachineState
 with_grant grant state = record state {
   grant_count = state.grant_count + 1;
-  cubes = state.cubes ++ record { number = state.grant_count; grant = grant; is_drained = false; allowed_dispatches = 0; made_dispatches = 0; parcel_count = 0; mail = [] } ∷ [];
+  cubes = state.cubes ++ new_cube state.grant_count grant ∷ [];
 }
 
 -- a user's cube is drained: nothing waits in it any longer
 abbrev pub with_drained : ℕ → MachineState → MachineState
 with_drained user state =
-    with_cube user (λ cube. record cube { is_drained = true; mail = [] }) (λ cube node kept. record kept { waiting_items = [] }) state
+    with_cube user (λ cube. record cube { is_drained = true; mail = [] }) (λ cube node node_record. record node_record { waiting_items = [] }) state
 
 -- a user holds its cube no longer, and its nodes are free
 abbrev pub without_cube : ℕ → MachineState → MachineState
 without_cube user state =
-    record (with_cube user (λ cube. cube) (λ cube node kept. blank_record) state) { cubes = filter (λ cube. not (is_held_by user cube)) state.cubes }
+    record (with_cube user (λ cube. cube) (λ cube node node_record. blank_record) state) { cubes = filter (λ cube. not (is_held_by user cube)) state.cubes }
 
 -- the state once a host has asked for a cube, or given its own back
 abbrev pub state_after_host : ℕ → What → MachineState → MachineState
@@ -237,7 +242,7 @@ pub record IsCallOf (parts : MachineParts) (history : List Entry) (actor : ℕ) 
   pub made : Call
   pub inside : IsTrue (actor == HOST) ⊎ IsTrue (is_inside cube.grant.sub actor)
   pub next : actor_call (cube_of parts.images cube.grant) (opening (cube_of parts.images cube.grant)) (view history cube.number)
-      (relative_number cube.grant.sub actor) (asked_host_call made) ≡ Some made
+      (relative_number cube.grant.sub actor) (host_call_of made) ≡ Some made
   pub renamed : renamed_call_blocks (block_outward cube.grant) made ≡ call
   pub within : IsTrue (actor == HOST) → IsCallWithinLimits call
   pub not_drained : cube.is_drained ≡ false

@@ -7,7 +7,7 @@ use Rattle.ce_model.specs.declared.topology.Place.{Place}
 use Rattle.ce_model.specs.declared.topology.BlockId.{BlockId}
 use Rattle.ce_model.specs.Limits.{process_count}
 use Rattle.ce_model.specs.Lists.{without_first}
-use Rattle.ce_model.specs.Blocks.{put_all, blocks_of_home}
+use Rattle.ce_model.specs.Blocks.{with_ids, blocks_of_home}
 use Rattle.ce_model.specs.Space.{mapped_ids}
 use Rattle.ce_model.specs.Process.{Process, unborn_process, ended_process, is_receiving, is_stopped}
 
@@ -72,7 +72,7 @@ without_poller pid polling = without_first (λ other. other == pid) polling
 abbrev pub with_stopped : Node → ℕ → Process → Stop → Node
 with_stopped node pid p cause = record node {
   processes = slice_set node.processes pid (ended_process cause p);
-  store = put_all (mapped_ids p.space) node.store;
+  store = with_ids (mapped_ids p.space) node.store;
   polling_ids = without_poller pid node.polling_ids;
   turn = None;
 }
@@ -103,10 +103,10 @@ pub data Call : Type 0 where
   mail_call : Call
 
 -- the processes that pass a test, as a number with one bit for each id
-abbrev pub ids_of : (Status → Bool) → List Process → ℕ
-ids_of test [] = 0
-ids_of test (p ∷ ps) = (if test p.status then 1 else 0) + 2 * ids_of test ps
+abbrev pub process_set : (Status → Bool) → List Process → ℕ
+process_set test [] = 0
+process_set test (p ∷ ps) = (if test p.status then 1 else 0) + 2 * process_set test ps
 
 -- the call of a node without a turn
 abbrev pub take_of : Node → Call
-take_of node = take_call (ids_of is_receiving node.processes) (ids_of is_stopped node.processes) (slice_get node.polling_ids 0)
+take_of node = take_call (process_set is_receiving node.processes) (process_set is_stopped node.processes) (slice_get node.polling_ids 0)

@@ -34,10 +34,10 @@ is_eligible asking dead (mail parcel) = is_member parcel.to.pid asking || is_mem
 is_eligible asking dead (kill pid) = true
 
 -- how an entry names the item that a node is given
-abbrev pub given_as : Item → TakeResult
-given_as (start pid image) = Start pid image
-given_as (mail parcel) = Mail parcel.to.pid parcel.number
-given_as (kill pid) = Kill pid
+abbrev pub take_result_of : Item → TakeResult
+take_result_of (start pid image) = Start pid image
+take_result_of (mail parcel) = Mail parcel.to.pid parcel.number
+take_result_of (kill pid) = Kill pid
 
 -- an entry names this item: a process is started once and killed once, and a parcel has its number
 abbrev pub is_named_by : TakeResult → Item → Bool

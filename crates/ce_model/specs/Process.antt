@@ -5,7 +5,8 @@ use Rattle.rv_model.specs.declared.stop.Stop.TheVariants.{TurnSpent}
 use Rattle.rv_model.specs.Exec.{Outcome, next_state, call_state, stop_state, exec}
 use Rattle.rv_model.specs.Image.{ImageParts}
 use Rattle.rv_model.specs.Private.{with_loaded}
-use Rattle.rv_model.specs.declared.limits.TheConstants.{PRIVATE_END, REGISTER_COUNT}
+use Rattle.rv_model.specs.declared.limits.TheConstants.{A0, PRIVATE_END, REGISTER_COUNT, SP}
+use Rattle.ce_model.specs.declared.calls.TheConstants.{NUMBER_ARGUMENT}
 use Rattle.ce_model.specs.declared.process.Status.{Status}
 use Rattle.ce_model.specs.declared.process.Status.TheVariants.{Unborn, Running, Asking, Polling, Stopped}
 use Rattle.ce_model.specs.Space.{Space, process_access, emptied_space}
@@ -16,10 +17,6 @@ pub record Process : Type 0 where
   pub regs : List ℕ
   pub pc : ℕ
   pub space : Space
-
--- how many registers a process has
-abbrev pub register_count : ℕ
-register_count = REGISTER_COUNT
 
 -- ---- states
 
@@ -35,14 +32,14 @@ is_stopped other = false
 
 -- a process that wasn't started yet
 abbrev pub unborn_process : Process
-unborn_process = record { status = Unborn; regs = replicate register_count 0; pc = 0; space = record { private = with_loaded []; windows = [] } }
+unborn_process = record { status = Unborn; regs = replicate REGISTER_COUNT 0; pc = 0; space = record { private = with_loaded []; windows = [] } }
 
 -- a process as it starts: its image's bytes and zeros behind them, the pc at the image's entry, `sp` at the end of private
 -- memory, all other registers 0, and no window used
 abbrev pub started_process : ImageParts → Process
 started_process image = record {
   status = Running;
-  regs = slice_set (replicate register_count 0) 2 PRIVATE_END;
+  regs = slice_set (replicate REGISTER_COUNT 0) SP PRIVATE_END;
   pc = image.entry;
   space = record { private = with_loaded image.loaded; windows = [] };
 }
@@ -53,17 +50,17 @@ ended_process cause p = record p { status = Stopped cause; space = emptied_space
 
 -- ---- registers that a kernel call uses
 
--- an argument of a call: the first is in a0, which is register 10
+-- an argument of a call: the first is in a0
 abbrev pub argument : Process → ℕ → ℕ
-argument p k = slice_index p.regs (10 + k)
+argument p k = slice_index p.regs (A0 + k)
 
 -- the number of a call is in a7
 abbrev pub call_number : Process → ℕ
-call_number p = argument p 7
+call_number p = argument p NUMBER_ARGUMENT
 
 -- the answer to a call is put into a0
 abbrev pub with_answer : ℕ → Process → Process
-with_answer value p = record p { regs = slice_set p.regs 10 value }
+with_answer value p = record p { regs = slice_set p.regs A0 value }
 
 -- ---- the run to the next call
 

@@ -87,7 +87,7 @@ renamed_item rename (mail parcel) = mail (renamed_parcel rename parcel)
 renamed_item rename other = other
 
 abbrev pub renamed_record : (BlockId → BlockId) → NodeRecord → NodeRecord
-renamed_record rename kept = record kept { waiting_items = map (renamed_item rename) kept.waiting_items }
+renamed_record rename node_record = record node_record { waiting_items = map (renamed_item rename) node_record.waiting_items }
 
 abbrev pub renamed_space : (BlockId → BlockId) → Space → Space
 renamed_space rename space = record space { windows = map (option_map (renamed_block rename)) space.windows }

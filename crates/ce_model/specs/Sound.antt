@@ -2,6 +2,7 @@
 -- next leaves one.
 use Rattle.std.specs.Prelude.{◌≡◌, ℕ, ◌^◌, ◌<◌, ◌≤◌, Bool, true, false, not, ◌||◌, ◌==◌, if◌then◌else◌, IsTrue, List, [], ◌∷◌, length, map, count_by, Option, Some, None, IfSome}
 use Rattle.std.specs.List.{list_any, AllByRecursion}
+use Rattle.rv_model.specs.declared.limits.TheConstants.{REGISTER_COUNT}
 use Rattle.ce_model.specs.declared.process.Status.{Status}
 use Rattle.ce_model.specs.declared.process.Status.TheVariants.{Unborn, Running, Polling}
 use Rattle.ce_model.specs.declared.topology.TheConstants.{HOST}
@@ -11,7 +12,7 @@ use Rattle.ce_model.specs.Lists.{ArePairwise}
 use Rattle.ce_model.specs.Blocks.{is_lower}
 use Rattle.ce_model.specs.Parcels.{Item, start, mail, kill, item_parcels}
 use Rattle.ce_model.specs.Space.{mapped_ids}
-use Rattle.ce_model.specs.Process.{Process, register_count, is_stopped}
+use Rattle.ce_model.specs.Process.{Process, is_stopped}
 use Rattle.ce_model.specs.Node.{Turn, Node, process_at, host_place}
 use Rattle.ce_model.specs.Trace.{NodeRecord}
 use Rattle.ce_model.specs.Answers.{is_among}
@@ -61,9 +62,9 @@ pub record AreNumbered (count : ℕ) (items : List Item) : Type 0 where
 -- an item that waits at node r is for one of its processes: a start is of an image of the cube and of an id that was spawned, and a
 -- kill is of one whose kill was accepted
 abbrev pub IsItemOf : Cube → ℕ → NodeRecord → Item → Type 0
-IsItemOf cube r kept (start pid image) = IsTrue (is_among pid kept.spawned_ids) × (image < length cube.images)
-IsItemOf cube r kept (mail parcel) = (parcel.to.node ≡ r) × (parcel.to.pid < process_count)
-IsItemOf cube r kept (kill pid) = IsTrue (is_among pid kept.killed_ids)
+IsItemOf cube r node_record (start pid image) = IsTrue (is_among pid node_record.spawned_ids) × (image < length cube.images)
+IsItemOf cube r node_record (mail parcel) = (parcel.to.node ≡ r) × (parcel.to.pid < process_count)
+IsItemOf cube r node_record (kill pid) = IsTrue (is_among pid node_record.killed_ids)
 
 -- the numbers differ from one another
 abbrev pub AreDistinct : List ℕ → Type 0
@@ -71,16 +72,16 @@ AreDistinct pids = ArePairwise (λ a b. (a == b) ≡ false) pids
 
 -- what is kept for a node: the items that wait there are its own, one start and one kill of an id at most, the start first; an id is
 -- spawned once, and only a spawned one is killed, once
-pub record IsSoundRecord (cube : Cube) (count r : ℕ) (kept : NodeRecord) : Type 0 where
-  pub numbered : AreNumbered count kept.waiting_items
-  pub own : AllByRecursion (IsItemOf cube r kept) kept.waiting_items
-  pub one_start : (pid : ℕ) → count_by (is_start_of pid) kept.waiting_items ≤ 1
-  pub one_kill : (pid : ℕ) → count_by (is_kill_of pid) kept.waiting_items ≤ 1
-  pub start_first : (pid : ℕ) → IsStartFirst pid kept.waiting_items
-  pub ids : AllByRecursion (λ pid. pid < process_count) kept.spawned_ids
-  pub spawned_once : AreDistinct kept.spawned_ids
-  pub killed : AllByRecursion (λ pid. IsTrue (is_among pid kept.spawned_ids)) kept.killed_ids
-  pub killed_once : AreDistinct kept.killed_ids
+pub record IsSoundRecord (cube : Cube) (count r : ℕ) (node_record : NodeRecord) : Type 0 where
+  pub numbered : AreNumbered count node_record.waiting_items
+  pub own : AllByRecursion (IsItemOf cube r node_record) node_record.waiting_items
+  pub one_start : (pid : ℕ) → count_by (is_start_of pid) node_record.waiting_items ≤ 1
+  pub one_kill : (pid : ℕ) → count_by (is_kill_of pid) node_record.waiting_items ≤ 1
+  pub start_first : (pid : ℕ) → IsStartFirst pid node_record.waiting_items
+  pub ids : AllByRecursion (λ pid. pid < process_count) node_record.spawned_ids
+  pub spawned_once : AreDistinct node_record.spawned_ids
+  pub killed : AllByRecursion (λ pid. IsTrue (is_among pid node_record.spawned_ids)) node_record.killed_ids
+  pub killed_once : AreDistinct node_record.killed_ids
 
 -- the items that wait for the host are parcels for it
 abbrev pub IsHostItem : Item → Type 0
@@ -100,10 +101,10 @@ is_turn_of pid (Some turn) = turn.pid == pid
 
 -- a process is unborn exactly where its id wasn't spawned or its start waits, and then it has used no window; one that has stopped
 -- holds no block; and it runs exactly where the turn is its own
-pub record IsSoundProcess (kept : NodeRecord) (turn : Option Turn) (pid : ℕ) (p : Process) : Type 0 where
-  pub registers : length p.regs ≡ register_count
+pub record IsSoundProcess (node_record : NodeRecord) (turn : Option Turn) (pid : ℕ) (p : Process) : Type 0 where
+  pub registers : length p.regs ≡ REGISTER_COUNT
   pub windows : length p.space.windows ≤ window_count
-  pub unborn : is_unborn p.status ≡ (not (is_among pid kept.spawned_ids) || has_start pid kept.waiting_items)
+  pub unborn : is_unborn p.status ≡ (not (is_among pid node_record.spawned_ids) || has_start pid node_record.waiting_items)
   pub unborn_used : IsTrue (is_unborn p.status) → p.space.windows ≡ []
   pub stopped_holds : IsTrue (is_stopped p.status) → mapped_ids p.space ≡ []
   pub running : is_running p.status ≡ is_turn_of pid turn
@@ -115,20 +116,20 @@ pub record IsSoundTurn (turn : Turn) : Type 0 where
   pub calls : turn.calls ≤ turn_calls
 
 -- the names of a store rise
-abbrev pub IsRising : List BlockId → Type 0
-IsRising ids = ArePairwise (λ a b. is_lower a b ≡ true) ids
+abbrev pub AreInOrder : List BlockId → Type 0
+AreInOrder ids = ArePairwise (λ a b. is_lower a b ≡ true) ids
 
 -- node r of a cube; the list of those in `xrecv` has exactly the ids that poll, each once
-pub record IsSoundNode (cube : Cube) (kept : NodeRecord) (r : ℕ) (node : Node) : Type 0 where
+pub record IsSoundNode (cube : Cube) (node_record : NodeRecord) (r : ℕ) (node : Node) : Type 0 where
   pub number : node.number ≡ r
   pub dim : node.dim ≡ cube.dim
   pub home : node.home ≡ r
   pub images : node.images ≡ length cube.images
   pub process_ids : length node.processes ≡ process_count
-  pub processes : (pid : ℕ) → pid < process_count → IsSoundProcess kept node.turn pid (process_at node pid)
+  pub processes : (pid : ℕ) → pid < process_count → IsSoundProcess node_record node.turn pid (process_at node pid)
   pub polling_ids : (pid : ℕ) → count_by (λ other. other == pid) node.polling_ids ≡ (if is_polling (process_at node pid).status then 1 else 0)
   pub turn : IfSome node.turn IsSoundTurn
-  pub store : IsRising node.store
+  pub store : AreInOrder node.store
 
 -- ---- the cube
 
@@ -137,7 +138,7 @@ pub record IsSound (cube : Cube) (s : CubeState) : Type 0 where
   pub nodes : (r : ℕ) → r < 2 ^ cube.dim → IsSoundNode cube (s.standing.node_record r) r (s.node r)
   pub records : (r : ℕ) → r < 2 ^ cube.dim → IsSoundRecord cube s.standing.parcel_count r (s.standing.node_record r)
   pub host : IsSoundHost s.standing.parcel_count (s.standing.node_record HOST).waiting_items
-  pub hoststore : IsRising s.hoststore
+  pub hoststore : AreInOrder s.hoststore
   pub owners : HasOneOwner cube.dim s
   pub blocks : AllByRecursion (λ holding. IsBlockOf cube.dim holding.1) (holdings cube.dim s)
   pub dispatches : s.standing.made_dispatches ≤ s.standing.allowed_dispatches

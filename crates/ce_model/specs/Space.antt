@@ -106,10 +106,10 @@ process_access = record {
 -- ---- what a kernel call reads
 
 -- the block at a window, for an address that names it
-abbrev pub named_in : Option (Option Block) → ℕ → Result (ℕ × Block) Stop
-named_in None p = Err (NotABlock p)
-named_in (Some None) p = Err (Gone p)
-named_in (Some (Some block)) p = Ok (window_of p, block)
+abbrev pub block_at_window : Option (Option Block) → ℕ → Result (ℕ × Block) Stop
+block_at_window None p = Err (NotABlock p)
+block_at_window (Some None) p = Err (Gone p)
+block_at_window (Some (Some block)) p = Ok (window_of p, block)
 
 -- the address is where a window begins
 abbrev pub is_window_start : ℕ → Bool
@@ -117,7 +117,7 @@ is_window_start p = nat_le window_base p && offset_of p == 0
 
 -- the window and the block that an address names: it must be the start of a window that holds one
 unfoldable pub block_named : Space → ℕ → Result (ℕ × Block) Stop
-block_named space p = if is_window_start p then named_in (slice_get space.windows (window_of p)) p else Err (NotABlock p)
+block_named space p = if is_window_start p then block_at_window (slice_get space.windows (window_of p)) p else Err (NotABlock p)
 
 -- what comes of a word that was read
 abbrev pub and_then : {X Y : Type 0} → Result X Stop → (X → Result Y Stop) → Result Y Stop

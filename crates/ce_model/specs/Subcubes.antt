@@ -61,21 +61,21 @@ pub record IsSubcube (dim d : ℕ) (sub : Subcube) : Type 0 where
   pub dimension : ones_of greatest_dim sub.mask ≡ d
   pub apart : extract sub.base sub.mask ≡ 0
 
-abbrev pub masked_subcube : ℕ → ℕ → Subcube
-masked_subcube mask base = record { mask = mask; base = base }
+abbrev pub subcube : ℕ → ℕ → Subcube
+subcube mask base = record { mask = mask; base = base }
 
 -- the subcubes with this mask of a machine with so many nodes, by rising base
 abbrev pub with_mask : ℕ → ℕ → List Subcube
-with_mask count mask = map (masked_subcube mask) (filter (is_base mask) (range_with_len 0 count))
+with_mask count mask = map (subcube mask) (filter (is_base mask) (range_with_len 0 count))
 
 -- the subcubes of dimension d of a machine of dimension dim, by rising mask, and those of one mask by rising base
 unfoldable pub subcubes : (dim d : ℕ) → List Subcube
 subcubes dim d = flat_map (with_mask (2 ^ dim)) (filter (λ mask. ones_of greatest_dim mask == d) (range_with_len 0 (2 ^ dim)))
 
 -- all nodes of a subcube of dimension d pass a test
-abbrev pub all_nodes : (ℕ → Bool) → ℕ → Subcube → Bool
-all_nodes test d sub = list_all (λ r. test (node_of sub r)) (range_with_len 0 (2 ^ d))
+abbrev pub are_all_nodes : (ℕ → Bool) → ℕ → Subcube → Bool
+are_all_nodes test d sub = list_all (λ r. test (node_of sub r)) (range_with_len 0 (2 ^ d))
 
 -- the first subcube of dimension d whose nodes all are free
 unfoldable pub first_free : (ℕ → Bool) → (dim d : ℕ) → Option Subcube
-first_free is_free dim d = find (all_nodes is_free d) (subcubes dim d)
+first_free is_free dim d = find (are_all_nodes is_free d) (subcubes dim d)

@@ -69,12 +69,12 @@ made_dispatches_after count other = count
 -- its last Take
 pub record Mark : Type 0 where
   pub is_idle : Bool
-  pub asking_ids : ℕ
-  pub dead_ids : ℕ
+  pub asking : ℕ
+  pub dead : ℕ
 
 -- the mark of a node without an entry
 abbrev pub blank_mark : Mark
-blank_mark = record { is_idle = true; asking_ids = 0; dead_ids = 0 }
+blank_mark = record { is_idle = true; asking = 0; dead = 0 }
 
 abbrev pub is_idle : TakeResult → Bool
 is_idle Idle = true
@@ -82,7 +82,7 @@ is_idle other = false
 
 -- the mark of a node, once it has made an entry
 abbrev pub mark_after : Mark → What → Mark
-mark_after mark (Take asking dead poller given) = record { is_idle = is_idle given; asking_ids = asking; dead_ids = dead }
+mark_after mark (Take asking dead poller given) = record { is_idle = is_idle given; asking = asking; dead = dead }
 mark_after mark other = record mark { is_idle = false }
 
 -- ---- what a trace leaves behind what its cube began with

@@ -23,11 +23,14 @@ abbrev pub is_drain : What → Bool
 is_drain Drain = true
 is_drain other = false
 
+-- the calls of a cube among these entries, as the cube knows them
+abbrev pub cube_entries : CubeGrant → List Entry → List Entry
+cube_entries grant entries =
+    map (entry_inward grant.sub) (filter (λ entry. entry.user == grant.user && is_some (recorded_call entry.what)) entries)
+
 -- the trace of a cube in the history behind its grant: the calls of its user's cube up to the drain, as the cube knows them
 abbrev pub trace_behind : CubeGrant → List Entry → List Entry
-trace_behind grant behind =
-    map (entry_inward grant.sub) (filter (λ entry. entry.user == grant.user && is_some (recorded_call entry.what))
-    (take_while (λ entry. not (entry.user == grant.user && is_drain entry.what)) behind))
+trace_behind grant behind = cube_entries grant (take_while (λ entry. not (entry.user == grant.user && is_drain entry.what)) behind)
 
 -- a grant is of this number, or a later one is
 abbrev pub grant_or_later : Option CubeGrant → List Entry → ℕ → (ℕ → Option (CubeGrant × List Entry)) → Option (CubeGrant × List Entry)

@@ -3,6 +3,9 @@
 /// The greatest dimension of a machine or a cube.
 pub const GREATEST_DIMENSION: u32 = 6;
 
+/// How many nodes a machine or a cube has at most.
+pub const GREATEST_NODES: u32 = 1 << GREATEST_DIMENSION;
+
 /// How many process ids a node has.
 pub const PROCESS_COUNT: u32 = 8;
 
@@ -10,7 +13,7 @@ pub const PROCESS_COUNT: u32 = 8;
 pub const HOME_BLOCKS: u32 = 32;
 
 /// How many message blocks the greatest cube has: those that its nodes are home to, and those of its host.
-pub const GREATEST_BLOCKS: u32 = ((1 << GREATEST_DIMENSION) + 1) * HOME_BLOCKS;
+pub const GREATEST_BLOCKS: u32 = (GREATEST_NODES + 1) * HOME_BLOCKS;
 
 /// How many bytes a message block can hold.
 pub const BLOCK_ROOM: u32 = 4_096;
@@ -59,7 +62,7 @@ pub const SCRIPT_LIMIT: usize = 1_048_576;
 pub const HOST_HOME: u32 = 256;
 
 // A node's home is never a host's, windows end with the addresses, and a block fits its window.
-const _: () = prove!(1 << GREATEST_DIMENSION <= HOST_HOME);
+const _: () = prove!(GREATEST_NODES <= HOST_HOME);
 
 const _: () = prove!(
     WINDOW_BASE as u64 + WINDOW_COUNT as u64 * WINDOW_SIZE as u64 == 0x1_0000_0000

@@ -12,12 +12,13 @@ use Rattle.ce_model.specs.declared.entry.KillFound.{KillFound}
 use Rattle.ce_model.specs.Node.{Call, send_call, spawn_call, kill_call, is_place}
 use Rattle.ce_model.specs.Trace.{Standing}
 use Rattle.ce_model.specs.Answers.{is_among, kill_found, answer}
-use Rattle.ce_model.specs.Cube.{Cube, opening, state_after_trace, hoststore, asked_host_call, actor_call, host_call}
+use Rattle.ce_model.specs.Cube.{Cube, opening, state_after_trace, hoststore, host_call_of, actor_call, host_call}
 use Rattle.ce_model.specs.Owners.{IsBlockOf}
 use Rattle.ce_model.specs.Subcubes.{relative_number, first_free}
 use Rattle.ce_model.specs.Renaming.{place_inward, place_outward, block_outward, renamed_call_blocks, entry_inward}
 use Rattle.ce_model.specs.Views.{trace_behind, view}
 use Rattle.ce_model.specs.Machine.{MachineParts, IsMachine, IsLawful, HeldCube, after, cube_held_by, is_free, nodes_of, cube_standing, with_places_outward, Request, getcube, peek, drain, freecube, in_cube, IsCallOf}
+use Rattle.ce_model.specs.Literals.{of_host}
 use Rattle.ce_solo.proofs.Sending.{place_parts}
 use Rattle.ce_solo.proofs.Made.{made}
 use Rattle.ce_solo.proofs.Projection.Numbers.{IsPlaced, relative_host, place_in_out, block_in_out}
@@ -31,8 +32,8 @@ use Rattle.ce_host.specs.declared.answer.Answer.{Answer}
 use Rattle.ce_host.specs.declared.answer.Answer.TheVariants as answers
 use Rattle.ce_script.specs.Rounds.{RoundKind}
 use Rattle.ce_daemon.specs.Peeks.{peek_result}
-use Rattle.ce_script.specs.Commands.{by_host, getcube_reply, kill_reply, IsAtPlace, IsSpawn, IsKill, IsSend}
-use Rattle.ce_record.specs.Asked.{request_of, reply_by, IsAsked}
+use Rattle.ce_script.specs.Commands.{getcube_reply, kill_reply, IsAtPlace, IsSpawn, IsKill, IsSend}
+use Rattle.ce_record.specs.Asked.{command_request, entry_reply, IsAsked}
 use Rattle.ce_record.specs.Held.{holding_of, held_now, cube_in}
 use Rattle.ce_record.specs.Run.{IsNextCommand}
 use Rattle.ce_record.specs.Laws.{RequestsAreNext}
@@ -83,19 +84,19 @@ least (id ∷ others) to block bytes e =
     let same : (to, id) ≡ (to, block) = cc in (others, ap (λ (target : Place × BlockId). target.1 ∷ others) same)
 
 -- which commands ask for what is no call of a cube
-asks_getcube : (command : Command) (id : BlockId) (dim : ℕ) → request_of id command ≡ Some (getcube dim) → command ≡ Getcube dim
+asks_getcube : (command : Command) (id : BlockId) (dim : ℕ) → command_request id command ≡ Some (getcube dim) → command ≡ Getcube dim
 asks_getcube (Getcube other) id dim e = let same : getcube other ≡ getcube dim = cc in ap (λ request. elim request [ getcube dim ↦ Getcube dim | other ↦ Peek ]) same
 asks_getcube other id dim e = absurd (cc)
 
-asks_peek : (command : Command) (id : BlockId) → request_of id command ≡ Some peek → command ≡ Peek
+asks_peek : (command : Command) (id : BlockId) → command_request id command ≡ Some peek → command ≡ Peek
 asks_peek Peek id e = refl
 asks_peek other id e = absurd (cc)
 
-asks_no_drain : (command : Command) (id : BlockId) → request_of id command ≡ Some drain → ⊥
+asks_no_drain : (command : Command) (id : BlockId) → command_request id command ≡ Some drain → ⊥
 asks_no_drain (Getcube dim) id e = absurd (cc)
 asks_no_drain other id e = absurd (cc)
 
-asks_no_freecube : (command : Command) (id : BlockId) → request_of id command ≡ Some freecube → ⊥
+asks_no_freecube : (command : Command) (id : BlockId) → command_request id command ≡ Some freecube → ⊥
 asks_no_freecube (Getcube dim) id e = absurd (cc)
 asks_no_freecube other id e = absurd (cc)
 
@@ -107,14 +108,14 @@ some_what x y e = cc
 module _ (kind : RoundKind) (parts : MachineParts) (history : List Entry) (user : ℕ) where
   -- a command has this answer and makes this entry
   abbrev HasAnswer : Command → Answer → What → Type 0
-  HasAnswer command answer what = IsNextCommand kind parts history user command answer (by_host user what ∷ [])
+  HasAnswer command answer what = IsNextCommand kind parts history user command answer (of_host user what ∷ [])
 
   -- a command has the answer that its entry gives
-  by_entry : (command : Command) (what what' : What) (answer answer' : Answer) → what ≡ what' → reply_by parts (after history) what ≡ Some answer
-      → reply_by parts (after history) what' ≡ Some answer' → HasAnswer command answer what
+  by_entry : (command : Command) (what what' : What) (answer answer' : Answer) → what ≡ what' → entry_reply parts (after history) what ≡ Some answer
+      → entry_reply parts (after history) what' ≡ Some answer' → HasAnswer command answer what
       → HasAnswer command answer' what'
   by_entry command what what' answer answer' same is is' next =
-      let both : Some answer ≡ Some answer' = sym is ∙ ap (reply_by parts (after history)) same ∙ is' in
+      let both : Some answer ≡ Some answer' = sym is ∙ ap (entry_reply parts (after history)) same ∙ is' in
       let is_answer : answer ≡ answer' = cc in
       subst (λ answer. HasAnswer command answer what') is_answer
       (subst (λ what. HasAnswer command answer what) same next)
@@ -122,17 +123,17 @@ module _ (kind : RoundKind) (parts : MachineParts) (history : List Entry) (user 
   granted : (dim : ℕ) (found : Option Subcube) → cube_held_by (after history) user ≡ None → first_free (is_free (after history)) parts.dim dim ≡ found
       → HasAnswer (Getcube dim) (getcube_reply found) (whats.Getcube dim found)
   granted dim None none free =
-      next-by kind parts history user None (Getcube dim) (getcube_reply None) (by_host user (whats.Getcube dim None) ∷ []) (ap (option_map (holding_of history)) none)
+      next-by kind parts history user None (Getcube dim) (getcube_reply None) (of_host user (whats.Getcube dim None) ∷ []) (ap (option_map (holding_of history)) none)
       (refl, tt) (None, refl, refl)
       (record { held = (λ e. absurd (cc), λ some. absurd (cc)); none = (λ e. (refl, free), λ nothing. refl) })
   granted dim (Some sub) none free =
-      next-by kind parts history user None (Getcube dim) (getcube_reply (Some sub)) (by_host user (whats.Getcube dim (Some sub)) ∷ []) (ap (option_map (holding_of history)) none)
+      next-by kind parts history user None (Getcube dim) (getcube_reply (Some sub)) (of_host user (whats.Getcube dim (Some sub)) ∷ []) (ap (option_map (holding_of history)) none)
       (refl, tt) (Some sub, refl, refl)
       (record { held = (λ e. absurd (cc), λ some. absurd (cc)); none = (λ e. absurd (cc), λ nothing. let no = nothing.1 in absurd (cc)) })
 
   looked : HasAnswer Peek (answers.Peeked (peek_result parts (after history))) whats.Peek
   looked =
-      next-by kind parts history user (held_now history user) Peek (answers.Peeked (peek_result parts (after history))) (by_host user whats.Peek ∷ []) refl (refl, tt)
+      next-by kind parts history user (held_now history user) Peek (answers.Peeked (peek_result parts (after history))) (of_host user whats.Peek ∷ []) refl (refl, tt)
       (history, refl, refl) tt
 
   -- ---- in a cube
@@ -152,7 +153,7 @@ module _ (kind : RoundKind) (parts : MachineParts) (history : List Entry) (user 
 
     -- an entry of the host, as the cube knows it
     abbrev inward : What → Entry
-    inward what = entry_inward cube.grant.sub (by_host user what)
+    inward what = entry_inward cube.grant.sub (of_host user what)
 
     user_is : user ≡ cube.grant.user
     user_is = sym (own-user history user cube holds)
@@ -161,14 +162,14 @@ module _ (kind : RoundKind) (parts : MachineParts) (history : List Entry) (user 
     to_is to place = place_in_out parts.dim cube.grant placed to (inl (place_parts cube.grant.dim to place).0)
 
     -- as the cube knows it, the host's entry is this one
-    pub inward-is : (what what' : What) → (inward what).what ≡ what' → inward what ≡ by_host cube.grant.user what'
+    pub inward-is : (what what' : What) → (inward what).what ≡ what' → inward what ≡ of_host cube.grant.user what'
     inward-is what what' same = λ i. record { user = user_is i; actor = relative_host parts.dim cube.grant placed i; what = same i }
 
     -- a command at a place makes one entry
     at_place : (command : Command) (to : Place) (answer : Answer) (what : What) (P : List Entry → Type 0) → is_place cube.grant.dim to ≡ true
         → (IsAtPlace (is_place cube.grant.dim to) answer (inward what ∷ []) (P (inward what ∷ []))
         → HasAnswer command answer what)
-        → (what' : What) → (inward what).what ≡ what' → P (by_host cube.grant.user what' ∷ []) → HasAnswer command answer what
+        → (what' : What) → (inward what).what ≡ what' → P (of_host cube.grant.user what' ∷ []) → HasAnswer command answer what
     at_place command to answer what P place next what' same is =
         next (at-place cube.grant.dim true to answer (inward what ∷ []) _ place
         (subst (λ entry. P (entry ∷ [])) (sym (inward-is what what' same)) is))
@@ -179,7 +180,7 @@ module _ (kind : RoundKind) (parts : MachineParts) (history : List Entry) (user 
         let reply : Answer = if fresh then answers.Ok else answers.Used in
         let what = whats.Spawn 0 image (place_outward cube.grant.sub to) fresh in
         at_place (Spawn image to) to reply what (IsSpawn cube.grant.user image to reply) place
-        (λ does. holder-next kind parts history user cube holds (Spawn image to) reply (by_host user what ∷ []) (refl, tt) does tt)
+        (λ does. holder-next kind parts history user cube holds (Spawn image to) reply (of_host user what ∷ []) (refl, tt) does tt)
         (whats.Spawn 0 image to fresh) (ap (λ to. whats.Spawn 0 image to fresh) (to_is to place)) (fresh, refl, refl)
 
     killed : (to : Place) (found : KillFound) → is_place cube.grant.dim to ≡ true
@@ -187,7 +188,7 @@ module _ (kind : RoundKind) (parts : MachineParts) (history : List Entry) (user 
     killed to found place =
         let what = whats.Kill 0 (place_outward cube.grant.sub to) found in
         at_place (Kill to) to (kill_reply found) what (IsKill cube.grant.user to (kill_reply found)) place
-        (λ does. holder-next kind parts history user cube holds (Kill to) (kill_reply found) (by_host user what ∷ []) (refl, tt) does tt)
+        (λ does. holder-next kind parts history user cube holds (Kill to) (kill_reply found) (of_host user what ∷ []) (refl, tt) does tt)
         (whats.Kill 0 to found) (ap (λ to. whats.Kill 0 to found) (to_is to place)) (found, refl, refl)
 
     sent : (to : Place) (bytes : List ℕ) (block : BlockId) (others : List BlockId) (first : ℕ) → is_place cube.grant.dim to ≡ true
@@ -196,40 +197,40 @@ module _ (kind : RoundKind) (parts : MachineParts) (history : List Entry) (user 
     sent to bytes block others first place store of_cube =
         let what = whats.Send 0 first ((place_outward cube.grant.sub to, block_outward cube.grant block) ∷ []) bytes in
         at_place (Send to bytes) to answers.Ok what (IsSend cube.grant.user (hoststore (opening own) t) to bytes answers.Ok) place
-        (λ does. holder-next kind parts history user cube holds (Send to bytes) answers.Ok (by_host user what ∷ []) (refl, tt) does tt)
+        (λ does. holder-next kind parts history user cube holds (Send to bytes) answers.Ok (of_host user what ∷ []) (refl, tt) does tt)
         (whats.Send 0 first ((to, block) ∷ []) bytes)
         (λ i. whats.Send 0 first ((to_is to place i, block_in_out parts.dim cube.grant placed block of_cube i) ∷ []) bytes)
-        (subst (λ store. IsSend cube.grant.user store to bytes answers.Ok (by_host cube.grant.user (whats.Send 0 first ((to, block) ∷ []) bytes) ∷ [])) (sym store)
+        (subst (λ store. IsSend cube.grant.user store to bytes answers.Ok (of_host cube.grant.user (whats.Send 0 first ((to, block) ∷ []) bytes) ∷ [])) (sym store)
         (first, refl, refl))
 
     -- ---- by a call that fits
 
     module _ (call : Call) (fits : IsCallOf parts history HOST call cube) where
       -- the host's user has it made
-      by_user : option_and_then (host_call own (hoststore (opening own) t)) (asked_host_call fits.made) ≡ Some fits.made
+      by_user : option_and_then (host_call own (hoststore (opening own) t)) (host_call_of fits.made) ≡ Some fits.made
       by_user =
-          subst (λ actor. actor_call own (opening own) t actor (asked_host_call fits.made) ≡ Some fits.made) (relative_host parts.dim cube.grant placed) fits.next
+          subst (λ actor. actor_call own (opening own) t actor (host_call_of fits.made) ≡ Some fits.made) (relative_host parts.dim cube.grant placed) fits.next
 
       within : IsCallWithin cube.grant.dim fits.made
       within =
           let was = before.held user cube holds in
           let left = state_after_trace own (opening own) (trace_behind cube.grant was.behind) in
-          let says = subst (λ t. actor_call own (opening own) t (relative_number cube.grant.sub HOST) (asked_host_call fits.made) ≡ Some fits.made)
+          let says = subst (λ t. actor_call own (opening own) t (relative_number cube.grant.sub HOST) (host_call_of fits.made) ≡ Some fits.made)
           (view-is history cube.number cube.grant was.behind was.found) fits.next in
           made-within own left (own_cube parts cube.grant machine was.placed)
           (stands parts machine (after history) history cube was fits.not_drained (before.views cube.number cube.grant was.behind was.found).alone).sound
-          (relative_number cube.grant.sub HOST) (asked_host_call fits.made) fits.made (made own left (relative_number cube.grant.sub HOST) (asked_host_call fits.made) fits.made says)
+          (relative_number cube.grant.sub HOST) (host_call_of fits.made) fits.made (made own left (relative_number cube.grant.sub HOST) (host_call_of fits.made) fits.made says)
 
     spawn_fits : (image : ℕ) (to : Place) → IsCallOf parts history HOST (spawn_call 0 image to) cube → is_place cube.grant.dim to ≡ true
     spawn_fits image to fits =
         let is = spawn_is (block_outward cube.grant) image to fits.made fits.renamed in
-        let says = subst (λ made. option_and_then (host_call own (hoststore (opening own) t)) (asked_host_call made) ≡ Some made) is (by_user (spawn_call 0 image to) fits) in
+        let says = subst (λ made. option_and_then (host_call own (hoststore (opening own) t)) (host_call_of made) ≡ Some made) is (by_user (spawn_call 0 image to) fits) in
         (and_parts _ _ (if_some (is_place cube.grant.dim to && nat_lt image (length parts.images)) _ _ says).0).0
 
     kill_fits : (to : Place) → IsCallOf parts history HOST (kill_call 0 to) cube → is_place cube.grant.dim to ≡ true
     kill_fits to fits =
         let is = kill_is (block_outward cube.grant) to fits.made fits.renamed in
-        let says = subst (λ made. option_and_then (host_call own (hoststore (opening own) t)) (asked_host_call made) ≡ Some made) is (by_user (kill_call 0 to) fits) in
+        let says = subst (λ made. option_and_then (host_call own (hoststore (opening own) t)) (host_call_of made) ≡ Some made) is (by_user (kill_call 0 to) fits) in
         (if_some (is_place cube.grant.dim to) _ _ says).0
 
     -- a message that fits goes to a place, in the least block of the host's store
@@ -245,7 +246,7 @@ module _ (kind : RoundKind) (parts : MachineParts) (history : List Entry) (user 
     send_fits id to bytes fits =
         let call = send_call 0 ((to, id) ∷ []) bytes in
         let m = send_is (block_outward cube.grant) id to bytes fits.made fits.renamed in
-        let says = subst (λ made. option_and_then (host_call own (hoststore (opening own) t)) (asked_host_call made) ≡ Some made) m.is (by_user call fits) in
+        let says = subst (λ made. option_and_then (host_call own (hoststore (opening own) t)) (host_call_of made) ≡ Some made) m.is (by_user call fits) in
         let parts = if_some (is_place cube.grant.dim to) _ _ says in
         let first = least (hoststore (opening own) t) to m.block bytes parts.1 in
         record {
@@ -269,7 +270,7 @@ module _ (kind : RoundKind) (parts : MachineParts) (history : List Entry) (user 
     -- it is the command's
     abbrev IsAnswered : Command → Call → Type 0
     IsAnswered command call =
-        IsCallOf parts history HOST call cube → (reply : Answer) → reply_by parts (after history) (answer_to call) ≡ Some reply
+        IsCallOf parts history HOST call cube → (reply : Answer) → entry_reply parts (after history) (answer_to call) ≡ Some reply
         → HasAnswer command reply (answer_to call)
 
     spawn_answered : (image : ℕ) (to : Place) → IsAnswered (Spawn image to) (spawn_call 0 image to)
@@ -294,7 +295,7 @@ module _ (kind : RoundKind) (parts : MachineParts) (history : List Entry) (user 
     same_call : (command : Command) (call call' : Call) → Some (in_cube call) ≡ Some (in_cube call') → IsAnswered command call → IsAnswered command call'
     same_call command call call' e is = let same : call ≡ call' = cc in subst (IsAnswered command) same is
 
-    pub call_answered : (command : Command) (id : BlockId) (call : Call) → request_of id command ≡ Some (in_cube call) → IsAnswered command call
+    pub call_answered : (command : Command) (id : BlockId) (call : Call) → command_request id command ≡ Some (in_cube call) → IsAnswered command call
     call_answered (Spawn image to) id call e = same_call (Spawn image to) (spawn_call 0 image to) call e (spawn_answered image to)
     call_answered (Kill to) id call e = same_call (Kill to) (kill_call 0 to) call e (kill_answered to)
     call_answered (Send to bytes) id call e = same_call (Send to bytes) (send_call 0 ((to, id) ∷ []) bytes) call e (send_answered id to bytes)
@@ -303,18 +304,18 @@ module _ (kind : RoundKind) (parts : MachineParts) (history : List Entry) (user 
   -- ---- by what is requested
 
   module _ (machine : IsMachine parts) (lawful : IsLawful parts history) where
-    by_held : (command : Command) (id : BlockId) (call : Call) (what : What) (reply : Answer) (held : Option HeldCube) → request_of id command ≡ Some (in_cube call)
+    by_held : (command : Command) (id : BlockId) (call : Call) (what : What) (reply : Answer) (held : Option HeldCube) → command_request id command ≡ Some (in_cube call)
         → cube_held_by (after history) user ≡ held → IsSomeAnd held (IsCallOf parts history HOST call)
         → option_map (λ cube. answer (nodes_of cube.grant) (cube_standing (after history) cube) HOST (with_places_outward cube.grant call)) held ≡ Some what
-        → reply_by parts (after history) what ≡ Some reply → HasAnswer command reply what
+        → entry_reply parts (after history) what ≡ Some reply → HasAnswer command reply what
     by_held command id call what reply None e is fits answered replied = absurd fits
     by_held command id call what reply (Some cube) e is fits answered replied =
         let same : answer (nodes_of cube.grant) (cube_standing (after history) cube) HOST (with_places_outward cube.grant call) ≡ what = cc in
         subst (λ what. HasAnswer command reply what) same
-        (call_answered machine lawful cube is command id call e fits reply (ap (reply_by parts (after history)) same ∙ replied))
+        (call_answered machine lawful cube is command id call e fits reply (ap (entry_reply parts (after history)) same ∙ replied))
 
-    by_request : (command : Command) (id : BlockId) (request : Request) (what : What) (reply : Answer) → request_of id command ≡ Some request
-        → IsAsked parts history user request what → reply_by parts (after history) what ≡ Some reply
+    by_request : (command : Command) (id : BlockId) (request : Request) (what : What) (reply : Answer) → command_request id command ≡ Some request
+        → IsAsked parts history user request what → entry_reply parts (after history) what ≡ Some reply
         → HasAnswer command reply what
     by_request command id (in_cube call) what reply e is replied = by_held command id call what reply (cube_held_by (after history) user) e refl is.fits.1 is.answer replied
     by_request command id (getcube dim) what reply e is replied =

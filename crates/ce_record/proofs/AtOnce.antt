@@ -14,7 +14,7 @@ use Rattle.ce_host.specs.declared.answer.Answer.TheVariants.{NoCube, Held, Freed
 use Rattle.ce_script.specs.Rounds.{RoundKind}
 use Rattle.ce_script.specs.Moments.{Holding, later_moments}
 use Rattle.ce_script.specs.Commands.{IsCommand, IsAtPlace, IsSend}
-use Rattle.ce_record.specs.Asked.{wants_cube, place_in}
+use Rattle.ce_record.specs.Asked.{wants_cube, command_place}
 use Rattle.ce_record.specs.Held.{holding_of, held_now, cube_in}
 use Rattle.ce_record.specs.Run.{doing_behind, IsRefusedWhere, IsNextCommand}
 use Rattle.ce_record.proofs.Held.{own-user}
@@ -83,7 +83,7 @@ module _ (kind : RoundKind) (parts : MachineParts) (history : List Entry) (user 
   nowhere : (to : Place) → is_place cube.grant.dim to ≡ false → (P : Type 0) → IsAtPlace (is_place cube.grant.dim to) NoPlace [] P
   nowhere to place P = at-place cube.grant.dim false to NoPlace [] P place (refl, refl)
 
-  pub no_place : (command : Command) (to : Place) → place_in command ≡ Some to → is_place cube.grant.dim to ≡ false → IsNextCommand kind parts history user command NoPlace []
+  pub no_place : (command : Command) (to : Place) → command_place command ≡ Some to → is_place cube.grant.dim to ≡ false → IsNextCommand kind parts history user command NoPlace []
   no_place (Spawn image at) to is place = now (Spawn image at) NoPlace (nowhere at (at_to at to is place) _) tt
   no_place (Kill at) to is place = now (Kill at) NoPlace (nowhere at (at_to at to is place) _) tt
   no_place (Send at bytes) to is place = now (Send at bytes) NoPlace (nowhere at (at_to at to is place) _) tt
@@ -102,5 +102,5 @@ module _ (kind : RoundKind) (parts : MachineParts) (history : List Entry) (user 
   pub trace : IsNextCommand kind parts history user Trace (Entries (length (view history cube.number))) []
   trace = now Trace (Entries (length (view history cube.number))) (refl, refl) tt
 
-  pub freecube : IsNextCommand kind parts history user Freecube Freed (freecube_entries user)
-  freecube = holder-next Freecube Freed (freecube_entries user) (refl, (refl, tt)) (refl, ap freecube_entries (sym (own-user history user cube holds))) tt
+  pub freecube_next : IsNextCommand kind parts history user Freecube Freed (freecube_entries user)
+  freecube_next = holder-next Freecube Freed (freecube_entries user) (refl, (refl, tt)) (refl, ap freecube_entries (sym (own-user history user cube holds))) tt

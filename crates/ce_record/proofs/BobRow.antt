@@ -9,7 +9,7 @@ use Rattle.ce_model.specs.Subcubes.{extract, relative_number}
 use Rattle.ce_model.specs.Hearing.{node_after_hearing}
 use Rattle.ce_model.specs.Cube.{state}
 use Rattle.ce_model.specs.Views.{view}
-use Rattle.ce_model.specs.Machine.{MachineParts, IsMachine, IsLawful, IsLawfulEntry, HeldCube, after, cube_held_by}
+use Rattle.ce_model.specs.Machine.{MachineParts, IsMachine, IsLawful, IsLawfulEntry, HeldCube, after, cube_held_by, new_cube}
 use Rattle.ce_model.proofs.Walked.{each_of_front}
 use Rattle.ce_host.specs.declared.command.Command.TheVariants.{Run}
 use Rattle.ce_host.specs.declared.answer.Answer.TheVariants.{Quiet}
@@ -20,7 +20,7 @@ use Rattle.ce_script.proofs.RowUsedAgain.{the_script, the_record}
 use Rattle.ce_script.proofs.UsedAgainDone.{HasSaidRow, start_round, idle_round, bob_trace}
 use Rattle.ce_script.proofs.UsedAgainLegal.{is_lawful}
 use Rattle.ce_record.specs.CubeRounds.{IsRoundOf, IsRunOf}
-use Rattle.ce_record.specs.Held.{new_cube, AreTurnsOverIn}
+use Rattle.ce_record.specs.Held.{AreTurnsOverIn}
 use Rattle.ce_record.specs.Run.{IsNextCommand}
 use Rattle.ce_record.proofs.Running.{run}
 

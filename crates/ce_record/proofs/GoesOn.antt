@@ -57,14 +57,14 @@ trace_goes_on parts history user cube holds machine lawful goes made all =
 -- ---- the cube
 
 -- the user holds the cube of this number and grant, which wasn't drained
-abbrev HoldsStill : List Entry → ℕ → HeldCube → Type 0
-HoldsStill history user cube =
+abbrev IsHeldStill : List Entry → ℕ → HeldCube → Type 0
+IsHeldStill history user cube =
     IsSomeAnd (cube_held_by (after history) user) (λ now. (now.number ≡ cube.number) × (now.grant ≡ cube.grant) × (now.is_drained ≡ false))
 
 stays : (history made : List Entry) (user : ℕ) (cube : HeldCube) → cube_held_by (after history) user ≡ Some cube → cube.is_drained ≡ false
-    → AllByRecursion (IsCallBy user) made → HoldsStill (history ++ made) user cube
+    → AllByRecursion (IsCallBy user) made → IsHeldStill (history ++ made) user cube
 stays history [] user cube holds goes all =
-    subst (λ h. HoldsStill h user cube) (sym (append-nil history))
+    subst (λ h. IsHeldStill h user cube) (sym (append-nil history))
     (subst (λ held. IsSomeAnd held (λ now. (now.number ≡ cube.number) × (now.grant ≡ cube.grant) × (now.is_drained ≡ false))) (sym holds) (refl, refl, goes))
 stays history (entry ∷ made) user cube holds goes all =
     let call = the_call (recorded_call entry.what) all.0.1 in
@@ -73,7 +73,7 @@ stays history (entry ∷ made) user cube holds goes all =
     ap (λ state. cube_held_by state user) (after-more history entry ∙ ap (λ call. state_after_call call entry (after history)) call.1)
     ∙ ap (λ u. cube_held_by (state_after_call (Some call.0) entry (after history)) u) (sym all.0.0)
     ∙ held-own entry.user change (λ cube. refl) (λ cube. record_by cube.grant.sub entry) (after history) cube (ap (cube_held_by (after history)) all.0.0 ∙ holds) in
-    subst (λ h. HoldsStill h user cube) (one_further history entry made) (stays (history ++ entry ∷ []) made user (change cube) now goes all.1)
+    subst (λ h. IsHeldStill h user cube) (one_further history entry made) (stays (history ++ entry ∷ []) made user (change cube) now goes all.1)
 
 pub cube_stays : CubeStays
 cube_stays parts history user cube holds machine lawful goes made all = stays history made user cube holds goes all

@@ -17,13 +17,13 @@ use Rattle.ce_model.specs.Renaming.{CubeGrant, entry_inward}
 use Rattle.ce_model.specs.Views.{history_behind_grant, view}
 use Rattle.ce_model.specs.Machine.{MachineParts, IsMachine, HeldCube, MachineState, cube_held_by, is_free, nodes_of, cube_standing, record_by, cube_after_entry, with_cube, with_grant, with_drained, without_cube, state_after_entry, state_after_call, after, Request, getcube, peek, drain, freecube, in_cube, with_places_outward, what_of_request, IsCallOf, IsFitting, IsLawfulEntry, IsLawful}
 use Rattle.ce_model.proofs.Walked.{one_further, kept_by_each, each_of_front, each_behind}
+use Rattle.ce_model.specs.Literals.{of_host}
 use Rattle.ce_solo.proofs.Projection.Views.{found-more, found-new, trace-stays, trace-grows, view-is}
 use Rattle.ce_solo.proofs.Projection.Held.{held-user, held-own, granted-own, left-own}
-use Rattle.ce_solo.proofs.Projection.Invariant.{projected-step}
+use Rattle.ce_solo.proofs.Projection.Invariant.{projected-entry}
 use Rattle.ce_solo.proofs.Projection.Kinds.{and_false, entry_of}
-use Rattle.ce_solo.proofs.Projection.Law.{IsProjectedHistory, after-more, own-called, lawful-step, projected}
-use Rattle.ce_script.specs.Commands.{by_host}
-use Rattle.ce_script.specs.Moments.{Holding, with_entry, next_holding, holding, entries_of, own_entries}
+use Rattle.ce_solo.proofs.Projection.Law.{IsProjectedHistory, after-more, own-called, lawful-entry, projected}
+use Rattle.ce_script.specs.Moments.{Holding, with_entry, next_holding, holding, moment_entries, own_entries}
 use Rattle.ce_record.specs.Held.{holding_of, held_now}
 use Rattle.ce_record.specs.Laws.{HoldingsAreTheMachines, HoldingsFollowDoings, OthersStay, CubeBegins}
 use Rattle.ce_record.proofs.Moments.{map-flat, entries-own}
@@ -89,8 +89,8 @@ module _ (parts : MachineParts) (h : List Entry) (before : IsProjectedHistory pa
 -- ---- an entry of the user
 
 -- by an entry of its own a user holds what the machine then says
-abbrev Tells : List Entry → Entry → Type 0
-Tells h entry = next_holding (held_now h entry.user) entry ≡ held_now (h ++ entry ∷ []) entry.user
+abbrev IsToldByHoldings : List Entry → Entry → Type 0
+IsToldByHoldings h entry = next_holding (held_now h entry.user) entry ≡ held_now (h ++ entry ∷ []) entry.user
 
 module _ (parts : MachineParts) (machine : IsMachine parts) (h : List Entry) (before : IsProjectedHistory parts h) where
   -- what the machine says behind an entry that leaves this state
@@ -100,11 +100,11 @@ module _ (parts : MachineParts) (machine : IsMachine parts) (h : List Entry) (be
       ap (λ state. option_map (holding_of (h ++ entry ∷ [])) (cube_held_by state entry.user)) (after-more h entry ∙ is)
       ∙ ap (option_map (holding_of (h ++ entry ∷ []))) same
 
-  by_what : (entry : Entry) (what : What) → Some what ≡ Some entry.what → Tells h (entry_of entry.user entry.actor what) → Tells h entry
+  by_what : (entry : Entry) (what : What) → Some what ≡ Some entry.what → IsToldByHoldings h (entry_of entry.user entry.actor what) → IsToldByHoldings h entry
   by_what entry what e tells =
-      let same : what ≡ entry.what = cc in subst (λ what. Tells h (entry_of entry.user entry.actor what)) same tells
+      let same : what ≡ entry.what = cc in subst (λ what. IsToldByHoldings h (entry_of entry.user entry.actor what)) same tells
 
-  by_grant : (entry : Entry) (d : ℕ) (found : Option Subcube) → cube_held_by (after h) entry.user ≡ None → Some (Getcube d found) ≡ Some entry.what → Tells h entry
+  by_grant : (entry : Entry) (d : ℕ) (found : Option Subcube) → cube_held_by (after h) entry.user ≡ None → Some (Getcube d found) ≡ Some entry.what → IsToldByHoldings h entry
   by_grant entry d None none e =
       by_what entry (Getcube d None) e
       (ap (option_map (holding_of h)) none ∙ sym (now-is (entry_of entry.user entry.actor (Getcube d None)) (after h) None refl none))
@@ -117,14 +117,14 @@ module _ (parts : MachineParts) (machine : IsMachine parts) (h : List Entry) (be
       (ap (λ t. Some (record { grant = grant; trace = t })) (sym new)
       ∙ sym (now-is granting (with_grant grant (after h)) _ refl (granted-own grant (after h) none)))
 
-  by_peek : (entry : Entry) → Some Peek ≡ Some entry.what → Tells h entry
+  by_peek : (entry : Entry) → Some Peek ≡ Some entry.what → IsToldByHoldings h entry
   by_peek entry e =
       let peeking = entry_of entry.user entry.actor Peek in
       by_what entry Peek e
       (sym (now-stays parts h before peeking entry.user (ap (λ state. cube_held_by state entry.user) (after-more h peeking)) (λ cube is. and_false _ _ refl)))
 
   by_drain : (entry : Entry) (held : Option HeldCube) → cube_held_by (after h) entry.user ≡ held → IsSomeAnd held (λ cube. cube.is_drained ≡ false)
-      → Some Drain ≡ Some entry.what → Tells h entry
+      → Some Drain ≡ Some entry.what → IsToldByHoldings h entry
   by_drain entry None is some e = absurd some
   by_drain entry (Some cube) is some e =
       let draining = entry_of entry.user entry.actor Drain in
@@ -132,16 +132,16 @@ module _ (parts : MachineParts) (machine : IsMachine parts) (h : List Entry) (be
       (ap (option_map (holding_of h)) is
       ∙ ap (λ t. Some (record { grant = cube.grant; trace = t })) (sym (view-stays parts h before draining entry.user cube is (and_false _ _ refl)))
       ∙ sym (now-is draining (with_drained entry.user (after h)) (Some (record cube { is_drained = true; mail = [] })) refl
-      (held-own entry.user (λ cube. record cube { is_drained = true; mail = [] }) (λ cube. refl) (λ cube node kept. record kept { waiting_items = [] }) (after h) cube is)))
+      (held-own entry.user (λ cube. record cube { is_drained = true; mail = [] }) (λ cube. refl) (λ cube node run_record. record run_record { waiting_items = [] }) (after h) cube is)))
 
-  by_free : (entry : Entry) → Some Freecube ≡ Some entry.what → Tells h entry
+  by_free : (entry : Entry) → Some Freecube ≡ Some entry.what → IsToldByHoldings h entry
   by_free entry e =
       by_what entry Freecube e
       (sym (now-is (entry_of entry.user entry.actor Freecube) (without_cube entry.user (after h)) None refl (left-own entry.user (after h))))
 
   by_call : (entry : Entry) (call : Call) (held : Option HeldCube) → cube_held_by (after h) entry.user ≡ held → IsSomeAnd held (IsCallOf parts h entry.actor call)
       → option_map (λ cube. answer (nodes_of cube.grant) (cube_standing (after h) cube) entry.actor (with_places_outward cube.grant call)) held ≡ Some entry.what
-      → Tells h entry
+      → IsToldByHoldings h entry
   by_call entry call None is some e = absurd some
   by_call entry call (Some cube) is fits e =
       let own = own-called parts machine h before entry call cube is fits e in
@@ -153,7 +153,7 @@ module _ (parts : MachineParts) (machine : IsMachine parts) (h : List Entry) (be
       (held-own entry.user (cube_after_entry entry) (λ cube. refl) (λ cube. record_by cube.grant.sub entry) (after h) cube is))
 
   by_request : (entry : Entry) (request : Request) → IsFitting parts h entry.user entry.actor request → what_of_request parts (after h) entry.user entry.actor request ≡ Some entry.what
-      → Tells h entry
+      → IsToldByHoldings h entry
   by_request entry (getcube d) fits e = by_grant entry d (first_free (is_free (after h)) parts.dim d) fits.1.2 e
   by_request entry peek fits e = by_peek entry e
   by_request entry drain fits e = by_drain entry (cube_held_by (after h) entry.user) refl fits.1.1 e
@@ -174,7 +174,7 @@ told-nil user = refl
 module _ (parts : MachineParts) (machine : IsMachine parts) (h : List Entry) (entry : Entry) (before : IsProjectedHistory parts h) (is : IsLawfulEntry parts h entry) (user : ℕ)
     (other : (entry.user == user) ≡ false) where
   state-stays : cube_held_by (after (h ++ entry ∷ [])) user ≡ cube_held_by (after h) user
-  state-stays = (lawful-step parts machine h before entry is).others user other
+  state-stays = (lawful-entry parts machine h before entry is).others user other
 
   other-stays : held_now (h ++ entry ∷ []) user ≡ held_now h user
   other-stays =
@@ -182,9 +182,9 @@ module _ (parts : MachineParts) (machine : IsMachine parts) (h : List Entry) (en
       (λ cube held. ap (λ b. b && is_some (recorded_call entry.what))
       (subst (λ u. (entry.user == u) ≡ false) (sym (eqb-true _ _ (held-user (after h) user cube held))) other))
 
-told-step : (parts : MachineParts) → IsMachine parts → (h : List Entry) (entry : Entry) → IsProjectedHistory parts h → AreTold h → IsLawfulEntry parts h entry
+told-entry : (parts : MachineParts) → IsMachine parts → (h : List Entry) (entry : Entry) → IsProjectedHistory parts h → AreTold h → IsLawfulEntry parts h entry
     → AreTold (h ++ entry ∷ [])
-told-step parts machine h entry before told is user =
+told-entry parts machine h entry before told is user =
     elim (cases_Bool (entry.user == user)) [
       | inl own ↦
           ap holding (own-one user h entry own) ∙ holding-more (own_entries user h) entry ∙ ap (λ held. next_holding held entry) (told user)
@@ -194,19 +194,19 @@ told-step parts machine h entry before told is user =
     ]
 
 now-holds : (parts : MachineParts) → IsMachine parts → (h : List Entry) (entry : Entry) → IsProjectedHistory parts h → IsLawfulEntry parts h entry → IsProjectedHistory parts (h ++ entry ∷ [])
-now-holds parts machine h entry before is = projected-step parts (after h) (after (h ++ entry ∷ [])) h entry before (lawful-step parts machine h before entry is)
+now-holds parts machine h entry before is = projected-entry parts (after h) (after (h ++ entry ∷ [])) h entry before (lawful-entry parts machine h before entry is)
 
 told : (parts : MachineParts) (history : List Entry) → IsMachine parts → IsLawful parts history → AreTold history
 told parts history machine lawful =
     (kept_by_each (IsLawfulEntry parts) (λ h. IsProjectedHistory parts h × AreTold h)
-    (λ h entry both is. (now-holds parts machine h entry both.0 is, told-step parts machine h entry both.0 both.1 is)) [] history (projected parts [] machine tt, told-nil) lawful).1
+    (λ h entry both is. (now-holds parts machine h entry both.0 is, told-entry parts machine h entry both.0 both.1 is)) [] history (projected parts [] machine tt, told-nil) lawful).1
 
 pub held_is_held : HoldingsAreTheMachines
 held_is_held parts history user machine lawful = ap holding (entries-own user history) ∙ told parts history machine lawful user
 
 pub held_after_is_held : HoldingsFollowDoings
 held_after_is_held parts history user doings machine lawful own =
-    ap holding (map-flat (λ moment. moment.entry) (λ doing. doing.moments) doings) ∙ ap (λ moments. holding (entries_of moments)) own
+    ap holding (map-flat (λ moment. moment.entry) (λ doing. doing.moments) doings) ∙ ap (λ moments. holding (moment_entries moments)) own
     ∙ held_is_held parts history user machine lawful
 
 -- ---- other users
@@ -237,7 +237,7 @@ pub cube_begins : CubeBegins
 cube_begins parts history user dim sub machine lawful asked =
     let before = projected parts history machine lawful in
     let grant : CubeGrant = record { user = user; dim = dim; sub = sub } in
-    let granting = by_host user (Getcube dim (Some sub)) in (
+    let granting = of_host user (Getcube dim (Some sub)) in (
       ap (λ state. cube_held_by state user) (after-more history granting) ∙ granted-own grant (after history) asked.fits.1.2,
       view-is (history ++ granting ∷ []) (after history).grant_count grant []
           (ap (history_behind_grant (history ++ granting ∷ [])) before.count ∙ found-new history granting grant refl),

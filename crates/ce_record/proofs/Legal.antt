@@ -106,9 +106,9 @@ commands_done number (own ∷ all) =
 
 -- ---- the users
 
-each_user : (P Q : ℕ → UserRecord → Type 0) (kept : Record) → ((number : ℕ) (user : UserRecord) → P number user → Q number user) → EachUser P kept → EachUser Q kept
-each_user P Q kept up =
-    all-weaker (λ numbered. P numbered.0 numbered.1) (λ numbered. Q numbered.0 numbered.1) (enumerate_from 0 kept.users) (λ numbered. up numbered.0 numbered.1)
+each_user : (P Q : ℕ → UserRecord → Type 0) (run_record : Record) → ((number : ℕ) (user : UserRecord) → P number user → Q number user) → EachUser P run_record → EachUser Q run_record
+each_user P Q run_record up =
+    all-weaker (λ numbered. P numbered.0 numbered.1) (λ numbered. Q numbered.0 numbered.1) (enumerate_from 0 run_record.users) (λ numbered. up numbered.0 numbered.1)
 
 -- what holds of what each user was answered
 each_done : (P : ℕ → List (Command × Answer) → Type 0) (k : ℕ) (users : List UserRecord)
@@ -143,92 +143,92 @@ by_number P k (user ∷ users) all =
 
 -- ---- the record
 
-module _ (kind : RoundKind) (script : Script) (kept : Record) (within : IsWithinLimits script) (lawful : IsLawful (machine_of script) kept.history)
-    (empty : script.users ≡ [] → kept.history ≡ []) where
+module _ (kind : RoundKind) (script : Script) (run_record : Record) (within : IsWithinLimits script) (lawful : IsLawful (machine_of script) run_record.history)
+    (empty : script.users ≡ [] → run_record.history ≡ []) where
   -- each cube's trace is legal
-  legal_traces : (users : List (List ℕ)) → script.users ≡ users → EachCube IsLegalTrace (script_images script) kept.history
+  legal_traces : (users : List (List ℕ)) → script.users ≡ users → EachCube IsLegalTrace (script_images script) run_record.history
   legal_traces [] none = subst (EachCube IsLegalTrace (script_images script)) (sym (empty none)) tt
   legal_traces (user ∷ users) some =
       let machine = script_has_machine script within (subst (λ users. 0 < length users) (sym some) (omega arith)) in
-      each_cube IsLegalTrace (machine_of script) kept.history (λ n. lawful_is_legal (machine_of script) kept.history n machine lawful)
+      each_cube IsLegalTrace (machine_of script) run_record.history (λ n. lawful_is_legal (machine_of script) run_record.history n machine lawful)
 
-  traces : EachCube IsLegalTrace (script_images script) kept.history
+  traces : EachCube IsLegalTrace (script_images script) run_record.history
   traces = legal_traces script.users refl
 
-  each_trace : (P : Cube → List Entry → Type 0) → ((cube : Cube) (t : List Entry) → IsLegalTrace cube t → P cube t) → EachCube P (script_images script) kept.history
+  each_trace : (P : Cube → List Entry → Type 0) → ((cube : Cube) (t : List Entry) → IsLegalTrace cube t → P cube t) → EachCube P (script_images script) run_record.history
   each_trace P part =
-      all-weaker (λ numbered. IsLegalTrace (cube_of (script_images script) numbered.1) (view kept.history numbered.0))
-      (λ numbered. P (cube_of (script_images script) numbered.1) (view kept.history numbered.0)) (enumerate_from 0 (grants_of kept.history)) (λ numbered is. part _ _ is) traces
+      all-weaker (λ numbered. IsLegalTrace (cube_of (script_images script) numbered.1) (view run_record.history numbered.0))
+      (λ numbered. P (cube_of (script_images script) numbered.1) (view run_record.history numbered.0)) (enumerate_from 0 (grants_of run_record.history)) (λ numbered is. part _ _ is) traces
 
   -- a user did this, and was answered what the record says
   abbrev HasDone : ℕ → UserRecord → List Doing → Type 0
-  HasDone number user doings = HasDoneSoFar kind (machine_of script) number kept.history doings × (map command_with_answer doings ≡ user.done)
+  HasDone number user doings = HasDoneSoFar kind (machine_of script) number run_record.history doings × (map command_with_answer doings ≡ user.done)
 
-  pub legal_by : IsRecordOfScript script kept → EachUser (λ number user. (doings : List Doing) × HasDone number user doings) kept → IsLegal kind script kept
+  pub legal_by : IsRecordOfScript script run_record → EachUser (λ number user. (doings : List Doing) × HasDone number user doings) run_record → IsLegal kind script run_record
   legal_by keeps users =
-      let did = by_number HasDone 0 kept.users users in
+      let did = by_number HasDone 0 run_record.users users in
       record {
         doings = did.0;
         keeps = keeps;
         lawful = lawful;
-        does = each_user (λ number user. HasDone number user (did.0 number)) _ kept (λ number user is.
-            subst (λ done. AreDoings kind (machine_of script) kept.history number done (did.0 number)) is.1 is.0.does) did.1;
+        does = each_user (λ number user. HasDone number user (did.0 number)) _ run_record (λ number user is.
+            subst (λ done. AreDoings kind (machine_of script) run_record.history number done (did.0 number)) is.1 is.0.does) did.1;
         alone = each_trace _ (λ cube t is. is.0);
         owned = each_trace _ (λ cube t is. is.1);
         in_order = each_trace _ (λ cube t is. is.2);
-        refused = each_user (λ number user. HasDone number user (did.0 number)) _ kept (λ number user is. is.0.refused) did.1;
+        refused = each_user (λ number user. HasDone number user (did.0 number)) _ run_record (λ number user is. is.0.refused) did.1;
       }
 
 pub users_are_legal : UsersAreLegal
-users_are_legal kind script kept within some lawful keeps users =
-    legal_by kind script kept within lawful (λ none. absurd (omega (arith, subst (λ users. 0 < length users) none some))) keeps
-    (each_user _ _ kept (λ number user is. (is.0, (is.1, is.2))) users)
+users_are_legal kind script run_record within some lawful keeps users =
+    legal_by kind script run_record within lawful (λ none. absurd (omega (arith, subst (λ users. 0 < length users) none some))) keeps
+    (each_user _ _ run_record (λ number user is. (is.0, (is.1, is.2))) users)
 
 -- ---- a run
 
-module _ (script : Script) (kept : Record) (all : List (ℕ × Doing)) (within : IsWithinLimits script) (lawful : IsLawful (machine_of script) kept.history)
-    (run : IsRunSoFar serial (machine_of script) kept.history all) (keeps : IsRecordOfRun script all kept) where
-  empty : script.users ≡ [] → kept.history ≡ []
+module _ (script : Script) (run_record : Record) (all : List (ℕ × Doing)) (within : IsWithinLimits script) (lawful : IsLawful (machine_of script) run_record.history)
+    (run : IsRunSoFar serial (machine_of script) run_record.history all) (keeps : IsRecordOfRun script all run_record) where
+  empty : script.users ≡ [] → run_record.history ≡ []
   empty none =
       let few = subst (λ users. AllByRecursion (IsOwnCommandWithin (length users) (length script.images)) script.commands) none within.commands in
       let nothing = map-none command_of all (keeps.commands ∙ no_commands (length script.images) script.commands few) in
-      no_history kept.history (sym (ap (flat_map (λ (own : ℕ × Doing). own.1.moments)) nothing) ∙ run.together)
+      no_history run_record.history (sym (ap (flat_map (λ (own : ℕ × Doing). own.1.moments)) nothing) ∙ run.together)
 
   -- what a user was answered
   abbrev IsAnswered : ℕ → UserRecord → Type 0
   IsAnswered number user = map command_with_answer (doings_of number all) ≡ user.done
 
-  each_answered : (P : ℕ → UserRecord → Type 0) → ((number : ℕ) (user : UserRecord) → IsAnswered number user → P number user) → EachUser P kept
+  each_answered : (P : ℕ → UserRecord → Type 0) → ((number : ℕ) (user : UserRecord) → IsAnswered number user → P number user) → EachUser P run_record
   each_answered P part =
-      each_user IsAnswered P kept part (each_done (λ number done. map command_with_answer (doings_of number all) ≡ done) 0 kept.users keeps.replies)
+      each_user IsAnswered P run_record part (each_done (λ number done. map command_with_answer (doings_of number all) ≡ done) 0 run_record.users keeps.replies)
 
-  is_legal : IsLegal serial script kept
+  is_legal : IsLegal serial script run_record
   is_legal =
-      legal_by serial script kept within lawful empty (record {
+      legal_by serial script run_record within lawful empty (record {
         users = keeps.users;
         commands = each_answered _ (λ number user is.
             ap (map (λ (done : Command × Answer). done.0)) (sym is) ∙ commands_done number all
             ∙ ap (λ commands. map (λ (own : ℕ × Command). own.1) (filter (λ own. own.0 == number) commands)) keeps.commands);
       }) (each_answered _ (λ number user is. (doings_of number all, (run.users number, is))))
 
-  is_serial : IsSerial script kept
+  is_serial : IsSerial script run_record
   is_serial = record {
     doings = all;
     commands = keeps.commands;
     together = run.together;
     each = each_answered _ (λ number user is.
-        subst (λ done. AreDoings serial (machine_of script) kept.history number done (doings_of number all)) is (run.users number).does);
+        subst (λ done. AreDoings serial (machine_of script) run_record.history number done (doings_of number all)) is (run.users number).does);
   }
 
 pub run_is_legal : RunIsLegal
-run_is_legal script kept all within lawful run keeps =
-    (is_legal script kept all within lawful run keeps, is_serial script kept all within lawful run keeps)
+run_is_legal script run_record all within lawful run keeps =
+    (is_legal script run_record all within lawful run keeps, is_serial script run_record all within lawful run keeps)
 
 pub no_user_is_legal : NoUserIsLegal
 no_user_is_legal kind script within none =
     let few = subst (λ users. AllByRecursion (IsOwnCommandWithin (length users) (length script.images)) script.commands) none within.commands in
-    let kept : Record = record { users = []; history = [] } in (
-      legal_by kind script kept within tt (λ none. refl) (record { users = sym none; commands = tt }) tt,
+    let run_record : Record = record { users = []; history = [] } in (
+      legal_by kind script run_record within tt (λ none. refl) (record { users = sym none; commands = tt }) tt,
       record {
         doings = [];
         commands = sym (no_commands (length script.images) script.commands few);

@@ -66,7 +66,7 @@ find-filter : {X : Type 0} (p q : X → Bool) (xs : List X) (x : X) → ((y : X)
 find-filter p q [] x passes e = e
 find-filter p q (y ∷ ys) x passes e =
     elim (cases_Bool (p y)) [
-      | inl is ↦ let kept = passes y is in let here : Some y ≡ Some x = rw (kept, is) at e in rw is here
+      | inl is ↦ let run_record = passes y is in let here : Some y ≡ Some x = rw (run_record, is) at e in rw is here
       | inr other ↦ rw other (find-filter p q ys x passes (skipped (q y) other e))
     ]
   where
@@ -109,10 +109,10 @@ message parts history user cube holds machine lawful goes number parcel more num
     let o = (opening (cube_in parts cube)).standing in
     let t = view history cube.number in
     let rename = block_outward cube.grant in
-    let kept : cube.mail ≡ map (renamed_item rename) (waiting_items o HOST t) =
+    let run_record : cube.mail ≡ map (renamed_item rename) (waiting_items o HOST t) =
     (was.kept goes).mail ∙ ap (λ t. map (renamed_item rename) (waiting_items o HOST t)) (sym (view-is history cube.number cube.grant was.behind was.found)) in
     let inner = parcel-renamed rename (find (is_numbered number) (waiting_items o HOST t)) parcel
-    (sym (find-renamed rename number (waiting_items o HOST t)) ∙ ap (find (is_numbered number)) (sym kept) ∙ found_parcel (find (is_numbered number) cube.mail) parcel numbered) in
+    (sym (find-renamed rename number (waiting_items o HOST t)) ∙ ap (find (is_numbered number)) (sym run_record) ∙ found_parcel (find (is_numbered number) cube.mail) parcel numbered) in
     let found : find (is_numbered number) (sent_items o HOST (t ++ more)) ≡ Some (mail inner.0) =
     ap (find (is_numbered number)) (sent-append o HOST t more)
     ∙ find-append_found (is_numbered number) (sent_items o HOST t) (flat_map (items_to HOST) more) (mail inner.0) (found_sent o number t inner.0 inner.1) in

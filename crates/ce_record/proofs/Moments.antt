@@ -8,7 +8,7 @@ use Rattle.std.proofs.lemmas.Grind.{flat_map-append}
 use Rattle.ce_model.specs.declared.entry.Entry.{Entry}
 use Rattle.ce_model.proofs.Walked.{one_further}
 use Rattle.ce_solo.proofs.Lists.{all-weaker}
-use Rattle.ce_script.specs.Moments.{Moment, later_moments, moments, user_moments, entries_of, own_entries}
+use Rattle.ce_script.specs.Moments.{Moment, later_moments, moments, user_moments, moment_entries, own_entries}
 use Rattle.ce_record.specs.Users.{own_moments}
 
 -- ---- lists
@@ -45,23 +45,23 @@ unfolding moments
 moments-append history made = behind-append [] history made
 
 -- the entries of moments are those of the history
-pub entries-behind : (before behind : List Entry) → entries_of (later_moments before behind) ≡ behind
+pub entries-behind : (before behind : List Entry) → moment_entries (later_moments before behind) ≡ behind
 entries-behind before [] = refl
 entries-behind before (entry ∷ behind) = ap (λ rest. entry ∷ rest) (entries-behind (before ++ entry ∷ []) behind)
 
 -- ---- a user's
 
-pub entries-amid : (user : ℕ) (before behind : List Entry) → entries_of (own_moments user before behind) ≡ own_entries user behind
+pub entries-amid : (user : ℕ) (before behind : List Entry) → moment_entries (own_moments user before behind) ≡ own_entries user behind
 entries-amid user before [] = refl
 entries-amid user before (entry ∷ behind) =
     one (entry.user == user) (record { before = before; entry = entry }) _ _ (entries-amid user (before ++ entry ∷ []) behind)
   where
-    one : (b : Bool) (moment : Moment) (rest : List Moment) (entries : List Entry) → entries_of rest ≡ entries
-        → entries_of (if b then moment ∷ rest else rest) ≡ (if b then moment.entry ∷ entries else entries)
+    one : (b : Bool) (moment : Moment) (rest : List Moment) (entries : List Entry) → moment_entries rest ≡ entries
+        → moment_entries (if b then moment ∷ rest else rest) ≡ (if b then moment.entry ∷ entries else entries)
     one true moment rest entries same = ap (λ entries. moment.entry ∷ entries) same
     one false moment rest entries same = same
 
-pub entries-own : (user : ℕ) (history : List Entry) → entries_of (user_moments user history) ≡ own_entries user history
+pub entries-own : (user : ℕ) (history : List Entry) → moment_entries (user_moments user history) ≡ own_entries user history
 unfolding moments
 entries-own user history = entries-amid user [] history
 

@@ -9,7 +9,7 @@ use Rattle.ce_model.specs.declared.entry.What.TheVariants as whats
 use Rattle.ce_model.specs.Limits.{greatest_dim, greatest_users, greatest_images}
 use Rattle.ce_model.specs.Subcubes.{extract, deposit, subcubes, first_free}
 use Rattle.ce_model.specs.Views.{view}
-use Rattle.ce_model.specs.Machine.{MachineParts, IsMachine, IsLawful, IsLawfulEntry, HeldCube, after, cube_held_by, Request, getcube, peek, drain, freecube}
+use Rattle.ce_model.specs.Machine.{MachineParts, IsMachine, IsLawful, IsLawfulEntry, HeldCube, after, cube_held_by, Request, getcube, peek, drain, freecube, new_cube}
 use Rattle.ce_model.proofs.Walked.{each_of_front}
 use Rattle.ce_host.specs.declared.command.Command.{Command}
 use Rattle.ce_host.specs.declared.command.Command.TheVariants.{Getcube, Peek, Freecube}
@@ -24,10 +24,9 @@ use Rattle.ce_script.specs.Legal.{machine_of, IsLegal}
 use Rattle.ce_script.specs.Serial.{IsSerial}
 use Rattle.ce_script.proofs.Rows.{entry_of, block, subcube}
 use Rattle.ce_script.proofs.RowNoFit.{grant, the_script, the_record}
-use Rattle.ce_record.specs.Asked.{IsAsked, request_of, reply_by}
-use Rattle.ce_record.specs.Held.{new_cube}
+use Rattle.ce_record.specs.Asked.{IsAsked, command_request, entry_reply}
 use Rattle.ce_record.specs.Run.{IsRunSoFar, doing_behind, IsNextCommand}
-use Rattle.ce_record.proofs.AtOnce.{freecube as freecube_next}
+use Rattle.ce_record.proofs.AtOnce.{freecube_next}
 use Rattle.ce_record.proofs.Asked.{asked}
 use Rattle.ce_record.proofs.Run.{run_begins, run_goes_on}
 use Rattle.ce_record.proofs.Legal.{run_is_legal}
@@ -111,7 +110,7 @@ all count = take count (
 
 -- a command that asks, where so many commands and so many entries were made
 goes_on : (done made user : ℕ) (command : Command) (request : Request) (what : What) (answer : Answer) → IsRunSoFar serial machine (at made) (all done)
-    → request_of (block 0 0) command ≡ Some request → IsAsked machine (at made) user request what → reply_by machine (after (at made)) what ≡ Some answer
+    → command_request (block 0 0) command ≡ Some request → IsAsked machine (at made) user request what → entry_reply machine (after (at made)) what ≡ Some answer
     → IsRunSoFar serial machine (at made ++ entry_of user HOST what ∷ [])
     (all done ++ (user, doing_behind (at made) command answer (entry_of user HOST what ∷ [])) ∷ [])
 goes_on done made user command request what answer run is asks replied =

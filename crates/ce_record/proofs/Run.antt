@@ -46,19 +46,19 @@ module _ (kind : RoundKind) (machine : MachineParts) (history : List Entry) (all
   doing = doing_behind history command answer made
 
   -- what is to be shown of each user
-  abbrev Goes : ℕ → List Doing → Type 0
-  Goes user doings = HasDoneSoFar kind machine user (history ++ made) doings
+  abbrev HasDoneAll : ℕ → List Doing → Type 0
+  HasDoneAll user doings = HasDoneSoFar kind machine user (history ++ made) doings
 
-  goes : (other : ℕ) → Goes other (doings_of other (all ++ (user, doing) ∷ []))
+  goes : (other : ℕ) → HasDoneAll other (doings_of other (all ++ (user, doing) ∷ []))
   goes other =
       elim (cases_eq user other) [
         | inl same ↦
-            subst (λ user'. Goes user' (doings_of user' (all ++ (user, doing) ∷ []))) same
-            (subst (Goes user) (sym (doings-own all user doing))
+            subst (λ user'. HasDoneAll user' (doings_of user' (all ++ (user, doing) ∷ []))) same
+            (subst (HasDoneAll user) (sym (doings-own all user doing))
             (goes-by kind machine user history (doings_of user all) of lawful (run.users user) made command answer (later_moments history made)
             (own-all user history made next.own) next.does next.refused))
         | inr differ ↦
-            subst (Goes other) (sym (doings-other all user doing other (ne_eqb user other differ)))
+            subst (HasDoneAll other) (sym (doings-other all user doing other (ne_eqb user other differ)))
             (user_waits kind machine other history made (doings_of other all) (foreign-to user other made differ next.own) (run.users other))
       ]
 

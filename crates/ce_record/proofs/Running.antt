@@ -12,11 +12,12 @@ use Rattle.ce_model.specs.Cube.{Cube, CubeState, opening}
 use Rattle.ce_model.specs.Renaming.{entry_inward}
 use Rattle.ce_model.specs.Views.{view}
 use Rattle.ce_model.specs.Machine.{MachineParts, IsMachine, IsLawful, HeldCube, after, cube_held_by}
+use Rattle.ce_model.specs.Literals.{of_host}
 use Rattle.ce_solo.proofs.Lists.{all-append, all-weaker}
 use Rattle.ce_host.specs.declared.command.Command.TheVariants.{Run, Recv}
 use Rattle.ce_host.specs.declared.answer.Answer.{Answer}
 use Rattle.ce_script.specs.Rounds.{RoundKind, IsRoundWithWork, IsRoundWithoutWork, joined_lists, AreTurnsOver}
-use Rattle.ce_script.specs.Commands.{by_host, IsRun, run_reply, RecvEnd, message_next, message_behind_rest, no_message, host_take, end_entries, end_rounds, recv_reply, IsRecv}
+use Rattle.ce_script.specs.Commands.{IsRun, run_reply, RecvEnd, message_next, message_behind_rest, no_message, host_take, end_entries, end_rounds, recv_reply, IsRecv}
 use Rattle.ce_record.specs.CubeRounds.{IsCallBy, IsRoundOf, IsRunOf, IsRecvOf}
 use Rattle.ce_record.specs.Run.{IsNextCommand}
 use Rattle.ce_record.specs.Held.{cube_in, AreTurnsOverIn}
@@ -68,10 +69,10 @@ module _ (kind : RoundKind) (parts : MachineParts) (history : List Entry) (user 
   over made calls turns = subst (AreTurnsOver own o) (trace-is made calls) turns
 
   -- the host's entries, as the cube knows them
-  arm_is : (count : ℕ) → inward (by_host user (Arm count)) ≡ by_host cube.grant.user (Arm count)
+  arm_is : (count : ℕ) → inward (of_host user (Arm count)) ≡ of_host cube.grant.user (Arm count)
   arm_is count = inward-is kind parts history user machine lawful cube holds (Arm count) (Arm count) refl
 
-  look_is : (found : LookResult) → inward (by_host user (Look found)) ≡ by_host cube.grant.user (Look found)
+  look_is : (found : LookResult) → inward (of_host user (Look found)) ≡ of_host cube.grant.user (Look found)
   look_is found = inward-is kind parts history user machine lawful cube holds (Look found) (Look found) refl
 
   take_is : (number : Option ℕ) → inward (host_take user number) ≡ host_take cube.grant.user number
@@ -84,19 +85,19 @@ module _ (kind : RoundKind) (parts : MachineParts) (history : List Entry) (user 
     run_calls =
         subst (AllByRecursion (IsCallBy user)) (sym is.entries) (
           (refl, refl),
-          all-append (IsCallBy user) (joined_lists is.rounds) (is.last ++ by_host user (Look found) ∷ [])
+          all-append (IsCallBy user) (joined_lists is.rounds) (is.last ++ of_host user (Look found) ∷ [])
               (calls_joined user is.rounds (round_calls is.rounds is.with_work))
-              (all-append (IsCallBy user) is.last (by_host user (Look found) ∷ []) is.without_work.calls ((refl, refl), tt)),
+              (all-append (IsCallBy user) is.last (of_host user (Look found) ∷ []) is.without_work.calls ((refl, refl), tt)),
         )
 
     run_entries : map inward made
-        ≡ by_host cube.grant.user (Arm count) ∷ (joined_lists (map (map inward) is.rounds) ++ (map inward is.last ++ by_host cube.grant.user (Look found) ∷ []))
+        ≡ of_host cube.grant.user (Arm count) ∷ (joined_lists (map (map inward) is.rounds) ++ (map inward is.last ++ of_host cube.grant.user (Look found) ∷ []))
     run_entries =
         ap (map inward) is.entries
         ∙ ap₂ (λ first more. first ∷ more) (arm_is count)
-        (map-append inward (joined_lists is.rounds) (is.last ++ by_host user (Look found) ∷ [])
+        (map-append inward (joined_lists is.rounds) (is.last ++ of_host user (Look found) ∷ [])
         ∙ ap₂ (λ a b. a ++ b) (joined-map inward is.rounds)
-        (map-append inward is.last (by_host user (Look found) ∷ []) ∙ ap (λ look. map inward is.last ++ look ∷ []) (look_is found)))
+        (map-append inward is.last (of_host user (Look found) ∷ []) ∙ ap (λ look. map inward is.last ++ look ∷ []) (look_is found)))
 
     run_done : run_reply found ≡ Some answer → IsRun kind own count answer (map inward made)
     run_done reply = record {
@@ -131,7 +132,7 @@ module _ (kind : RoundKind) (parts : MachineParts) (history : List Entry) (user 
       (map-append inward round (host_take user (Some number) ∷ []) ∙ ap (λ last. map inward round ++ last ∷ []) (take_is (Some number)))
   end-inward (no_message round found) =
       ap₂ (λ first more. first ∷ more) (take_is None)
-      (map-append inward round (host_take user None ∷ by_host user (Look found) ∷ [])
+      (map-append inward round (host_take user None ∷ of_host user (Look found) ∷ [])
       ∙ ap₂ (λ take look. map inward round ++ take ∷ look ∷ []) (take_is None) (look_is found))
 
   end_without : (end : RecvEnd) → AllByRecursion (IsRoundOf kind user cube.grant false) (end_rounds end)
@@ -152,7 +153,7 @@ module _ (kind : RoundKind) (parts : MachineParts) (history : List Entry) (user 
   end_calls (message_behind_rest round number) all =
       ((refl, refl), all-append (IsCallBy user) round (host_take user (Some number) ∷ []) all.0.calls ((refl, refl), tt))
   end_calls (no_message round found) all =
-      ((refl, refl), all-append (IsCallBy user) round (host_take user None ∷ by_host user (Look found) ∷ []) all.0.calls ((refl, refl), ((refl, refl), tt)))
+      ((refl, refl), all-append (IsCallBy user) round (host_take user None ∷ of_host user (Look found) ∷ []) all.0.calls ((refl, refl), ((refl, refl), tt)))
 
   -- the looks for a message, each with the round behind it
   abbrev looks : ℕ → List (List Entry) → List Entry

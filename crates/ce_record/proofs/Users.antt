@@ -7,9 +7,9 @@ use Rattle.ce_host.specs.declared.command.Command.{Command}
 use Rattle.ce_host.specs.declared.command.Command.TheVariants.{Getcube, Peek}
 use Rattle.ce_host.specs.declared.answer.Answer.{Answer}
 use Rattle.ce_script.specs.Rounds.{RoundKind}
-use Rattle.ce_script.specs.Moments.{Moment, Holding, later_moments, user_moments, entries_of}
+use Rattle.ce_script.specs.Moments.{Moment, Holding, later_moments, user_moments, moment_entries}
 use Rattle.ce_script.specs.Commands.{IsWithCube, IsCommand}
-use Rattle.ce_script.specs.Doings.{Doing, held_after, IsDone, IsRefusedIfGetcube}
+use Rattle.ce_script.specs.Doings.{Doing, holding_behind, IsDone, IsRefusedIfGetcube}
 use Rattle.ce_record.specs.Asked.{wants_cube}
 use Rattle.ce_record.specs.Held.{held_now}
 use Rattle.ce_record.specs.Run.{IsRefusedWhere}
@@ -38,7 +38,7 @@ user_waits kind machine user history others doings foreign so_far = record {
 
 -- what a command for who holds a cube does is told by its entries alone
 by-entries : (kind : RoundKind) (machine : MachineParts) (user : ℕ) (held : Option Holding) (command : Command) (answer : Answer) (moments moments' : List Moment)
-    → IsTrue (wants_cube command) → entries_of moments ≡ entries_of moments' → IsCommand kind machine user held command answer moments
+    → IsTrue (wants_cube command) → moment_entries moments ≡ moment_entries moments' → IsCommand kind machine user held command answer moments
     → IsCommand kind machine user held command answer moments'
 by-entries kind machine user held (Getcube dim) answer moments moments' wants same is = absurd (cc)
 by-entries kind machine user held Peek answer moments moments' wants same is = absurd (cc)
@@ -52,7 +52,7 @@ no-getcube machine held other answer moments wants = tt
 
 module _ (kind : RoundKind) (machine : MachineParts) (user : ℕ) (history : List Entry) (doings : List Doing) (of : IsMachine machine)
     (lawful : IsLawful machine history) (so_far : HasDoneSoFar kind machine user history doings) where
-  held : held_after doings ≡ held_now history user
+  held : holding_behind doings ≡ held_now history user
   held = held_after_is_held machine history user doings of lawful so_far.does.entries
 
   pub goes-by : (between : List Entry) (command : Command) (answer : Answer) (moments : List Moment) → own_moments user history between ≡ moments

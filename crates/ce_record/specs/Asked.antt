@@ -24,30 +24,30 @@ wants_cube Peek = false
 wants_cube other = true
 
 -- the place that a command names
-abbrev pub place_in : Command → Option Place
-place_in (Spawn image to) = Some to
-place_in (Kill to) = Some to
-place_in (Send to bytes) = Some to
-place_in (Dump at) = Some at
-place_in other = None
+abbrev pub command_place : Command → Option Place
+command_place (Spawn image to) = Some to
+command_place (Kill to) = Some to
+command_place (Send to bytes) = Some to
+command_place (Dump at) = Some at
+command_place other = None
 
 -- what a command asks of the machine that makes one entry; a message goes in the block of this name
-abbrev pub request_of : BlockId → Command → Option Request
-request_of id (Getcube dim) = Some (getcube dim)
-request_of id Peek = Some peek
-request_of id (Spawn image to) = Some (in_cube (spawn_call 0 image to))
-request_of id (Kill to) = Some (in_cube (kill_call 0 to))
-request_of id (Send to bytes) = Some (in_cube (send_call 0 ((to, id) ∷ []) bytes))
-request_of id other = None
+abbrev pub command_request : BlockId → Command → Option Request
+command_request id (Getcube dim) = Some (getcube dim)
+command_request id Peek = Some peek
+command_request id (Spawn image to) = Some (in_cube (spawn_call 0 image to))
+command_request id (Kill to) = Some (in_cube (kill_call 0 to))
+command_request id (Send to bytes) = Some (in_cube (send_call 0 ((to, id) ∷ []) bytes))
+command_request id other = None
 
 -- what a command is answered by its one entry, in the state before it
-abbrev pub reply_by : MachineParts → MachineState → What → Option Answer
-reply_by parts state (whats.Getcube dim sub) = Some (getcube_reply sub)
-reply_by parts state whats.Peek = Some (answers.Peeked (peek_result parts state))
-reply_by parts state (whats.Spawn pid image to fresh) = Some (if fresh then answers.Ok else answers.Used)
-reply_by parts state (whats.Kill pid to found) = Some (kill_reply found)
-reply_by parts state (whats.Send pid first to bytes) = Some answers.Ok
-reply_by parts state other = None
+abbrev pub entry_reply : MachineParts → MachineState → What → Option Answer
+entry_reply parts state (whats.Getcube dim sub) = Some (getcube_reply sub)
+entry_reply parts state whats.Peek = Some (answers.Peeked (peek_result parts state))
+entry_reply parts state (whats.Spawn pid image to fresh) = Some (if fresh then answers.Ok else answers.Used)
+entry_reply parts state (whats.Kill pid to found) = Some (kill_reply found)
+entry_reply parts state (whats.Send pid first to bytes) = Some answers.Ok
+entry_reply parts state other = None
 
 -- what a command is answered by what its host hears
 abbrev pub heard_reply : Hearing → Option Answer

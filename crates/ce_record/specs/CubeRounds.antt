@@ -6,8 +6,9 @@ use Rattle.ce_model.specs.declared.entry.What.TheVariants.{Arm, Look}
 use Rattle.ce_model.specs.declared.entry.LookResult.{LookResult}
 use Rattle.ce_model.specs.Answers.{recorded_call}
 use Rattle.ce_model.specs.Renaming.{CubeGrant, entry_inward}
+use Rattle.ce_model.specs.Literals.{of_host}
 use Rattle.ce_script.specs.Rounds.{RoundKind, IsRound, has_work, joined_lists}
-use Rattle.ce_script.specs.Commands.{by_host, RecvEnd, host_take, end_entries, end_rounds}
+use Rattle.ce_script.specs.Commands.{RecvEnd, host_take, end_entries, end_rounds}
 
 -- the entry is a call of this user's cube
 abbrev pub IsCallBy : ℕ → Entry → Type 0
@@ -25,11 +26,11 @@ pub record IsRunOf (kind : RoundKind) (user : ℕ) (grant : CubeGrant) (count : 
   pub last : List Entry
   pub with_work : AllByRecursion (IsRoundOf kind user grant true) rounds
   pub without_work : IsRoundOf kind user grant false last
-  pub entries : made ≡ by_host user (Arm count) ∷ (joined_lists rounds ++ (last ++ by_host user (Look found) ∷ []))
+  pub entries : made ≡ of_host user (Arm count) ∷ (joined_lists rounds ++ (last ++ of_host user (Look found) ∷ []))
 
 -- `recv` in a user's cube: dispatches are allowed, then the host looks for a message, with a round between each two looks, up to this end
 pub record IsRecvOf (kind : RoundKind) (user : ℕ) (grant : CubeGrant) (count : ℕ) (end : RecvEnd) (made : List Entry) : Type 0 where
   pub rounds : List (List Entry)
   pub with_work : AllByRecursion (IsRoundOf kind user grant true) rounds
   pub without_work : AllByRecursion (IsRoundOf kind user grant false) (end_rounds end)
-  pub entries : made ≡ by_host user (Arm count) ∷ (flat_map (λ round. host_take user None ∷ round) rounds ++ end_entries user end)
+  pub entries : made ≡ of_host user (Arm count) ∷ (flat_map (λ round. host_take user None ∷ round) rounds ++ end_entries user end)

@@ -1,7 +1,6 @@
 -- What a user holds behind a history, as the machine's state says it, and where the turns of its nodes are over.
-use Rattle.std.specs.Prelude.{ℕ, false, List, [], Option, option_map}
+use Rattle.std.specs.Prelude.{ℕ, List, Option, option_map}
 use Rattle.ce_model.specs.declared.entry.Entry.{Entry}
-use Rattle.ce_model.specs.Renaming.{CubeGrant}
 use Rattle.ce_model.specs.Views.{view}
 use Rattle.ce_model.specs.Cube.{Cube, opening}
 use Rattle.ce_model.specs.Machine.{MachineParts, HeldCube, after, cube_held_by, cube_of}
@@ -15,10 +14,6 @@ holding_of history cube = record { grant = cube.grant; trace = view history cube
 -- the cube that a user holds behind a history
 abbrev pub held_now : List Entry → ℕ → Option Holding
 held_now history user = option_map (holding_of history) (cube_held_by (after history) user)
-
--- a cube that was just granted
-abbrev pub new_cube : ℕ → CubeGrant → HeldCube
-new_cube number grant = record { number = number; grant = grant; is_drained = false; allowed_dispatches = 0; made_dispatches = 0; parcel_count = 0; mail = [] }
 
 -- the cube that is held
 abbrev pub cube_in : MachineParts → HeldCube → Cube

@@ -15,7 +15,8 @@ use Rattle.ce_model.specs.Trace.{sent_items}
 use Rattle.ce_model.specs.Cube.{opening, hoststore, parcel_numbered, rest}
 use Rattle.ce_model.specs.Renaming.{entry_inward}
 use Rattle.ce_model.specs.Views.{view}
-use Rattle.ce_model.specs.Machine.{MachineParts, IsMachine, IsLawful, HeldCube, MachineState, after, cube_held_by, Request, getcube}
+use Rattle.ce_model.specs.Machine.{MachineParts, IsMachine, IsLawful, HeldCube, MachineState, after, cube_held_by, Request, getcube, new_cube}
+use Rattle.ce_model.specs.Literals.{of_host}
 use Rattle.rk_mail.specs.declared.talk.Hearing.{Hearing}
 use Rattle.rk_mail.specs.Talk.{IsHeardIn}
 use Rattle.ce_host.specs.declared.command.Command.{Command}
@@ -26,14 +27,14 @@ use Rattle.ce_script.specs.declared.record.Record.{Record}
 use Rattle.ce_script.specs.declared.script.Script.{Script}
 use Rattle.ce_script.specs.Bounds.{IsWithinLimits}
 use Rattle.ce_script.specs.Rounds.{RoundKind, serial}
-use Rattle.ce_script.specs.Moments.{user_moments, entries_of, holding, own_entries}
-use Rattle.ce_script.specs.Commands.{by_host, run_reply, RecvEnd, message_reply, recv_reply}
-use Rattle.ce_script.specs.Doings.{Doing, held_after}
+use Rattle.ce_script.specs.Moments.{user_moments, moment_entries, holding, own_entries}
+use Rattle.ce_script.specs.Commands.{run_reply, RecvEnd, message_reply, recv_reply}
+use Rattle.ce_script.specs.Doings.{Doing, holding_behind}
 use Rattle.ce_script.specs.Legal.{IsLegal, IsRecordOfScript, EachUser, machine_of}
 use Rattle.ce_script.specs.Serial.{IsSerial}
-use Rattle.ce_record.specs.Asked.{wants_cube, place_in, request_of, reply_by, heard_reply, IsAsked}
+use Rattle.ce_record.specs.Asked.{wants_cube, command_place, command_request, entry_reply, heard_reply, IsAsked}
 use Rattle.ce_record.specs.CubeRounds.{IsCallBy, IsRunOf, IsRecvOf}
-use Rattle.ce_record.specs.Held.{held_now, new_cube, cube_in, AreTurnsOverIn}
+use Rattle.ce_record.specs.Held.{held_now, cube_in, AreTurnsOverIn}
 use Rattle.ce_record.specs.Run.{IsRunSoFar, doing_behind, IsNextCommand, AreReplies, IsRecordOfRun}
 use Rattle.ce_record.specs.Users.{HasDoneSoFar, command_with_answer, doing_amid}
 
@@ -42,12 +43,12 @@ use Rattle.ce_record.specs.Users.{HasDoneSoFar, command_with_answer, doing_amid}
 -- what a user holds by its own entries is what the machine says
 abbrev pub HoldingsAreTheMachines : Type 0
 HoldingsAreTheMachines = (parts : MachineParts) (history : List Entry) (user : ℕ) → IsMachine parts → IsLawful parts history
-    → holding (entries_of (user_moments user history)) ≡ held_now history user
+    → holding (moment_entries (user_moments user history)) ≡ held_now history user
 
 -- so it is by what the user did, where that has its entries
 abbrev pub HoldingsFollowDoings : Type 0
 HoldingsFollowDoings = (parts : MachineParts) (history : List Entry) (user : ℕ) (doings : List Doing) → IsMachine parts → IsLawful parts history
-    → flat_map (λ doing. doing.moments) doings ≡ user_moments user history → held_after doings ≡ held_now history user
+    → flat_map (λ doing. doing.moments) doings ≡ user_moments user history → holding_behind doings ≡ held_now history user
 
 -- ---- the run
 
@@ -100,16 +101,16 @@ ScriptHasMachine = (script : Script) → IsWithinLimits script → 0 < length sc
 
 -- the record of a run of all the script's commands is legal and serial
 abbrev pub RunIsLegal : Type 0
-RunIsLegal = (script : Script) (kept : Record) (all : List (ℕ × Doing)) → IsWithinLimits script → IsLawful (machine_of script) kept.history
-    → IsRunSoFar serial (machine_of script) kept.history all → IsRecordOfRun script all kept → IsLegal serial script kept × IsSerial script kept
+RunIsLegal = (script : Script) (run_record : Record) (all : List (ℕ × Doing)) → IsWithinLimits script → IsLawful (machine_of script) run_record.history
+    → IsRunSoFar serial (machine_of script) run_record.history all → IsRecordOfRun script all run_record → IsLegal serial script run_record × IsSerial script run_record
 
 -- The record of a script with a user is legal, where its history is lawful, it has all the script's commands, and each user did them in
 -- this history, with rounds of this kind, and was answered so.
 abbrev pub UsersAreLegal : Type 0
-UsersAreLegal = (kind : RoundKind) (script : Script) (kept : Record) → IsWithinLimits script → 0 < length script.users
-    → IsLawful (machine_of script) kept.history → IsRecordOfScript script kept
-    → EachUser (λ number user. (doings : List Doing) × HasDoneSoFar kind (machine_of script) number kept.history doings × (map command_with_answer doings ≡ user.done)) kept
-    → IsLegal kind script kept
+UsersAreLegal = (kind : RoundKind) (script : Script) (run_record : Record) → IsWithinLimits script → 0 < length script.users
+    → IsLawful (machine_of script) run_record.history → IsRecordOfScript script run_record
+    → EachUser (λ number user. (doings : List Doing) × HasDoneSoFar kind (machine_of script) number run_record.history doings × (map command_with_answer doings ≡ user.done)) run_record
+    → IsLegal kind script run_record
 
 -- the empty record of a script without users is legal and serial
 abbrev pub NoUserIsLegal : Type 0
@@ -134,7 +135,7 @@ RefusalOfHolderIsNext = (kind : RoundKind) → OfHolder (λ parts history user c
 
 -- a command to what is no place of the cube is told so
 abbrev pub NoPlaceIsNext : Type 0
-NoPlaceIsNext = (kind : RoundKind) → OfHolder (λ parts history user cube. (command : Command) (to : Place) → place_in command ≡ Some to → is_place cube.grant.dim to ≡ false
+NoPlaceIsNext = (kind : RoundKind) → OfHolder (λ parts history user cube. (command : Command) (to : Place) → command_place command ≡ Some to → is_place cube.grant.dim to ≡ false
     → IsNextCommand kind parts history user command NoPlace [])
 
 -- nothing is sent where the host's store is empty
@@ -153,7 +154,7 @@ TraceIsNext = (kind : RoundKind) → OfHolder (λ parts history user cube. IsNex
 
 -- the entries of a freecube: the cube is drained, and then given back
 abbrev pub freecube_entries : ℕ → List Entry
-freecube_entries user = by_host user whats.Drain ∷ by_host user whats.Freecube ∷ []
+freecube_entries user = of_host user whats.Drain ∷ of_host user whats.Freecube ∷ []
 
 -- who holds a cube has its freecube answered freed, with these entries
 abbrev pub FreecubeIsNext : Type 0
@@ -162,13 +163,13 @@ FreecubeIsNext = (kind : RoundKind) → OfHolder (λ parts history user cube. Is
 -- what the machine's entry answers to what a command asks for
 abbrev pub RequestsAreNext : Type 0
 RequestsAreNext = (kind : RoundKind) (parts : MachineParts) (history : List Entry) (user : ℕ) (command : Command) (id : BlockId) (request : Request) (what : What)
-    (answer : Answer) → IsMachine parts → IsLawful parts history → request_of id command ≡ Some request → IsAsked parts history user request what
-    → reply_by parts (after history) what ≡ Some answer → IsNextCommand kind parts history user command answer (by_host user what ∷ [])
+    (answer : Answer) → IsMachine parts → IsLawful parts history → command_request id command ≡ Some request → IsAsked parts history user request what
+    → entry_reply parts (after history) what ≡ Some answer → IsNextCommand kind parts history user command answer (of_host user what ∷ [])
 
 -- a send, a spawn or a kill is answered by what its host hears
 abbrev pub HearingsAreReplies : Type 0
 HearingsAreReplies = (parts : MachineParts) (state : MachineState) (items : List Item) (what : What) (heard : Hearing) → IsHeardIn items what heard
-    → reply_by parts state what ≡ heard_reply heard
+    → entry_reply parts state what ≡ heard_reply heard
 
 -- ---- between commands
 
@@ -182,9 +183,9 @@ OthersStay = (parts : MachineParts) (history : List Entry) (user : ℕ) (others 
 abbrev pub CubeBegins : Type 0
 CubeBegins = (parts : MachineParts) (history : List Entry) (user dim : ℕ) (sub : Subcube) → IsMachine parts → IsLawful parts history
     → IsAsked parts history user (getcube dim) (whats.Getcube dim (Some sub))
-    → (cube_held_by (after (history ++ by_host user (whats.Getcube dim (Some sub)) ∷ [])) user
+    → (cube_held_by (after (history ++ of_host user (whats.Getcube dim (Some sub)) ∷ [])) user
     ≡ Some (new_cube (after history).grant_count (record { user = user; dim = dim; sub = sub })))
-    × (view (history ++ by_host user (whats.Getcube dim (Some sub)) ∷ []) (after history).grant_count ≡ [])
+    × (view (history ++ of_host user (whats.Getcube dim (Some sub)) ∷ []) (after history).grant_count ≡ [])
 
 -- ---- rounds
 

@@ -48,7 +48,7 @@ abbrev pub AreReplies : List (ℕ × Doing) → List (List (Command × Answer)) 
 AreReplies all dones = AllByRecursion (λ numbered. map command_with_answer (doings_of numbered.0 all) ≡ numbered.1) (enumerate_from 0 dones)
 
 -- The record has the users of the script, each with what it did and was answered of all this, which is the script's commands.
-pub record IsRecordOfRun (script : Script) (all : List (ℕ × Doing)) (kept : Record) : Type 0 where
+pub record IsRecordOfRun (script : Script) (all : List (ℕ × Doing)) (run_record : Record) : Type 0 where
   pub commands : map (λ own. (own.0, own.1.command)) all ≡ script.commands
-  pub users : map (λ user. user.name) kept.users ≡ script.users
-  pub replies : AreReplies all (map (λ user. user.done) kept.users)
+  pub users : map (λ user. user.name) run_record.users ≡ script.users
+  pub replies : AreReplies all (map (λ user. user.done) run_record.users)

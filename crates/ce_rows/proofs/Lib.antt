@@ -1,8 +1,8 @@
-pub mod Stepping
 pub mod FirstCubes
-pub mod NextOwner
-pub mod Replies
 pub mod Hearings
-pub mod WaitingMail
-pub mod Rows
+pub mod NextEntry
+pub mod NextOwner
 pub mod Opening
+pub mod Replies
+pub mod Rows
+pub mod WaitingMail

@@ -1,7 +1,8 @@
 -- The machine of a row, and the boxes that its first cube gets and gives back.
 use Rattle.std.proofs.Common.{◌≡◌, ℕ, List, [], ◌∷◌, take, refl, sym, ◌∙◌, subst}
 use Rattle.std.specs.Global.{Vec}
-use Rattle.rv_model.specs.Image.{ImageParts, image_parts, image_start}
+use Rattle.rv_model.specs.declared.limits.TheConstants.{PRIVATE_START}
+use Rattle.rv_model.specs.Image.{ImageParts, image_parts}
 use Rattle.ce_model.specs.declared.entry.Entry.{Entry}
 use Rattle.ce_model.specs.Limits.{greatest_dim}
 use Rattle.ce_model.specs.Subcubes.{extract, relative_number, deposit, node_of}
@@ -16,7 +17,7 @@ use Rattle.ce_rows.specs.declared.worked.WorkedRow.TheVariants.{FirstCube, Great
 use Rattle.ce_rows.specs.RowEntries.{history_of, IsNextReply}
 use Rattle.ce_rows.specs.Rows.{row_of, program, next_owner, node_0}
 
-images-are : (row : WorkedRow) → (row_of row).parts.images ≡ image_parts image_start program 0 ∷ []
+images-are : (row : WorkedRow) → (row_of row).parts.images ≡ image_parts PRIVATE_START program 0 ∷ []
 images-are FirstCube = refl
 images-are GreatestCube = refl
 images-are NextOwner = refl
@@ -25,7 +26,7 @@ images-are Hearings = refl
 images-are WaitingMail = refl
 
 pub parts-are : (row : WorkedRow) (dim users : ℕ) (images : List ImageParts) → dim ≡ (row_of row).parts.dim → users ≡ (row_of row).parts.users
-    → images ≡ image_parts image_start program 0 ∷ [] → record { dim = dim; users = users; images = images } ≡ (row_of row).parts
+    → images ≡ image_parts PRIVATE_START program 0 ∷ [] → record { dim = dim; users = users; images = images } ≡ (row_of row).parts
 parts-are row dim users images dim_is users_is images_is =
     let same : images ≡ (row_of row).parts.images = images_is ∙ sym (images-are row) in
     λ i. record { dim = dim_is i; users = users_is i; images = same i }

@@ -1,6 +1,7 @@
 -- The worked rows.
 use Rattle.std.specs.Prelude.{ℕ, List, [], ◌∷◌, Some, None, true, false}
-use Rattle.rv_model.specs.Image.{ImageParts, image_parts, image_start}
+use Rattle.rv_model.specs.declared.limits.TheConstants.{PRIVATE_START}
+use Rattle.rv_model.specs.Image.{ImageParts, image_parts}
 use Rattle.ce_model.specs.declared.topology.Place.{Place}
 use Rattle.ce_model.specs.declared.topology.Subcube.{Subcube}
 use Rattle.ce_model.specs.declared.entry.What.{What}
@@ -22,8 +23,8 @@ use Rattle.ce_rows.specs.RowEntries.{RowEntry, Row, IsNextCall, IsWithoutBoxes}
 -- ---- words of the rows
 
 -- an entry of a user's host, and of a node that a user holds
-abbrev pub by_host : ℕ → Request → What → RowEntry
-by_host user request what = record { request = request; entry = of_host user what }
+abbrev pub host_row : ℕ → Request → What → RowEntry
+host_row user request what = record { request = request; entry = of_host user what }
 
 abbrev pub by_node : ℕ → ℕ → model.Call → What → RowEntry
 by_node user node call what = record { request = in_cube call; entry = entry_of user node what }
@@ -53,79 +54,79 @@ program =
     ∷ 115 ∷ 0 ∷ 0 ∷ 0 ∷ []
 
 abbrev pub image : ImageParts
-image = image_parts image_start program 0
+image = image_parts PRIVATE_START program 0
 
 -- ---- the rows
 
 abbrev pub first_cube : List RowEntry
 first_cube =
-    by_host 1 (getcube 1) (Getcube 1 (Some (subcube 1 0)))
-    ∷ by_host 0 peek Peek
+    host_row 1 (getcube 1) (Getcube 1 (Some (subcube 1 0)))
+    ∷ host_row 0 peek Peek
     ∷ []
 
 abbrev pub greatest_cube : List RowEntry
-greatest_cube = by_host 7 (getcube 6) (Getcube 6 (Some (subcube 63 0))) ∷ []
+greatest_cube = host_row 7 (getcube 6) (Getcube 6 (Some (subcube 63 0))) ∷ []
 
 abbrev pub next_owner : List RowEntry
 next_owner =
-    by_host 0 (getcube 0) (Getcube 0 (Some node_0))
-    ∷ by_host 0 (in_cube (send_call 0 ((place_0, block 256 0) ∷ []) first_bytes)) (Send 0 0 ((place_0, block 256 0) ∷ []) first_bytes)
-    ∷ by_host 0 drain Drain
-    ∷ by_host 0 freecube Freecube
-    ∷ by_host 1 (getcube 0) (Getcube 0 (Some node_0))
+    host_row 0 (getcube 0) (Getcube 0 (Some node_0))
+    ∷ host_row 0 (in_cube (send_call 0 ((place_0, block 256 0) ∷ []) first_bytes)) (Send 0 0 ((place_0, block 256 0) ∷ []) first_bytes)
+    ∷ host_row 0 drain Drain
+    ∷ host_row 0 freecube Freecube
+    ∷ host_row 1 (getcube 0) (Getcube 0 (Some node_0))
     ∷ by_node 1 0 (take_call 0 0 None) (Take 0 0 None take_result.Idle)
     ∷ []
 
 abbrev pub replies : List RowEntry
 replies =
-    by_host 1 peek Peek
-    ∷ by_host 0 (getcube 0) (Getcube 0 (Some node_0))
-    ∷ by_host 1 (getcube 0) (Getcube 0 None)
-    ∷ by_host 0 (in_cube look_call) (Look look_result.Quiet)
-    ∷ by_host 0 (in_cube (kill_call 0 place_0)) (Kill 0 place_0 Unused)
-    ∷ by_host 0 (in_cube (spawn_call 0 0 place_0)) (Spawn 0 0 place_0 true)
-    ∷ by_host 0 (in_cube (spawn_call 0 0 place_0)) (Spawn 0 0 place_0 false)
-    ∷ by_host 0 (in_cube look_call) (Look look_result.Spent)
+    host_row 1 peek Peek
+    ∷ host_row 0 (getcube 0) (Getcube 0 (Some node_0))
+    ∷ host_row 1 (getcube 0) (Getcube 0 None)
+    ∷ host_row 0 (in_cube look_call) (Look look_result.Quiet)
+    ∷ host_row 0 (in_cube (kill_call 0 place_0)) (Kill 0 place_0 Unused)
+    ∷ host_row 0 (in_cube (spawn_call 0 0 place_0)) (Spawn 0 0 place_0 true)
+    ∷ host_row 0 (in_cube (spawn_call 0 0 place_0)) (Spawn 0 0 place_0 false)
+    ∷ host_row 0 (in_cube look_call) (Look look_result.Spent)
     ∷ by_node 0 0 (take_call 0 0 None) (Take 0 0 None take_result.Spent)
-    ∷ by_host 0 (in_cube (arm_call 3)) (Arm 3)
-    ∷ by_host 0 (in_cube look_call) (Look look_result.Busy)
-    ∷ by_host 0 (in_cube (kill_call 0 place_0)) (Kill 0 place_0 Killed)
-    ∷ by_host 0 (in_cube (kill_call 0 place_0)) (Kill 0 place_0 Already)
-    ∷ by_host 0 (in_cube (send_call 0 ((place_0, block 256 0) ∷ []) first_bytes)) (Send 0 0 ((place_0, block 256 0) ∷ []) first_bytes)
-    ∷ by_host 0 (in_cube mail_call) (HostTake None)
+    ∷ host_row 0 (in_cube (arm_call 3)) (Arm 3)
+    ∷ host_row 0 (in_cube look_call) (Look look_result.Busy)
+    ∷ host_row 0 (in_cube (kill_call 0 place_0)) (Kill 0 place_0 Killed)
+    ∷ host_row 0 (in_cube (kill_call 0 place_0)) (Kill 0 place_0 Already)
+    ∷ host_row 0 (in_cube (send_call 0 ((place_0, block 256 0) ∷ []) first_bytes)) (Send 0 0 ((place_0, block 256 0) ∷ []) first_bytes)
+    ∷ host_row 0 (in_cube mail_call) (HostTake None)
     ∷ by_node 0 0 (take_call 0 0 None) (Take 0 0 None (take_result.Start 0 0))
-    ∷ by_host 0 drain Drain
+    ∷ host_row 0 drain Drain
     ∷ []
 
 abbrev pub hearings : List RowEntry
 hearings =
-    by_host 0 (getcube 0) (Getcube 0 (Some node_0))
-    ∷ by_host 0 (in_cube (spawn_call 0 0 place_0)) (Spawn 0 0 place_0 true)
-    ∷ by_host 0 (in_cube (arm_call 10)) (Arm 10)
+    host_row 0 (getcube 0) (Getcube 0 (Some node_0))
+    ∷ host_row 0 (in_cube (spawn_call 0 0 place_0)) (Spawn 0 0 place_0 true)
+    ∷ host_row 0 (in_cube (arm_call 10)) (Arm 10)
     ∷ by_node 0 0 (take_call 0 0 None) (Take 0 0 None (take_result.Start 0 0))
     ∷ by_node 0 0 (note_call 0 42) (Note 0 42)
     ∷ by_node 0 0 (send_call 0 ((host_place, block 0 0) ∷ []) (0 ∷ [])) (Send 0 0 ((host_place, block 0 0) ∷ []) (0 ∷ []))
     ∷ by_node 0 0 (take_call 1 0 (Some 0)) (Take 1 0 (Some 0) (take_result.Poll 0))
-    ∷ by_host 0 (in_cube (send_call 0 ((place_0, block 256 0) ∷ []) first_bytes)) (Send 0 1 ((place_0, block 256 0) ∷ []) first_bytes)
+    ∷ host_row 0 (in_cube (send_call 0 ((place_0, block 256 0) ∷ []) first_bytes)) (Send 0 1 ((place_0, block 256 0) ∷ []) first_bytes)
     ∷ by_node 0 0 (take_call 1 0 (Some 0)) (Take 1 0 (Some 0) (take_result.Mail 0 1))
-    ∷ by_host 0 (in_cube mail_call) (HostTake (Some 0))
-    ∷ by_host 0 (in_cube (kill_call 0 place_0)) (Kill 0 place_0 Killed)
+    ∷ host_row 0 (in_cube mail_call) (HostTake (Some 0))
+    ∷ host_row 0 (in_cube (kill_call 0 place_0)) (Kill 0 place_0 Killed)
     ∷ by_node 0 0 (take_call 1 0 (Some 0)) (Take 1 0 (Some 0) (take_result.Kill 0))
     ∷ by_node 0 0 (take_call 0 1 None) (Take 0 1 None take_result.Idle)
     ∷ []
 
 abbrev pub waiting_mail : List RowEntry
 waiting_mail =
-    by_host 0 (getcube 2) (Getcube 2 (Some (subcube 3 0)))
-    ∷ by_host 0 (in_cube (spawn_call 0 0 (place 1 0))) (Spawn 0 0 (place 1 0) true)
-    ∷ by_host 0 (in_cube (arm_call 10)) (Arm 10)
+    host_row 0 (getcube 2) (Getcube 2 (Some (subcube 3 0)))
+    ∷ host_row 0 (in_cube (spawn_call 0 0 (place 1 0))) (Spawn 0 0 (place 1 0) true)
+    ∷ host_row 0 (in_cube (arm_call 10)) (Arm 10)
     ∷ by_node 0 1 (take_call 0 0 None) (Take 0 0 None (take_result.Start 0 0))
     ∷ by_node 0 1 (note_call 0 42) (Note 0 42)
     ∷ by_node 0 1 (send_call 0 ((host_place, block 1 0) ∷ []) (0 ∷ [])) (Send 0 0 ((host_place, block 1 0) ∷ []) (0 ∷ []))
-    ∷ by_host 0 (in_cube (send_call 0 ((place 2 0, block 256 0) ∷ []) first_bytes)) (Send 0 1 ((place 2 0, block 256 0) ∷ []) first_bytes)
-    ∷ by_host 0 (in_cube (send_call 0 ((place 0 0, block 256 1) ∷ []) first_bytes)) (Send 0 2 ((place 0 0, block 256 1) ∷ []) first_bytes)
-    ∷ by_host 0 (in_cube (send_call 0 ((place 3 1, block 256 2) ∷ []) first_bytes)) (Send 0 3 ((place 3 1, block 256 2) ∷ []) first_bytes)
-    ∷ by_host 0 drain Drain
+    ∷ host_row 0 (in_cube (send_call 0 ((place 2 0, block 256 0) ∷ []) first_bytes)) (Send 0 1 ((place 2 0, block 256 0) ∷ []) first_bytes)
+    ∷ host_row 0 (in_cube (send_call 0 ((place 0 0, block 256 1) ∷ []) first_bytes)) (Send 0 2 ((place 0 0, block 256 1) ∷ []) first_bytes)
+    ∷ host_row 0 (in_cube (send_call 0 ((place 3 1, block 256 2) ∷ []) first_bytes)) (Send 0 3 ((place 3 1, block 256 2) ∷ []) first_bytes)
+    ∷ host_row 0 drain Drain
     ∷ []
 
 -- the row of a name

@@ -1,10 +1,10 @@
-//! WorkedRow rows of the machine, driven by hand: each call is shown to fit behind those before it.
+//! Worked rows of the machine, driven by hand: each call is shown to fit behind those before it.
 #![tactic(auto)]
 
-mod asked;
+mod request;
 mod worked;
 
-pub use asked::ask;
+pub use request::ask;
 pub use worked::WorkedRow;
 
 #[cfg(test)]

@@ -15,30 +15,34 @@ use Rattle.ce_model.specs.Cube.{opening, parcel_numbered}
 use Rattle.ce_model.specs.Renaming.{CubeGrant, entry_inward}
 use Rattle.ce_model.specs.Views.{view}
 use Rattle.ce_model.specs.Machine.{MachineParts, HeldCube, cube_of}
+use Rattle.ce_model.specs.Literals.{of_host}
 use Rattle.ce_solo.proofs.Lists.{all-append}
 use Rattle.ce_daemon.specs.declared.grant.Grant.{Grant}
 use Rattle.ce_machine.specs.Meanings.{MachineFacts}
 use Rattle.ce_cube.specs.declared.crew.SerialCrew.{SerialCrew}
 use Rattle.ce_cube.specs.Boxes.{IsHeldAs}
-use Rattle.ce_cube.specs.Crews.{IsLawfulMachine, IsCrewInStep, HasGoneOn, HasMadeRound, cube_grant, box_at}
+use Rattle.ce_cube.specs.Crews.{IsLawfulMachine, IsCrewInStep, HasGoneOn, HasMadeRound, box_at}
+use Rattle.ce_daemon.specs.Peeks.{cube_grant}
 use Rattle.ce_cube.proofs.Counts.{boxes_in_step-end-turns}
 use Rattle.ce_cube.proofs.Crewing.{still-sound, gone-both, stands-still}
 use Rattle.ce_host.specs.declared.command.Command.TheVariants.{Run, Recv}
 use Rattle.ce_host.specs.declared.answer.Answer.{Answer}
 use Rattle.ce_host.specs.declared.answer.Answer.TheVariants.{Message}
 use Rattle.ce_script.specs.Rounds.{serial, joined_lists, AreTurnsOver}
-use Rattle.ce_script.specs.Commands.{by_host, host_take, run_reply, RecvEnd, message_next, message_behind_rest, no_message, end_entries, end_rounds, message_reply, no_message_reply, recv_reply}
+use Rattle.ce_script.specs.Commands.{host_take, run_reply, RecvEnd, message_next, message_behind_rest, no_message, end_entries, end_rounds, message_reply, no_message_reply, recv_reply}
 use Rattle.ce_record.specs.CubeRounds.{IsRoundOf, IsRunOf, IsRecvOf}
 use Rattle.ce_record.specs.Held.{AreTurnsOverIn}
 use Rattle.ce_record.specs.Laws.{sent_to_host}
+use Rattle.ce_record.proofs.Moments.{flat-last}
 use Rattle.ce_record.proofs.Messages.{message}
 use Rattle.ce_record.proofs.Running.{run, recv}
 use Rattle.ce_record.proofs.Turns.{work-inward}
-use Rattle.ce_run.specs.declared.seat.Seat.TheVariants.{Holding}
+use Rattle.ce_run.specs.declared.user_state.UserState.TheVariants.{Holding}
 use Rattle.ce_run.specs.Rounds.{HasAllowed, HasLooked, HasTakenNone, HasTaken, HasRunRounds}
-use Rattle.ce_run.specs.Seats.{HasDone}
-use Rattle.ce_run.proofs.Going.{IsOwnRound, IsResting, IsCrewResting, left_to, by-grant, all-by-grant, flat-last, round-of, left-behind, rests-behind, found-resting, rests-on, left-on}
-use Rattle.ce_run.proofs.Seating.{done-by}
+use Rattle.ce_run.specs.UserStates.{HasDone}
+use Rattle.ce_run.proofs.Going.{IsOwnRound, IsCrewResting, left_to, by-grant, all-by-grant, round-of, left-behind, rests-on, left-on}
+use Rattle.ce_cube.proofs.Looks.{IsAtRest, rests-behind, found-resting}
+use Rattle.ce_run.proofs.StatesBehind.{done-by}
 
 -- ---- the end of a command with rounds
 
@@ -85,20 +89,20 @@ module _ (now behind : MachineFacts) (crew crew' : SerialCrew) (found : LookResu
     (looked : HasLooked now behind crew crew' found) where
   pub not-busy : IsCrewResting now crew → found ≡ Busy → ⊥
   not-busy rests is =
-      found-resting now sound crew.grant.number (cube_grant crew.grant) step.held (by_host crew.grant.user (Look found)) looked.made rests (ap Look is)
+      found-resting now.parts now.history crew.grant.number (cube_grant crew.grant) sound.within sound.lawful step.held (of_host crew.grant.user (Look found)) looked.made rests (ap Look is)
 
 held-by-grant : (m : MachineFacts) (crew crew' : SerialCrew) → crew'.grant ≡ crew.grant → IsHeldAs m.history crew'.grant.number (cube_grant crew'.grant)
     → IsHeldAs m.history crew.grant.number (cube_grant crew.grant)
 held-by-grant m crew crew' same held = subst (λ (g : Grant). IsHeldAs m.history g.number (cube_grant g)) same held
 
 rests-by-grant : (m : MachineFacts) (crew crew' : SerialCrew) → crew'.grant ≡ crew.grant → IsCrewResting m crew → IsCrewResting m crew'
-rests-by-grant m crew crew' same rests = subst (λ (g : Grant). IsResting m.parts m.history g.number (cube_grant g)) (sym same) rests
+rests-by-grant m crew crew' same rests = subst (λ (g : Grant). IsAtRest m.parts m.history g.number (cube_grant g)) (sym same) rests
 
 -- a crew rests behind a round without work
 rests-behind-round : (now behind : MachineFacts) (crew crew' : SerialCrew) → IsLawfulMachine behind → HasMadeRound now behind crew crew' false → IsCrewResting behind crew'
 rests-behind-round now behind crew crew' sound made =
     rests-by-grant behind crew crew' made.goes_on.grant
-    (rests-behind behind sound crew.grant.number (cube_grant crew.grant) (held-by-grant behind crew crew' made.goes_on.grant made.goes_on.in_step.held) serial
+    (rests-behind behind.parts behind.history crew.grant.number (cube_grant crew.grant) sound.within sound.lawful (held-by-grant behind crew crew' made.goes_on.grant made.goes_on.in_step.held) serial
     (view now.history crew.grant.number) (map (entry_inward crew.grant.sub) made.round) made.goes_on.trace (made.is_round, made.works))
 
 -- ---- `run`
@@ -110,31 +114,31 @@ rests-behind-rounds before behind crew crew' sound ran =
     let inner = entry_inward crew.grant.sub in
     let t = view before.history crew.grant.number in
     rests-by-grant behind crew crew' on.grant
-    (rests-behind behind sound crew.grant.number (cube_grant crew.grant) (held-by-grant behind crew crew' on.grant on.in_step.held) serial
+    (rests-behind behind.parts behind.history crew.grant.number (cube_grant crew.grant) sound.within sound.lawful (held-by-grant behind crew crew' on.grant on.in_step.held) serial
     (t ++ map inner (joined_lists ran.rounds)) (map inner ran.last)
     (on.trace ∙ ap (λ made. t ++ made) (map-append inner (joined_lists ran.rounds) ran.last) ∙ sym (append_assoc t (map inner (joined_lists ran.rounds)) (map inner ran.last)))
     (ran.without_work.is_round, work-inward crew.grant.sub ran.last ∙ ran.without_work.works))
 
 -- with the user of the crew as it was
 looked-by : (now behind : MachineFacts) (crew crew' crew'' : SerialCrew) (found : LookResult) → crew'.grant ≡ crew.grant → HasLooked now behind crew' crew'' found
-    → HasGoneOn now behind crew' crew'' (by_host crew.grant.user (Look found) ∷ [])
+    → HasGoneOn now behind crew' crew'' (of_host crew.grant.user (Look found) ∷ [])
 looked-by now behind crew crew' crew'' found same looked =
-    subst (λ (g : Grant). HasGoneOn now behind crew' crew'' (by_host g.user (Look found) ∷ [])) same looked.goes_on
+    subst (λ (g : Grant). HasGoneOn now behind crew' crew'' (of_host g.user (Look found) ∷ [])) same looked.goes_on
 
 module _ (before armed ran behind : MachineFacts) (crew crew1 crew2 crew3 : SerialCrew) (count : ℕ) (found : LookResult) (answer : Answer) (sound : IsLawfulMachine before)
     (step : IsCrewInStep before.parts before.history crew) (allowed : HasAllowed before armed crew crew1 count) (rounds : HasRunRounds armed ran crew1 crew2)
     (looked : HasLooked ran behind crew2 crew3 found) where
   abbrev run_look : Entry
-  run_look = by_host crew.grant.user (Look found)
+  run_look = of_host crew.grant.user (Look found)
 
   abbrev run_made : List Entry
-  run_made = by_host crew.grant.user (Arm count) ∷ (joined_lists rounds.rounds ++ (rounds.last ++ run_look ∷ []))
+  run_made = of_host crew.grant.user (Arm count) ∷ (joined_lists rounds.rounds ++ (rounds.last ++ run_look ∷ []))
 
   run-on : HasGoneOn before behind crew crew3 run_made
   run-on =
-      let first = gone-both before armed ran crew crew1 crew2 (by_host crew.grant.user (Arm count) ∷ []) (joined_lists rounds.rounds ++ rounds.last) allowed rounds.goes_on in
-      subst (λ more. HasGoneOn before behind crew crew3 (by_host crew.grant.user (Arm count) ∷ more)) (append_assoc (joined_lists rounds.rounds) rounds.last (run_look ∷ []))
-      (gone-both before ran behind crew crew2 crew3 (by_host crew.grant.user (Arm count) ∷ (joined_lists rounds.rounds ++ rounds.last)) (run_look ∷ []) first
+      let first = gone-both before armed ran crew crew1 crew2 (of_host crew.grant.user (Arm count) ∷ []) (joined_lists rounds.rounds ++ rounds.last) allowed rounds.goes_on in
+      subst (λ more. HasGoneOn before behind crew crew3 (of_host crew.grant.user (Arm count) ∷ more)) (append_assoc (joined_lists rounds.rounds) rounds.last (run_look ∷ []))
+      (gone-both before ran behind crew crew2 crew3 (of_host crew.grant.user (Arm count) ∷ (joined_lists rounds.rounds ++ rounds.last)) (run_look ∷ []) first
       (looked-by ran behind crew crew2 crew3 found first.grant looked))
 
   pub run-done : run_reply found ≡ Some answer → HasDone before behind crew.grant.user (Run count) answer (Holding crew3)
@@ -232,6 +236,14 @@ pub took-none : (now behind : MachineFacts) (crew crew' : SerialCrew) (found : O
     → HasLookedFor now behind crew crew' found → HasTakenNone now behind crew crew'
 took-none now behind crew crew' found is looked = subst (HasLookedFor now behind crew crew') is looked
 
+-- where the last round was without work and no message waits, a look doesn't find the cube busy
+pub none-not-busy : (armed now taken behind : MachineFacts) (crew crew1 crew2 crew3 : SerialCrew) (found : LookResult) → IsLawfulMachine armed
+    → HasWaited armed now crew crew1 false → HasTakenNone now taken crew1 crew2 → HasLooked taken behind crew2 crew3 found → found ≡ Busy → ⊥
+none-not-busy armed now taken behind crew crew1 crew2 crew3 found sound so_far none looked =
+    let now_sound = still-sound armed now crew crew1 (waited false crew.grant.user so_far.rounds so_far.last) sound so_far.goes_on in
+    not-busy taken behind crew2 crew3 found (still-sound now taken crew1 crew2 (host_take crew1.grant.user None ∷ []) now_sound none) none.in_step looked
+    (rests-on now taken crew1 crew2 now_sound so_far.goes_on.in_step none so_far.without_work.1)
+
 -- how it ends with a message
 abbrev message_end : Bool → List Entry → ℕ → RecvEnd
 message_end true last number = message_next number
@@ -258,7 +270,7 @@ module _ (before armed now : MachineFacts) (crew crew1 crew2 : SerialCrew) (coun
   user = crew.grant.user
 
   abbrev arm : Entry
-  arm = by_host user (Arm count)
+  arm = of_host user (Arm count)
 
   module _ (working : Bool) (so_far : HasWaited armed now crew1 crew2 working) where
     armed-on : HasGoneOn before now crew crew2 (arm ∷ waited working user so_far.rounds so_far.last)
@@ -314,7 +326,7 @@ module _ (before armed now : MachineFacts) (crew crew1 crew2 : SerialCrew) (coun
   module _ (so_far : HasWaited armed now crew1 crew2 false) (taken behind : MachineFacts) (crew3 crew4 : SerialCrew) (found : LookResult)
       (none : HasTakenNone now taken crew2 crew3) (looked : HasLooked taken behind crew3 crew4 found) where
     abbrev look : Entry
-    look = by_host user (Look found)
+    look = of_host user (Look found)
 
     abbrev quiet_made : List Entry
     quiet_made = arm ∷ (looks_for user so_far.rounds ++ host_take user None ∷ (so_far.last ++ host_take user None ∷ look ∷ []))
@@ -327,13 +339,6 @@ module _ (before armed now : MachineFacts) (crew crew1 crew2 : SerialCrew) (coun
         subst (λ more. HasGoneOn before behind crew crew4 (arm ∷ more))
         (append_assoc (looks_for user so_far.rounds) (host_take user None ∷ so_far.last) (host_take user None ∷ look ∷ []))
         (gone-both before now behind crew crew2 crew4 (arm ∷ (looks_for user so_far.rounds ++ host_take user None ∷ so_far.last)) (host_take user None ∷ look ∷ []) first ends)
-
-    pub none-not-busy : found ≡ Busy → ⊥
-    none-not-busy =
-        let first = armed-on false so_far in
-        let now_sound = still-sound before now crew crew2 (arm ∷ (looks_for user so_far.rounds ++ host_take user None ∷ so_far.last)) sound first in
-        not-busy taken behind crew3 crew4 found (still-sound now taken crew2 crew3 (host_take crew2.grant.user None ∷ []) now_sound none) none.in_step looked
-        (rests-on now taken crew2 crew3 now_sound first.in_step none so_far.without_work.1)
 
     pub none-done : (answer : Answer) → no_message_reply found ≡ Some answer → HasDone before behind crew.grant.user (Recv count) answer (Holding crew4)
     none-done answer reply =

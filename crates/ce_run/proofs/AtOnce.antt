@@ -16,7 +16,8 @@ use Rattle.rk_node.specs.Boxes.{Box}
 use Rattle.ce_host.specs.declared.command.Command.TheVariants.{Getcube, Dump, Trace}
 use Rattle.ce_host.specs.declared.answer.Answer.TheVariants.{Held, State, Entries}
 use Rattle.ce_cube.specs.declared.crew.SerialCrew.{SerialCrew}
-use Rattle.ce_cube.specs.Crews.{IsCrewInStep, box_at, cube_grant}
+use Rattle.ce_cube.specs.Crews.{IsCrewInStep, box_at}
+use Rattle.ce_daemon.specs.Peeks.{cube_grant}
 use Rattle.ce_script.specs.Rounds.{serial}
 use Rattle.ce_record.specs.Run.{IsNextCommand}
 use Rattle.ce_record.proofs.AtOnce.{held, dump, trace}

@@ -10,11 +10,11 @@ use Rattle.ce_script.specs.Serial.{IsSerial}
 use Rattle.ce_script.specs.Legal.{IsLegal}
 use Rattle.ce_script.specs.Load.{load}
 use Rattle.ce_script.specs.declared.script.Script.{Script}
-use Rattle.ce_run.specs.declared.ended.RunEnd.{RunEnd}
-use Rattle.ce_run.specs.declared.ended.RunFault.{RunFault}
-use Rattle.ce_run.specs.declared.ended.RunFault.TheVariants as run_fault
+use Rattle.ce_run.specs.declared.run_end.RunEnd.{RunEnd}
+use Rattle.ce_run.specs.declared.run_end.RunFault.{RunFault}
+use Rattle.ce_run.specs.declared.run_end.RunFault.TheVariants as run_fault
 use Rattle.ce_run.specs.Fault.{status_of}
-use Rattle.ce_run.specs.Causes.{IsServed, IsNoMemory, HasRunToEnd, HasReported}
+use Rattle.ce_run.specs.Causes.{IsServed, IsRunNoMemory, HasRunToEnd, HasReported}
 use Rattle.ce_run.specs.Promise.{HasEnded, HasFinished, HasRun, HasScript, text_of}
 
 nothing_before : (known : Option (List ℕ)) → known ≡ prepend_known [] known
@@ -30,14 +30,14 @@ abbrev pub refused_with : RunFault → RunEnd
 refused_with fault = record { status = status_of fault; kept = None; fault = Some fault }
 
 -- a run that ended at its words went no further, and so with no fault of what comes behind them
-no_run : (fault : RunFault) → (fault ≡ run_fault.Usage) ⊎ IsNoMemory (Some fault) → HasRunToEnd (Some fault) → ⊥
+no_run : (fault : RunFault) → (fault ≡ run_fault.Usage) ⊎ IsRunNoMemory (Some fault) → HasRunToEnd (Some fault) → ⊥
 no_run fault (inl usage) ran = subst (λ fault. HasRunToEnd (Some fault)) usage ran
 no_run (run_fault.Memory want) (inr memory) ran = ran
 no_run other (inr memory) ran = memory
 
-no_other : (fault other : RunFault) → (fault ≡ run_fault.Usage) ⊎ IsNoMemory (Some fault) → (other ≡ run_fault.Usage → ⊥) → (IsNoMemory (Some other) → ⊥) → Some fault ≡ Some other → ⊥
+no_other : (fault other : RunFault) → (fault ≡ run_fault.Usage) ⊎ IsRunNoMemory (Some fault) → (other ≡ run_fault.Usage → ⊥) → (IsRunNoMemory (Some other) → ⊥) → Some fault ≡ Some other → ⊥
 no_other fault other (inl usage) not_usage not_memory e = not_usage (cc)
-no_other fault other (inr memory) not_usage not_memory e = not_memory (subst IsNoMemory e memory)
+no_other fault other (inr memory) not_usage not_memory e = not_memory (subst IsRunNoMemory e memory)
 
 module _ {S K : Type 0} (left : S → Option (List ℕ)) (given faults : S → ℕ) (s : S) (written : K → Option (List ℕ)) (failed : K → ℕ) (k : K)
     (words : List (List ℕ)) where
@@ -46,7 +46,7 @@ module _ {S K : Type 0} (left : S → Option (List ℕ)) (given faults : S → �
   HasEndedWith fault = HasEnded words (reading left given faults s s) (writing written failed k k) (refused_with fault)
 
   -- words that aren't served, or for which there is no memory
-  pub ends_at_words : (fault : RunFault) → (fault ≡ run_fault.Usage) ⊎ IsNoMemory (Some fault) → (fault ≡ run_fault.Usage → ¬ IsServed words) → HasEndedWith fault
+  pub ends_at_words : (fault : RunFault) → (fault ≡ run_fault.Usage) ⊎ IsRunNoMemory (Some fault) → (fault ≡ run_fault.Usage → ¬ IsServed words) → HasEndedWith fault
   ends_at_words fault why refused = record {
     status = refl;
     kept = (λ none. absurd (cc), λ ran. absurd (no_run fault why ran));
@@ -88,10 +88,10 @@ runs_as_promised line source sink script end one has finished =
     }) finished.legal finished.serial finished.reported
 
 -- a run that finished has no other fault than these
-other_fault : (end : Option RunFault) (fault : RunFault) → (HasRunToEnd (Some fault) → ⊥) → (IsNoMemory (Some fault) → ⊥)
-    → HasRunToEnd end ⊎ IsNoMemory end → end ≡ Some fault → ⊥
+other_fault : (end : Option RunFault) (fault : RunFault) → (HasRunToEnd (Some fault) → ⊥) → (IsRunNoMemory (Some fault) → ⊥)
+    → HasRunToEnd end ⊎ IsRunNoMemory end → end ≡ Some fault → ⊥
 other_fault end fault not_ran not_memory (inl ran) e = not_ran (subst HasRunToEnd e ran)
-other_fault end fault not_ran not_memory (inr memory) e = not_memory (subst IsNoMemory e memory)
+other_fault end fault not_ran not_memory (inr memory) e = not_memory (subst IsRunNoMemory e memory)
 
 some_differs : (load : Option ℕ) (seed : ℕ) → load ≡ Some seed → load ≡ None → ⊥
 some_differs load seed some none = absurd (cc)

@@ -26,7 +26,7 @@ use Rattle.ce_script.specs.Bounds.{IsWithinLimits, IsCommandWithin, IsOwnCommand
 use Rattle.ce_script.specs.Legal.{IsLegal, machine_of}
 use Rattle.ce_script.specs.Rounds.{serial}
 use Rattle.ce_script.specs.Serial.{IsSerial}
-use Rattle.ce_script.specs.Moments.{Holding as Held}
+use Rattle.ce_script.specs.Moments as moments
 use Rattle.ce_script.specs.Doings.{Doing}
 use Rattle.ce_record.specs.Held.{holding_of, held_now}
 use Rattle.ce_record.specs.Run.{IsRunSoFar, AreReplies, doing_behind}
@@ -35,15 +35,15 @@ use Rattle.ce_record.proofs.Held.{others_stay}
 use Rattle.ce_record.proofs.Legal.{script_has_machine, run_is_legal, no_user_is_legal}
 use Rattle.ce_record.proofs.Run.{run_begins, run_goes_on}
 use Rattle.ce_record.proofs.Replies.{replies_begin, replies_go_on}
-use Rattle.ce_run.specs.declared.seat.Seat.{Seat}
-use Rattle.ce_run.specs.declared.seat.Seat.TheVariants.{Free, Holding}
-use Rattle.ce_run.specs.Seats.{HasDone, IsSeatAt}
-use Rattle.ce_run.specs.Script.{IsRunBehind, HasGoneFurther, IsFreeSeat, AreOpenSeats}
-use Rattle.ce_run.proofs.Seating.{crew-keeps}
+use Rattle.ce_run.specs.declared.user_state.UserState.{UserState}
+use Rattle.ce_run.specs.declared.user_state.UserState.TheVariants.{Free, Holding}
+use Rattle.ce_run.specs.UserStates.{HasDone, IsUserStateAt}
+use Rattle.ce_run.specs.Script.{IsRunBehind, HasGoneFurther, IsFreeState, AreFreeStates}
+use Rattle.ce_run.proofs.StatesBehind.{crew-keeps}
 
--- ---- the seats of the others
+-- ---- what the others have
 
-abbrev trace_in : Option Held → List Entry
+abbrev trace_in : Option moments.Holding → List Entry
 trace_in None = []
 trace_in (Some held) = held.trace
 
@@ -53,30 +53,30 @@ same-trace : (h h' : List Entry) (user : ℕ) (cube : HeldCube) → cube_held_by
 same-trace h h' user cube holds same now =
     ap (λ held. trace_in (option_map (holding_of h') held)) (sym (same ∙ holds)) ∙ ap trace_in now ∙ ap (λ held. trace_in (option_map (holding_of h) held)) holds
 
-pub seat-stays : (parts : MachineParts) (h h' : List Entry) (user : ℕ) (seat : Seat) → cube_held_by (after h') user ≡ cube_held_by (after h) user
-    → held_now h' user ≡ held_now h user → IsSeatAt parts h user seat → IsSeatAt parts h' user seat
-seat-stays parts h h' user (Free host) same now seated = (same ∙ seated.0, seated.1)
-seat-stays parts h h' user (Holding crew) same now seated =
-    let held = seated.1.held in
-    let at = ap (cube_held_by (after h)) (sym seated.0) ∙ held.held in
+pub state-stays : (parts : MachineParts) (h h' : List Entry) (user : ℕ) (user_state : UserState) → cube_held_by (after h') user ≡ cube_held_by (after h) user
+    → held_now h' user ≡ held_now h user → IsUserStateAt parts h user user_state → IsUserStateAt parts h' user user_state
+state-stays parts h h' user (Free host) same now state_is = (same ∙ state_is.0, state_is.1)
+state-stays parts h h' user (Holding crew) same now state_is =
+    let held = state_is.1.held in
+    let at = ap (cube_held_by (after h)) (sym state_is.0) ∙ held.held in
     let trace = same-trace h h' user held.cube at same now in (
-      seated.0,
-      crew-keeps parts h h' crew (ap (cube_held_by (after h')) seated.0 ∙ same ∙ ap (cube_held_by (after h)) (sym seated.0))
-          (subst (λ n. view h' n ≡ view h n) held.number_is trace) seated.1,
+      state_is.0,
+      crew-keeps parts h h' crew (ap (cube_held_by (after h')) state_is.0 ∙ same ∙ ap (cube_held_by (after h)) (sym state_is.0))
+          (subst (λ n. view h' n ≡ view h n) held.number_is trace) state_is.1,
     )
 
-some-stays : (parts : MachineParts) (h h' : List Entry) (user : ℕ) (seat : Option Seat) → cube_held_by (after h') user ≡ cube_held_by (after h) user
-    → held_now h' user ≡ held_now h user → IsSomeAnd seat (IsSeatAt parts h user) → IsSomeAnd seat (IsSeatAt parts h' user)
+some-stays : (parts : MachineParts) (h h' : List Entry) (user : ℕ) (user_state : Option UserState) → cube_held_by (after h') user ≡ cube_held_by (after h) user
+    → held_now h' user ≡ held_now h user → IsSomeAnd user_state (IsUserStateAt parts h user) → IsSomeAnd user_state (IsUserStateAt parts h' user)
 some-stays parts h h' user None same now is = is
-some-stays parts h h' user (Some seat) same now is = seat-stays parts h h' user seat same now is
+some-stays parts h h' user (Some user_state) same now is = state-stays parts h h' user user_state same now is
 
 -- ---- one command further
 
--- one user's seat is as given, and the others are what they were
-pub record IsSeatedAt (user : ℕ) (seat : Seat) (seats seats' : List (Option Seat)) : Type 0 where
-  pub all : length seats' ≡ length seats
-  pub here : slice_index_or seats' user None ≡ Some seat
-  pub others : (other : ℕ) → other ≢ user → slice_index_or seats' other None ≡ slice_index_or seats other None
+-- one user has this, and the others what they had
+pub record HasNewState (user : ℕ) (user_state : UserState) (user_states user_states' : List (Option UserState)) : Type 0 where
+  pub all : length user_states' ≡ length user_states
+  pub here : slice_index_or user_states' user None ≡ Some user_state
+  pub others : (other : ℕ) → other ≢ user → slice_index_or user_states' other None ≡ slice_index_or user_states other None
 
 -- one user's record has this command more
 pub record HasNoted (user : ℕ) (command : Command) (answer : Answer) (users users' : List UserRecord) : Type 0 where
@@ -84,28 +84,28 @@ pub record HasNoted (user : ℕ) (command : Command) (answer : Answer) (users us
   pub replies : map (λ (one : UserRecord). one.done) users'
       ≡ slice_set (map (λ one. one.done) users) user (slice_index_or (map (λ one. one.done) users) user [] ++ (command, answer) ∷ [])
 
-module _ (before behind : MachineFacts) (seats seats' : List (Option Seat)) (users users' : List UserRecord) (user : ℕ) (command : Command)
-    (answer : Answer) (seat : Seat) (machine : IsMachine before.parts) (below : user < length users) (done : HasDone before behind user command answer seat)
-    (seated : IsSeatedAt user seat seats seats') (noted : HasNoted user command answer users users') where
+module _ (before behind : MachineFacts) (user_states user_states' : List (Option UserState)) (users users' : List UserRecord) (user : ℕ) (command : Command)
+    (answer : Answer) (user_state : UserState) (machine : IsMachine before.parts) (below : user < length users) (done : HasDone before behind user command answer user_state)
+    (state_is : HasNewState user user_state user_states user_states') (noted : HasNoted user command answer users users') where
   abbrev doing : Doing
-  doing = doing_behind before.history command answer done.made
+  doing = doing_behind before.history command answer done.new_entries
 
-  now-seated : (script : Script) (all : List (ℕ × Doing)) → IsRunBehind script before seats users all → (other : ℕ) → other < length script.users
-      → IsSomeAnd (slice_index_or seats' other None) (IsSeatAt before.parts behind.history other)
-  now-seated script all run other inside =
+  state-now : (script : Script) (all : List (ℕ × Doing)) → IsRunBehind script before user_states users all → (other : ℕ) → other < length script.users
+      → IsSomeAnd (slice_index_or user_states' other None) (IsUserStateAt before.parts behind.history other)
+  state-now script all run other inside =
       elim (cases_eq user other) [
         | inl same ↦
-            subst (λ u. IsSomeAnd (slice_index_or seats' u None) (IsSeatAt before.parts behind.history u)) same
-            (subst (λ place. IsSomeAnd place (IsSeatAt before.parts behind.history user)) (sym seated.here) done.seated)
+            subst (λ u. IsSomeAnd (slice_index_or user_states' u None) (IsUserStateAt before.parts behind.history u)) same
+            (subst (λ place. IsSomeAnd place (IsUserStateAt before.parts behind.history user)) (sym state_is.here) done.state_is)
         | inr differ ↦
-            let stay = others_stay before.parts before.history other done.made machine (subst (IsLawful before.parts) done.history done.lawful)
-            (foreign-to user other done.made differ done.next.own) in
-            subst (λ h. IsSomeAnd (slice_index_or seats' other None) (IsSeatAt before.parts h other)) (sym done.history)
-            (subst (λ place. IsSomeAnd place (IsSeatAt before.parts (before.history ++ done.made) other)) (sym (seated.others other (λ e. differ (sym e))))
-            (some-stays before.parts before.history (before.history ++ done.made) other (slice_index_or seats other None) stay.0 stay.1 (run.seated other inside)))
+            let stay = others_stay before.parts before.history other done.new_entries machine (subst (IsLawful before.parts) done.history done.lawful)
+            (foreign-to user other done.new_entries differ done.next.own) in
+            subst (λ h. IsSomeAnd (slice_index_or user_states' other None) (IsUserStateAt before.parts h other)) (sym done.history)
+            (subst (λ place. IsSomeAnd place (IsUserStateAt before.parts (before.history ++ done.new_entries) other)) (sym (state_is.others other (λ e. differ (sym e))))
+            (some-stays before.parts before.history (before.history ++ done.new_entries) other (slice_index_or user_states other None) stay.0 stay.1 (run.state_is other inside)))
       ]
 
-  pub further : (script : Script) (all : List (ℕ × Doing)) → IsRunBehind script before seats users all → IsRunBehind script behind seats' users' (all ++ (user, doing) ∷ [])
+  pub further : (script : Script) (all : List (ℕ × Doing)) → IsRunBehind script before user_states users all → IsRunBehind script behind user_states' users' (all ++ (user, doing) ∷ [])
   further script all run =
       let back = sym done.parts in
       let few : user < length (map (λ (one : UserRecord). one.done) users) = omega (arith, below, length-map users (λ (one : UserRecord). one.done)) in
@@ -114,38 +114,38 @@ module _ (before behind : MachineFacts) (seats seats' : List (Option Seat)) (use
         lawful = subst (λ parts. IsLawful parts behind.history) back done.lawful;
         so_far = subst (λ parts. IsRunSoFar serial parts behind.history (all ++ (user, doing) ∷ [])) back
             (subst (λ h. IsRunSoFar serial before.parts h (all ++ (user, doing) ∷ [])) (sym done.history)
-            (run_goes_on serial before.parts before.history all user command answer done.made machine run.lawful run.so_far done.next));
-        places = seated.all ∙ run.places;
-        seated = λ other inside. subst (λ parts. IsSomeAnd (slice_index_or seats' other None) (IsSeatAt parts behind.history other)) back (now-seated script all run other inside);
+            (run_goes_on serial before.parts before.history all user command answer done.new_entries machine run.lawful run.so_far done.next));
+        places = state_is.all ∙ run.places;
+        state_is = λ other inside. subst (λ parts. IsSomeAnd (slice_index_or user_states' other None) (IsUserStateAt parts behind.history other)) back (state-now script all run other inside);
         names = noted.names ∙ run.names;
         replies = subst (AreReplies (all ++ (user, doing) ∷ [])) (sym noted.replies) (replies_go_on all (map (λ one. one.done) users) user doing few run.replies);
       }
 
-  pub gone-further : HasGoneFurther before behind seats seats' users users' user command
+  pub gone-further : HasGoneFurther before behind user_states user_states' users users' user command
   gone-further = record { doing = doing; command_is = refl; is = further }
 
 -- ---- one command of a user
 
-module _ (script : Script) (machine : MachineFacts) (seats : List (Option Seat)) (users : List UserRecord) (all : List (ℕ × Doing))
-    (run : IsRunBehind script machine seats users all) where
+module _ (script : Script) (machine : MachineFacts) (user_states : List (Option UserState)) (users : List UserRecord) (all : List (ℕ × Doing))
+    (run : IsRunBehind script machine user_states users all) where
   users-all : length users ≡ length script.users
   users-all = sym (length-map users (λ (one : UserRecord). one.name)) ∙ ap length run.names
 
-module _ (script : Script) (machine : MachineFacts) (seats : List (Option Seat)) (users : List UserRecord) (all : List (ℕ × Doing))
-    (run : IsRunBehind script machine seats users all) (user : ℕ) (below : user < length users) where
+module _ (script : Script) (machine : MachineFacts) (user_states : List (Option UserState)) (users : List UserRecord) (all : List (ℕ × Doing))
+    (run : IsRunBehind script machine user_states users all) (user : ℕ) (below : user < length users) where
   every : length users ≡ length script.users
-  every = users-all script machine seats users all run
+  every = users-all script machine user_states users all run
 
-  pub has-place : user < length seats
+  pub has-place : user < length user_states
   has-place = omega (arith, below, every, run.places)
 
--- a seat is taken, and the one that the user has then put back
-pub seated-again : (seats : List (Option Seat)) (user : ℕ) (seat : Seat) → user < length seats
-    → IsSeatedAt user seat seats (set (set seats user None) user (Some seat))
-seated-again seats user seat below = record {
-  all = length-set (set seats user None) user (Some seat) ∙ length-set seats user None;
-  here = get_or-set_same (set seats user None) user (Some seat) None (omega (arith, below, length-set seats user None));
-  others = λ other differ. get_or-set_other (set seats user None) user other (Some seat) None differ ∙ get_or-set_other seats user other None None differ;
+-- what a user had is taken, and what the user has then is put back
+pub state-put_back : (user_states : List (Option UserState)) (user : ℕ) (user_state : UserState) → user < length user_states
+    → HasNewState user user_state user_states (set (set user_states user None) user (Some user_state))
+state-put_back user_states user user_state below = record {
+  all = length-set (set user_states user None) user (Some user_state) ∙ length-set user_states user None;
+  here = get_or-set_same (set user_states user None) user (Some user_state) None (omega (arith, below, length-set user_states user None));
+  others = λ other differ. get_or-set_other (set user_states user None) user other (Some user_state) None differ ∙ get_or-set_other user_states user other None None differ;
 }
 
 pub noted-more : (users : List UserRecord) (user : ℕ) (one : UserRecord) (command : Command) (answer : Answer) → user < length users → one ≡ get_or users user one
@@ -176,19 +176,19 @@ abbrev pub own_command : ℕ × Doing → ℕ × Command
 own_command own = (own.0, own.1.command)
 
 -- the first commands of a script, so many, were carried out
-pub record IsPartDone (script : Script) (machine : MachineFacts) (seats : List (Option Seat)) (users : List UserRecord) (count : ℕ) : Type 0 where
+pub record IsPartDone (script : Script) (machine : MachineFacts) (user_states : List (Option UserState)) (users : List UserRecord) (count : ℕ) : Type 0 where
   pub all : List (ℕ × Doing)
   pub commands : map own_command all ≡ take count script.commands
-  pub behind : IsRunBehind script machine seats users all
+  pub behind : IsRunBehind script machine user_states users all
 
-free-at : (parts : MachineParts) (user : ℕ) (seat : Seat) → IsFreeSeat user seat → IsSeatAt parts [] user seat
+free-at : (parts : MachineParts) (user : ℕ) (user_state : UserState) → IsFreeState user user_state → IsUserStateAt parts [] user user_state
 unfolding after
 free-at parts user (Free host) free = (refl, free)
 free-at parts user (Holding crew) free = absurd free
 
-some-free : (parts : MachineParts) (user : ℕ) (seat : Option Seat) → IsSomeAnd seat (IsFreeSeat user) → IsSomeAnd seat (IsSeatAt parts [] user)
+some-free : (parts : MachineParts) (user : ℕ) (user_state : Option UserState) → IsSomeAnd user_state (IsFreeState user) → IsSomeAnd user_state (IsUserStateAt parts [] user)
 some-free parts user None is = is
-some-free parts user (Some seat) is = free-at parts user seat is
+some-free parts user (Some user_state) is = free-at parts user user_state is
 
 -- a host that was just made is at home
 pub at-home : (user : ℕ) (host : Host) → ids_of host.store.blocks ≡ blocks_of_home (host_home + user) → host.store.spare + home_blocks ≡ greatest_blocks
@@ -198,19 +198,19 @@ at-home user host blocks room spare =
     sym (length-map host.store.blocks (λ block. block.id)) ∙ ap length blocks ∙ length-home (host_home + user) in
     record { blocks = blocks; room = ap (λ n. host.store.spare + n) count ∙ room; spare = spare }
 
--- one user more has a seat
-pub seats-more : (count : ℕ) (seats : List (Option Seat)) (seat : Seat) → AreOpenSeats count seats → IsFreeSeat count seat
-    → AreOpenSeats (count + 1) (seats ++ Some seat ∷ [])
-seats-more count seats seat opened free = (
-  length-append seats (Some seat ∷ []) ∙ ap (λ n. n + 1) opened.0,
+-- one user more
+pub states-more : (count : ℕ) (user_states : List (Option UserState)) (user_state : UserState) → AreFreeStates count user_states → IsFreeState count user_state
+    → AreFreeStates (count + 1) (user_states ++ Some user_state ∷ [])
+states-more count user_states user_state opened free = (
+  length-append user_states (Some user_state ∷ []) ∙ ap (λ n. n + 1) opened.0,
   λ user below. elim (cases_eq user count) [
     | inl same ↦
-        let here : slice_index_or (seats ++ Some seat ∷ []) user None ≡ Some seat =
-        subst (λ place. slice_index_or (seats ++ Some seat ∷ []) place None ≡ Some seat) (opened.0 ∙ sym same) (get_or-append_seam seats (Some seat) [] None) in
-        subst (λ place. IsSomeAnd place (IsFreeSeat user)) (sym here) (subst (λ user. IsFreeSeat user seat) (sym same) free)
+        let here : slice_index_or (user_states ++ Some user_state ∷ []) user None ≡ Some user_state =
+        subst (λ place. slice_index_or (user_states ++ Some user_state ∷ []) place None ≡ Some user_state) (opened.0 ∙ sym same) (get_or-append_seam user_states (Some user_state) [] None) in
+        subst (λ place. IsSomeAnd place (IsFreeState user)) (sym here) (subst (λ user. IsFreeState user user_state) (sym same) free)
     | inr differ ↦
         let less : user < count = omega (arith, below, differ) in
-        subst (λ place. IsSomeAnd place (IsFreeSeat user)) (sym (get_or_append_left seats (Some seat ∷ []) None user (omega (arith, less, opened.0)))) (opened.1 user less)
+        subst (λ place. IsSomeAnd place (IsFreeState user)) (sym (get_or_append_left user_states (Some user_state ∷ []) None user (omega (arith, less, opened.0)))) (opened.1 user less)
   ],
 )
 
@@ -226,9 +226,9 @@ blank-dones : (names : List (List ℕ)) → map (λ (one : UserRecord). one.done
 blank-dones [] = refl
 blank-dones (name ∷ names) = ap (λ more. [] ∷ more) (blank-dones names)
 
-pub run-opens : (script : Script) (seats : List (Option Seat)) → AreOpenSeats (length script.users) seats
-    → IsPartDone script (record { parts = machine_of script; history = [] }) seats (map blank script.users) 0
-run-opens script seats opened = record {
+pub run-opens : (script : Script) (user_states : List (Option UserState)) → AreFreeStates (length script.users) user_states
+    → IsPartDone script (record { parts = machine_of script; history = [] }) user_states (map blank script.users) 0
+run-opens script user_states opened = record {
   all = [];
   commands = refl;
   behind = record {
@@ -236,20 +236,20 @@ run-opens script seats opened = record {
     lawful = tt;
     so_far = run_begins serial (machine_of script);
     places = opened.0;
-    seated = λ user below. some-free (machine_of script) user (slice_index_or seats user None) (opened.1 user below);
+    state_is = λ user below. some-free (machine_of script) user (slice_index_or user_states user None) (opened.1 user below);
     names = blank-names script.users;
     replies = subst (AreReplies []) (sym (blank-dones script.users)) (replies_begin (length script.users));
   };
 }
 
 -- with what was opened
-pub run-opens-by : (script : Script) (machine : MachineFacts) (seats : List (Option Seat)) (users : List UserRecord) (count : ℕ) (names : List (List ℕ))
-    → machine ≡ record { parts = machine_of script; history = [] } → count ≡ length script.users → AreOpenSeats count seats → names ≡ script.users
-    → users ≡ map blank names → IsPartDone script machine seats users 0
-run-opens-by script machine seats users count names machine_is count_is opened names_is users_is =
-    subst (λ machine. IsPartDone script machine seats users 0) (sym machine_is)
-    (subst (λ users. IsPartDone script (record { parts = machine_of script; history = [] }) seats users 0) (sym (users_is ∙ ap (map blank) names_is))
-    (run-opens script seats (subst (λ n. AreOpenSeats n seats) count_is opened)))
+pub run-opens-by : (script : Script) (machine : MachineFacts) (user_states : List (Option UserState)) (users : List UserRecord) (count : ℕ) (names : List (List ℕ))
+    → machine ≡ record { parts = machine_of script; history = [] } → count ≡ length script.users → AreFreeStates count user_states → names ≡ script.users
+    → users ≡ map blank names → IsPartDone script machine user_states users 0
+run-opens-by script machine user_states users count names machine_is count_is opened names_is users_is =
+    subst (λ machine. IsPartDone script machine user_states users 0) (sym machine_is)
+    (subst (λ users. IsPartDone script (record { parts = machine_of script; history = [] }) user_states users 0) (sym (users_is ∙ ap (map blank) names_is))
+    (run-opens script user_states (subst (λ n. AreFreeStates n user_states) count_is opened)))
 
 -- the run of a script without users
 pub empty-run : (script : Script) (users : List UserRecord) (history : List Entry) → IsWithinLimits script → script.users ≡ [] → users ≡ [] → history ≡ []
@@ -282,9 +282,9 @@ all-at P [] i x below is all = absurd (omega (arith, below))
 all-at P (y ∷ ys) zero x below is all = subst P (sym is) all.0
 all-at P (y ∷ ys) (suc i) x below is all = all-at P ys i x (omega (arith, below)) is all.1
 
-module _ (script : Script) (machine : MachineFacts) (seats : List (Option Seat)) (users : List UserRecord) (count : ℕ) (part : IsPartDone script machine seats users count) where
+module _ (script : Script) (machine : MachineFacts) (user_states : List (Option UserState)) (users : List UserRecord) (count : ℕ) (part : IsPartDone script machine user_states users count) where
   commanders : length users ≡ length script.users
-  commanders = users-all script machine seats users part.all part.behind
+  commanders = users-all script machine user_states users part.all part.behind
 
   -- the next command is one of the script's users, and keeps its limits
   pub next-within : IsWithinLimits script → (user : ℕ) (command : Command) → count < length script.commands
@@ -298,10 +298,10 @@ module _ (script : Script) (machine : MachineFacts) (seats : List (Option Seat))
         subst (λ n. IsCommandWithin n command) (sym images) own.1,
       )
 
-  pub part-more : (machine' : MachineFacts) (seats' : List (Option Seat)) (users' : List UserRecord) (user : ℕ) (command : Command) → count < length script.commands
-      → (user, command) ≡ get_or script.commands count (user, command) → HasGoneFurther machine machine' seats seats' users users' user command
-      → IsPartDone script machine' seats' users' (suc count)
-  part-more machine' seats' users' user command below is gone = record {
+  pub part-more : (machine' : MachineFacts) (user_states' : List (Option UserState)) (users' : List UserRecord) (user : ℕ) (command : Command) → count < length script.commands
+      → (user, command) ≡ get_or script.commands count (user, command) → HasGoneFurther machine machine' user_states user_states' users users' user command
+      → IsPartDone script machine' user_states' users' (suc count)
+  part-more machine' user_states' users' user command below is gone = record {
     all = part.all ++ (user, gone.doing) ∷ [];
     commands = map-append own_command part.all ((user, gone.doing) ∷ []) ∙ ap₂ (λ front command. front ++ (user, command) ∷ []) part.commands gone.command_is
         ∙ ap (λ own. take count script.commands ++ own ∷ []) is ∙ sym (take-suc script.commands count (user, command) below);

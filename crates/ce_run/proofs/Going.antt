@@ -1,8 +1,7 @@
 -- Rounds of a crew, and the commands that run them.
-use Rattle.std.proofs.Common.{◌≡◌, ℕ, zero, suc, ◌+◌, ◌-◌, ◌^◌, ◌<◌, ◌≤◌, Bool, true, false, ◌==◌, ◌&&◌, ◌||◌, not, if◌then◌else◌, List, [], ◌∷◌, ◌++◌, flat_map, None, refl, ap, ap₂, sym, ◌∙◌, subst, arith, append-nil}
+use Rattle.std.proofs.Common.{◌≡◌, ℕ, zero, suc, ◌+◌, ◌-◌, ◌^◌, ◌<◌, ◌≤◌, Bool, true, false, ◌==◌, ◌&&◌, ◌||◌, not, if◌then◌else◌, List, [], ◌∷◌, ◌++◌, None, refl, ap, ap₂, sym, ◌∙◌, subst, arith, append-nil}
 use Rattle.std.specs.List.{AllByRecursion, list_any, list_all, range_with_len}
 use Rattle.std.proofs.lemmas.Bool.{ne_eqb}
-use Rattle.std.proofs.lemmas.Grind.{flat_map-append}
 use Rattle.rv_model.specs.Image.{ImageParts}
 use Rattle.ce_model.specs.declared.topology.TheConstants.{HOST}
 use Rattle.ce_model.specs.declared.entry.Entry.{Entry}
@@ -23,17 +22,19 @@ use Rattle.ce_daemon.specs.declared.grant.Grant.{Grant}
 use Rattle.ce_machine.specs.Meanings.{MachineFacts}
 use Rattle.ce_cube.specs.declared.crew.SerialCrew.{SerialCrew}
 use Rattle.ce_cube.specs.Boxes.{IsHeldAs, IsMadeBy}
-use Rattle.ce_cube.specs.Crews.{IsLawfulMachine, IsCrewInStep, HasGoneOn, HasMadeRound, cube_grant}
+use Rattle.ce_cube.specs.Crews.{IsLawfulMachine, IsCrewInStep, HasGoneOn, HasMadeRound}
+use Rattle.ce_daemon.specs.Peeks.{cube_grant}
 use Rattle.ce_cube.specs.Rounds.{dispatches_left}
 use Rattle.ce_cube.proofs.Crewing.{still-sound, stands-still, gone-both}
-use Rattle.ce_cube.proofs.Held.{by_seen, placed-of}
-use Rattle.ce_cube.proofs.Looks.{at-rest, found-at-rest}
+use Rattle.ce_cube.proofs.Held.{placed-of}
+use Rattle.ce_cube.proofs.Looks.{IsAtRest}
 use Rattle.ce_script.specs.Rounds.{RoundKind, serial, joined_lists, IsRoundWithoutWork}
 use Rattle.ce_script.specs.Commands.{host_take}
 use Rattle.ce_record.specs.CubeRounds.{IsRoundOf}
+use Rattle.ce_record.proofs.Moments.{flat-last}
 use Rattle.ce_record.proofs.Turns.{work-inward}
 use Rattle.ce_run.specs.Rounds.{HasTakenNone, HasRunRounds}
-use Rattle.ce_run.specs.Seats.{HasCrew}
+use Rattle.ce_run.specs.UserStates.{HasCrew, HasReadyCrew}
 
 -- ---- a crew that goes on
 
@@ -51,6 +52,13 @@ crew-stays before behind crew crew' made on has = record {
 pub images-stay : (before behind : MachineFacts) (crew crew' : SerialCrew) (made : List Entry) (images : List ImageParts) → HasGoneOn before behind crew crew' made
     → images ≡ before.parts.images → images ≡ behind.parts.images
 images-stay before behind crew crew' made images on is = is ∙ ap (λ (p : MachineParts). p.images) (sym on.parts)
+
+pub ready-stays : (before behind : MachineFacts) (crew crew' : SerialCrew) (made : List Entry) (images : List ImageParts) → HasGoneOn before behind crew crew' made
+    → HasReadyCrew before images crew → HasReadyCrew behind images crew'
+ready-stays before behind crew crew' made images on is = record {
+  crew_is = crew-stays before behind crew crew' made on is.crew_is;
+  images_are = images-stay before behind crew crew' made images on is.images_are;
+}
 
 -- ---- rounds
 
@@ -80,9 +88,6 @@ by-grant crew crew' work round same is = subst (λ (g : Grant). IsRoundOf serial
 pub all-by-grant : (crew crew' : SerialCrew) (rounds : List (List Entry)) → crew'.grant ≡ crew.grant → AllByRecursion (IsOwnRound crew' true) rounds
     → AllByRecursion (IsOwnRound crew true) rounds
 all-by-grant crew crew' rounds same is = subst (λ (g : Grant). AllByRecursion (IsRoundOf serial g.user (cube_grant g) true) rounds) same is
-
-pub flat-last : (f : List Entry → List Entry) (rounds : List (List Entry)) (round : List Entry) → flat_map f (rounds ++ round ∷ []) ≡ flat_map f rounds ++ f round
-flat-last f rounds round = flat_map-append f rounds (round ∷ []) ∙ ap (λ more. flat_map f rounds ++ more) (append-nil (f round))
 
 -- rounds with work were made so far
 pub record HasMadeRounds (before now : MachineFacts) (crew crew' : SerialCrew) : Type 0 where
@@ -114,32 +119,9 @@ module _ (before now behind : MachineFacts) (crew crew' crew'' : SerialCrew) (so
 
 -- ---- a cube that rests
 
--- the cube is quiet, or its dispatches are used up
-abbrev pub IsResting : MachineParts → List Entry → ℕ → CubeGrant → Type 0
-IsResting parts history number grant =
-    (is_quiet (node_numbers grant.dim) (standing (opening (cube_of parts.images grant)).standing (view history number))
-    || is_used_up (standing (opening (cube_of parts.images grant)).standing (view history number))) ≡ true
-
--- so is a crew's
+-- the crew's cube is quiet, or its dispatches are used up
 abbrev pub IsCrewResting : MachineFacts → SerialCrew → Type 0
-IsCrewResting m crew = IsResting m.parts m.history crew.grant.number (cube_grant crew.grant)
-
-module _ (m : MachineFacts) (sound : IsLawfulMachine m) (number : ℕ) (grant : CubeGrant) (held : IsHeldAs m.history number grant) where
-  -- behind a round without work
-  pub rests-behind : (kind : RoundKind) (before round : List Entry) → view m.history number ≡ before ++ round → IsRoundWithoutWork kind grant.dim round
-      → IsResting m.parts m.history number grant
-  rests-behind kind before round same quiet =
-      by_seen
-      (λ number grant. view m.history number ≡ before ++ round → IsRoundWithoutWork kind grant.dim round → IsResting m.parts m.history number grant)
-      m.parts m.history number grant sound.within sound.lawful
-      (λ cube now same quiet. at-rest m.parts m.history cube now kind before round same quiet) held same quiet
-
-  -- a look finds that it rests
-  pub found-resting : (entry : Entry) → IsMadeBy m.parts m.history grant HOST look_call entry → IsResting m.parts m.history number grant → entry.what ≡ Look Busy → ⊥
-  found-resting entry made rests busy =
-      by_seen (λ number grant. IsMadeBy m.parts m.history grant HOST look_call entry → IsResting m.parts m.history number grant → ⊥)
-      m.parts m.history number grant sound.within sound.lawful
-      (λ cube now made rests. found-at-rest m.parts m.history cube now entry made rests busy) held made rests
+IsCrewResting m crew = IsAtRest m.parts m.history crew.grant.number (cube_grant crew.grant)
 
 -- ---- a look for a message that finds none leaves it so
 
@@ -151,7 +133,7 @@ module _ (o : Standing) (t : List Entry) (user : ℕ) where
   node-kept r other =
       let marks : mark o r (t ++ no_message ∷ []) ≡ mark o r t = mark-more o r t no_message ∙ rw other refl in
       let waits : waiting_items o r (t ++ no_message ∷ []) ≡ waiting_items o r t = waiting-stays o r t no_message (rw other refl) ∙ append-nil (waiting_items o r t) in
-      ap₂ (λ (mark : Mark) (items : List Item). mark.is_idle && not (list_any (is_eligible mark.asking_ids mark.dead_ids) items)) marks waits
+      ap₂ (λ (mark : Mark) (items : List Item). mark.is_idle && not (list_any (is_eligible mark.asking mark.dead) items)) marks waits
 
   used-kept : is_used_up (standing o (t ++ no_message ∷ [])) ≡ is_used_up (standing o t)
   used-kept = ap₂ (λ (a b : ℕ). a == b) (dispatched-more o t no_message) (armed-more o t no_message)
@@ -191,8 +173,8 @@ module _ (before behind : MachineFacts) (crew crew' : SerialCrew) (sound : IsLaw
 
   pub rests-on : IsCrewResting before crew → IsCrewResting behind crew'
   rests-on rests =
-      subst (λ (g : Grant). IsResting behind.parts behind.history g.number (cube_grant g)) (sym none.grant)
-      (subst (λ (p : MachineParts). IsResting p behind.history crew.grant.number grant) (sym none.parts)
+      subst (λ (g : Grant). IsAtRest behind.parts behind.history g.number (cube_grant g)) (sym none.grant)
+      (subst (λ (p : MachineParts). IsAtRest p behind.history crew.grant.number grant) (sym none.parts)
       (subst (λ t. (is_quiet (node_numbers grant.dim) (standing o t) || is_used_up (standing o t)) ≡ true) (sym trace)
       (ap₂ (λ a b. a || b) (quiet-kept o t crew.grant.user grant.dim (few_relative before.parts.dim grant placed)) (used-kept o t crew.grant.user) ∙ rests)))
 

@@ -9,6 +9,7 @@ use Rattle.ce_model.specs.Limits.{greatest_dim}
 use Rattle.ce_model.specs.Subcubes.{first_free}
 use Rattle.ce_model.specs.Views.{view}
 use Rattle.ce_model.specs.Machine.{MachineState, after, cube_held_by, is_free, getcube, what_of_request, IsFitting}
+use Rattle.ce_model.specs.Literals.{of_host}
 use Rattle.ce_solo.proofs.Projection.Law.{after-more}
 use Rattle.ce_daemon.specs.declared.grant.Grant.{Grant}
 use Rattle.ce_daemon.specs.Boxes.{AreBoxesOf}
@@ -22,17 +23,19 @@ use Rattle.ce_machine.specs.declared.call.Call.TheVariants as calls
 use Rattle.ce_machine.specs.declared.call.Reply.{Reply}
 use Rattle.ce_machine.specs.declared.call.Reply.TheVariants as replies
 use Rattle.ce_machine.specs.Requests.{IsFittingCall}
-use Rattle.ce_machine.specs.Replies.{IsReplyTo, IsGrantReply, IsGranted, next_grant}
+use Rattle.ce_machine.specs.Replies.{IsReplyTo, IsGrantReply, IsGranted}
+use Rattle.ce_daemon.specs.Holding.{next_grant}
 use Rattle.ce_cube.specs.declared.crew.SerialCrew.{SerialCrew}
 use Rattle.ce_cube.specs.Boxes.{IsHeldAs, IsBegun}
-use Rattle.ce_cube.specs.Crews.{IsCrewInStep, IsHostAtHome, cube_grant}
+use Rattle.ce_cube.specs.Crews.{IsCrewInStep, IsHostAtHome}
+use Rattle.ce_daemon.specs.Peeks.{cube_grant}
 use Rattle.ce_cube.proofs.Begun.{grants-begin}
 use Rattle.ce_script.specs.Rounds.{serial}
-use Rattle.ce_script.specs.Commands.{by_host, getcube_reply}
+use Rattle.ce_script.specs.Commands.{getcube_reply}
 use Rattle.ce_record.proofs.Asked.{asked}
-use Rattle.ce_run.specs.declared.seat.Seat.{Seat}
-use Rattle.ce_run.specs.declared.seat.Seat.TheVariants.{Free, Holding}
-use Rattle.ce_run.specs.Seats.{HasUser, HasDone, IsSeatAt}
+use Rattle.ce_run.specs.declared.user_state.UserState.{UserState}
+use Rattle.ce_run.specs.declared.user_state.UserState.TheVariants.{Free, Holding}
+use Rattle.ce_run.specs.UserStates.{HasUser, HasDone, IsUserStateAt}
 use Rattle.ce_run.specs.Asking.{home_of, HasAsked}
 use Rattle.ce_run.proofs.Peeking.{same-what}
 
@@ -59,24 +62,24 @@ module _ (before : MachineFacts) (user dim : ℕ) (has : HasUser before user) (f
     -- the command is done by the entry of this subcube
     module _ (sub : Option Subcube) (what : whats.Getcube dim sub ≡ asks.what) where
       abbrev made : Entry
-      made = by_host user (whats.Getcube dim sub)
+      made = of_host user (whats.Getcube dim sub)
 
       history-is : behind.history ≡ before.history ++ made ∷ []
-      history-is = asks.history ∙ ap (λ what. before.history ++ by_host user what ∷ []) (sym what)
+      history-is = asks.history ∙ ap (λ what. before.history ++ of_host user what ∷ []) (sym what)
 
       answer-is : what_of_request before.parts state user HOST (getcube dim) ≡ Some (whats.Getcube dim sub)
       answer-is = asks.answer ∙ ap Some (sym what)
 
-      done-so : (answer : Answer) (seat : Seat) → getcube_reply sub ≡ answer → IsSeatAt before.parts behind.history user seat
-          → HasDone before behind user (Getcube dim) answer seat
-      done-so answer seat is seated = record {
-        made = made ∷ [];
+      done-so : (answer : Answer) (user_state : UserState) → getcube_reply sub ≡ answer → IsUserStateAt before.parts behind.history user user_state
+          → HasDone before behind user (Getcube dim) answer user_state
+      done-so answer user_state is state_is = record {
+        new_entries = made ∷ [];
         parts = asks.parts;
         history = history-is;
         lawful = asks.lawful;
         next = asked serial before.parts before.history user (Getcube dim) (record { home = 0; index = 0 }) (getcube dim) (whats.Getcube dim sub) answer
             has.book.within has.book.lawful refl (record { fits = fits; answer = answer-is }) (ap Some is);
-        seated = seated;
+        state_is = state_is;
       }
 
     -- ---- none is free
@@ -86,10 +89,10 @@ module _ (before : MachineFacts) (user dim : ℕ) (has : HasUser before user) (f
     none-by None what is none host home =
         done-so None what answers.None (Free host) refl (
           ap (λ h. cube_held_by (after h) user) (history-is None what)
-              ∙ ap (λ (state : MachineState). cube_held_by state user) (after-more before.history (by_host user (whats.Getcube dim None))) ∙ free,
+              ∙ ap (λ (state : MachineState). cube_held_by state user) (after-more before.history (of_host user (whats.Getcube dim None))) ∙ free,
           home,
         )
-    none-by (Some sub) what is none host home = absurd (subst (IsGranted home_of IsClean (next_grant state user dim sub)) none is)
+    none-by (Some sub) what is none host home = absurd (subst (IsGranted home_of IsClean (next_grant state.grant_count user dim sub)) none is)
 
     pub none-done : reply ≡ replies.NoneFree → (host : Host) → IsHostAtHome user host → HasDone before behind user (Getcube dim) answers.None (Free host)
     none-done = none-by found_now what-now reply-now
@@ -102,7 +105,7 @@ module _ (before : MachineFacts) (user dim : ℕ) (has : HasUser before user) (f
     ends-by : (sub : Option Subcube) → IsGrantReply home_of IsClean state user dim sub reply → (reply ≡ replies.NoneFree → ⊥)
         → ((given : Grant) (boxes : Vec Box) → reply ≡ replies.Granted given boxes → ⊥) → ⊥
     ends-by None is none other = none is
-    ends-by (Some sub) is none other = granted-ends (next_grant state user dim sub) reply is other
+    ends-by (Some sub) is none other = granted-ends (next_grant state.grant_count user dim sub) reply is other
 
     pub getcube-ends : (reply ≡ replies.NoneFree → ⊥) → ((given : Grant) (boxes : Vec Box) → reply ≡ replies.Granted given boxes → ⊥) → ⊥
     getcube-ends = ends-by found_now reply-now
@@ -113,14 +116,14 @@ module _ (before : MachineFacts) (user dim : ℕ) (has : HasUser before user) (f
     record IsGrantedSo (grant : Grant) (boxes : List Box) : Type 0 where
       sub : Subcube
       what : whats.Getcube dim (Some sub) ≡ asks.what
-      grant_is : grant ≡ next_grant state user dim sub
+      grant_is : grant ≡ next_grant state.grant_count user dim sub
       boxes_are : AreBoxesOf home_of IsClean grant boxes
 
     granted-by : (sub : Option Subcube) → whats.Getcube dim sub ≡ asks.what → IsGrantReply home_of IsClean state user dim sub reply
         → (grant : Grant) (boxes : Vec Box) → reply ≡ replies.Granted grant boxes → IsGrantedSo grant boxes.items
     granted-by None what is grant boxes granted = let differ : replies.NoneFree ≡ replies.Granted grant boxes = sym is ∙ granted in absurd (cc)
     granted-by (Some sub) what is grant boxes granted =
-        let both = subst (IsGranted home_of IsClean (next_grant state user dim sub)) granted is in
+        let both = subst (IsGranted home_of IsClean (next_grant state.grant_count user dim sub)) granted is in
         record { sub = sub; what = what; grant_is = both.0; boxes_are = subst (λ g. AreBoxesOf home_of IsClean g boxes.items) (sym both.0) both.1 }
 
     module _ (grant : Grant) (boxes : Vec Box) (granted : reply ≡ replies.Granted grant boxes) where

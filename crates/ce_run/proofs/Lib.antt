@@ -1,7 +1,7 @@
 pub mod Pieces
 pub mod Ends
 mod Calling
-mod Seating
+mod StatesBehind
 mod Further
 mod AtOnce
 mod Peeking

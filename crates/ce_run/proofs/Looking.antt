@@ -10,46 +10,48 @@ use Rattle.ce_model.specs.declared.entry.What.TheVariants.{Arm, Look, HostTake}
 use Rattle.ce_model.specs.declared.entry.LookResult.{LookResult}
 use Rattle.ce_model.specs.declared.entry.LookResult.TheVariants as look_result
 use Rattle.ce_model.specs.Limits.{greatest_count, greatest_blocks}
-use Rattle.ce_model.specs.Blocks.{Block, put, is_lower, is_same_id}
+use Rattle.ce_model.specs.Blocks.{Block, with_id, is_lower, is_same_id}
 use Rattle.ce_model.specs.Parcels.{Item}
 use Rattle.ce_model.specs.Node.{arm_call, look_call, mail_call}
-use Rattle.ce_model.specs.Answers.{answer, is_quiet, is_used_up, found_where, first_number}
+use Rattle.ce_model.specs.Answers.{answer, is_quiet, is_used_up, look_result_where, first_number}
 use Rattle.ce_model.specs.Cube.{parcel_numbered}
 use Rattle.ce_model.specs.Renaming.{CubeGrant, block_outward}
 use Rattle.ce_model.specs.Machine.{HasHeldCube, after, nodes_of, cube_standing}
+use Rattle.ce_model.specs.Literals.{of_host}
 use Rattle.ce_solo.proofs.Counting.{count-is}
 use Rattle.rk_node.proofs.Names.{not_contained}
 use Rattle.xm_block.specs.Stores.{ids_of, with_block}
 use Rattle.rk_node.specs.Boxes.{Box, IsClean}
 use Rattle.rk_mail.specs.Items.{parcel_of}
-use Rattle.rk_mail.specs.declared.parcel.Parcel.{Parcel as Brought}
+use Rattle.rk_mail.specs.declared.parcel.Parcel.{Parcel}
 use Rattle.ce_host.specs.declared.host.Host.{Host}
 use Rattle.ce_machine.specs.Meanings.{MachineFacts}
-use Rattle.ce_machine.specs.declared.call.Call.{Call as Asking}
+use Rattle.ce_machine.specs.declared.call.Call.{Call}
 use Rattle.ce_machine.specs.declared.call.Call.TheVariants as calls
 use Rattle.ce_machine.specs.declared.call.Reply.{Reply}
 use Rattle.ce_machine.specs.declared.call.Reply.TheVariants as replies
 use Rattle.ce_machine.specs.Replies.{IsReplyTo, IsMail, found_reply}
 use Rattle.ce_cube.specs.declared.crew.SerialCrew.{SerialCrew}
 use Rattle.ce_cube.specs.Boxes.{IsHeldAs, IsAccepted, trace_store}
-use Rattle.ce_cube.specs.Crews.{IsLawfulMachine, IsHostInStep, IsCrewInStep, HasGoneOn, cube_grant}
+use Rattle.ce_cube.specs.Crews.{IsLawfulMachine, IsHostInStep, IsCrewInStep, HasGoneOn}
+use Rattle.ce_daemon.specs.Peeks.{cube_grant}
 use Rattle.ce_cube.proofs.Hosts.{hosts-take}
-use Rattle.ce_script.specs.Commands.{by_host, host_take}
+use Rattle.ce_script.specs.Commands.{host_take}
 use Rattle.ce_run.specs.Asking.{home_of, IsHostCall, HasCalled}
 use Rattle.ce_run.specs.Rounds.{HasAllowed, HasLooked, HasTaken, HasTakenNone}
-use Rattle.ce_run.proofs.Seating.{IsKeepingStore, answer-is, gone-on, gone-on-kept, may-allow, may-look, may-take}
+use Rattle.ce_run.proofs.StatesBehind.{IsKeepingStore, answer-is, gone-on, gone-on-kept, may-allow, may-look, may-take}
 
 -- ---- with another host
 
 -- a crew has another host, which is in step
-pub gone-on-with : (before behind : MachineFacts) (crew crew' : SerialCrew) (call : Asking Box) (reply : Reply Box) (machine : IsLawfulMachine before)
+pub gone-on-with : (before behind : MachineFacts) (crew crew' : SerialCrew) (call : Call Box) (reply : Reply Box) (machine : IsLawfulMachine before)
     (held : IsHeldAs before.history crew.grant.number (cube_grant crew.grant)) (host : IsHostCall before.parts before.history crew.grant.user call)
     (called : HasCalled before behind crew crew' call reply) (other : Host) → IsHostInStep before.parts behind.history crew.grant other
-    → HasGoneOn before behind crew (record crew' { host = other }) (by_host crew.grant.user called.asked.what ∷ [])
+    → HasGoneOn before behind crew (record crew' { host = other }) (of_host crew.grant.user called.exchange.what ∷ [])
 gone-on-with before behind crew crew' call reply machine held host called other stands =
     let goes = gone-on before behind (record crew { host = other }) (record crew' { host = other }) call reply machine held host
     (record {
-      asked = called.asked;
+      exchange = called.exchange;
       crew_is = ap (λ (c : SerialCrew). record c { host = other }) called.crew_is;
       nodes = record { held = called.nodes.held; boxes = called.nodes.boxes; entries = called.nodes.entries };
       trace = called.trace;
@@ -67,7 +69,7 @@ gone-on-with before behind crew crew' call reply machine held host called other 
 
 -- ---- lists of names
 
-length-put : (id : BlockId) (ids : List BlockId) → length (put id ids) ≡ length ids + 1
+length-put : (id : BlockId) (ids : List BlockId) → length (with_id id ids) ≡ length ids + 1
 length-put id [] = refl
 length-put id (x ∷ xs) = elim (cases_Bool (is_lower id x)) [
   | inl t ↦ rw t (omega arith)
@@ -94,7 +96,7 @@ one-found look_result.Quiet reply is quiet spent busy = quiet is
 one-found look_result.Spent reply is quiet spent busy = spent is
 one-found look_result.Busy reply is quiet spent busy = busy is
 
-mail-ends : (number : ℕ) (items : List Item) (reply : Reply Box) → IsMail number items reply → ((parcel : Brought) → reply ≡ replies.Mail parcel → ⊥) → ⊥
+mail-ends : (number : ℕ) (items : List Item) (reply : Reply Box) → IsMail number items reply → ((parcel : Parcel) → reply ≡ replies.Mail parcel → ⊥) → ⊥
 mail-ends number items (replies.Mail parcel) is mail = mail parcel refl
 mail-ends number items other is mail = absurd is
 
@@ -106,8 +108,8 @@ module _ (before behind : MachineFacts) (crew crew' : SerialCrew) (machine : IsL
   unfolding answer
   allowed count within called =
       let host = may-allow before.parts before.history crew machine.within machine.lawful step.held count within in
-      let is : Arm count ≡ called.asked.what = answer-is before.parts (after before.history) crew.grant.user (arm_call count) called.asked.what step.held.cube step.held.held called.asked.answer in
-      subst (λ what. HasGoneOn before behind crew crew' (by_host crew.grant.user what ∷ [])) (sym is)
+      let is : Arm count ≡ called.exchange.what = answer-is before.parts (after before.history) crew.grant.user (arm_call count) called.exchange.what step.held.cube step.held.held called.exchange.answer in
+      subst (λ what. HasGoneOn before behind crew crew' (of_host crew.grant.user what ∷ [])) (sym is)
       (gone-on-kept before behind crew crew' (calls.Arm count) reply machine step.held host called step.host (subst IsKeepingStore is tt))
 
   -- ---- it looks
@@ -116,23 +118,23 @@ module _ (before behind : MachineFacts) (crew crew' : SerialCrew) (machine : IsL
     abbrev found_now : LookResult
     found_now =
         let standing = cube_standing (after before.history) step.held.cube in
-        found_where (is_quiet (nodes_of step.held.cube.grant) standing) (is_used_up standing)
+        look_result_where (is_quiet (nodes_of step.held.cube.grant) standing) (is_used_up standing)
 
-    look-is : Look found_now ≡ called.asked.what
+    look-is : Look found_now ≡ called.exchange.what
     unfolding answer
-    look-is = answer-is before.parts (after before.history) crew.grant.user look_call called.asked.what step.held.cube step.held.held called.asked.answer
+    look-is = answer-is before.parts (after before.history) crew.grant.user look_call called.exchange.what step.held.cube step.held.held called.exchange.answer
 
     pub look-reply : reply ≡ found_reply found_now
     look-reply =
-        subst (λ what. IsReplyTo home_of IsClean before.parts (after before.history) crew.grant.user HOST what reply) (sym look-is) called.asked.reply_is
+        subst (λ what. IsReplyTo home_of IsClean before.parts (after before.history) crew.grant.user HOST what reply) (sym look-is) called.exchange.reply_is
 
     looked-now : HasLooked before behind crew crew' found_now
     looked-now =
         let host = may-look before.parts before.history crew machine.within machine.lawful step.held in
         record {
-          goes_on = subst (λ what. HasGoneOn before behind crew crew' (by_host crew.grant.user what ∷ [])) (sym look-is)
+          goes_on = subst (λ what. HasGoneOn before behind crew crew' (of_host crew.grant.user what ∷ [])) (sym look-is)
               (gone-on-kept before behind crew crew' calls.Look reply machine step.held host called step.host (subst IsKeepingStore look-is tt));
-          made = record { user = refl; actor_is = refl; what = called.asked.answer ∙ ap Some (sym look-is) };
+          made = record { user = refl; actor_is = refl; what = called.exchange.answer ∙ ap Some (sym look-is) };
         }
 
     pub looked : (found : LookResult) → reply ≡ found_reply found → HasLooked before behind crew crew' found
@@ -150,12 +152,12 @@ module _ (before behind : MachineFacts) (crew crew' : SerialCrew) (machine : IsL
     abbrev take_host : IsHostCall before.parts before.history crew.grant.user calls.HostTake
     take_host = may-take before.parts before.history crew machine.within machine.lawful step.held
 
-    take-is : HostTake (first_number items) ≡ called.asked.what
+    take-is : HostTake (first_number items) ≡ called.exchange.what
     unfolding answer
-    take-is = answer-is before.parts (after before.history) crew.grant.user mail_call called.asked.what step.held.cube step.held.held called.asked.answer
+    take-is = answer-is before.parts (after before.history) crew.grant.user mail_call called.exchange.what step.held.cube step.held.held called.exchange.answer
 
     take-reply : IsReplyTo home_of IsClean before.parts (after before.history) crew.grant.user HOST (HostTake (first_number items)) reply
-    take-reply = subst (λ what. IsReplyTo home_of IsClean before.parts (after before.history) crew.grant.user HOST what reply) (sym take-is) called.asked.reply_is
+    take-reply = subst (λ what. IsReplyTo home_of IsClean before.parts (after before.history) crew.grant.user HOST what reply) (sym take-is) called.exchange.reply_is
 
     -- what a take was answered, by the number of the message, if any
     abbrev IsTakeReply : Option ℕ → Type 0
@@ -166,36 +168,36 @@ module _ (before behind : MachineFacts) (crew crew' : SerialCrew) (machine : IsL
     take-reply-is None is = is
     take-reply-is (Some number) is = subst (λ held. IsSomeAnd held (λ cube. IsMail number cube.mail reply)) step.held.held is
 
-    taken-none : (number : Option ℕ) → HostTake number ≡ called.asked.what → IsTakeReply number → reply ≡ replies.NoMail
+    taken-none : (number : Option ℕ) → HostTake number ≡ called.exchange.what → IsTakeReply number → reply ≡ replies.NoMail
         → HasTakenNone before behind crew crew'
     taken-none None what is none =
-        subst (λ what. HasGoneOn before behind crew crew' (by_host crew.grant.user what ∷ [])) (sym what)
+        subst (λ what. HasGoneOn before behind crew crew' (of_host crew.grant.user what ∷ [])) (sym what)
         (gone-on-kept before behind crew crew' calls.HostTake reply machine step.held take_host called step.host (subst IsKeepingStore what tt))
     taken-none (Some number) what is none = absurd (subst (IsMail number items) none is)
 
     pub no-message : reply ≡ replies.NoMail → HasTakenNone before behind crew crew'
     no-message none = taken-none (first_number items) take-is (take-reply-is (first_number items) take-reply) none
 
-    reply-ends : (number : Option ℕ) → IsTakeReply number → (reply ≡ replies.NoMail → ⊥) → ((parcel : Brought) → reply ≡ replies.Mail parcel → ⊥) → ⊥
+    reply-ends : (number : Option ℕ) → IsTakeReply number → (reply ≡ replies.NoMail → ⊥) → ((parcel : Parcel) → reply ≡ replies.Mail parcel → ⊥) → ⊥
     reply-ends None is none mail = none is
     reply-ends (Some number) is none mail = mail-ends number items reply is mail
 
-    pub take-ends : (reply ≡ replies.NoMail → ⊥) → ((parcel : Brought) → reply ≡ replies.Mail parcel → ⊥) → ⊥
+    pub take-ends : (reply ≡ replies.NoMail → ⊥) → ((parcel : Parcel) → reply ≡ replies.Mail parcel → ⊥) → ⊥
     take-ends = reply-ends (first_number items) (take-reply-is (first_number items) take-reply)
 
     -- ---- with a message
 
     -- the message of this number is the first that waited
-    record HasMail (parcel : Brought) : Type 0 where
+    record HasMail (parcel : Parcel) : Type 0 where
       number : ℕ
-      what : HostTake (Some number) ≡ called.asked.what
+      what : HostTake (Some number) ≡ called.exchange.what
       waits : parcel_numbered number items ≡ Some (parcel_of parcel)
 
-    mail-by : (number : Option ℕ) → HostTake number ≡ called.asked.what → IsTakeReply number → (parcel : Brought) → reply ≡ replies.Mail parcel → HasMail parcel
+    mail-by : (number : Option ℕ) → HostTake number ≡ called.exchange.what → IsTakeReply number → (parcel : Parcel) → reply ≡ replies.Mail parcel → HasMail parcel
     mail-by None what is parcel mail = let differ : replies.NoMail ≡ replies.Mail parcel = sym is ∙ mail in absurd (cc)
     mail-by (Some number) what is parcel mail = record { number = number; what = what; waits = subst (IsMail number items) mail is }
 
-    module _ (parcel : Brought) (mail : reply ≡ replies.Mail parcel) where
+    module _ (parcel : Parcel) (mail : reply ≡ replies.Mail parcel) where
       abbrev has : HasMail parcel
       has = mail-by (first_number items) take-is (take-reply-is (first_number items) take-reply) parcel mail
 
@@ -208,7 +210,7 @@ module _ (before behind : MachineFacts) (crew crew' : SerialCrew) (machine : IsL
       accepted : IsAccepted before.parts before.history crew.grant.number (cube_grant crew.grant) entry (parcel_of parcel)
       accepted =
           hosts-take before.parts before.history crew.grant.number (cube_grant crew.grant) machine.within machine.lawful step.held has.number (parcel_of parcel) entry
-          (record { user = refl; actor_is = refl; what = called.asked.answer ∙ ap Some (sym has.what) }) refl waited
+          (record { user = refl; actor_is = refl; what = called.exchange.answer ∙ ap Some (sym has.what) }) refl waited
 
       abbrev outward : BlockId → BlockId
       outward = block_outward (cube_grant crew.grant)
@@ -239,7 +241,7 @@ module _ (before behind : MachineFacts) (crew crew' : SerialCrew) (machine : IsL
           (sym (count-is parcel.block.id (ids_of crew'.host.store.blocks)) ∙ ap (count_by (is_same_id parcel.block.id)) names ∙ accepted.new)
 
       module _ (other : Host) (stored : other ≡ record crew'.host { store = record { blocks = with_block parcel.block crew'.host.store.blocks; spare = crew'.host.store.spare - 1 } })
-          (ids : ids_of other.store.blocks ≡ put parcel.block.id (ids_of crew'.host.store.blocks)) where
+          (ids : ids_of other.store.blocks ≡ with_id parcel.block.id (ids_of crew'.host.store.blocks)) where
         abbrev number : ℕ
         number = has.number
 
@@ -247,11 +249,11 @@ module _ (before behind : MachineFacts) (crew crew' : SerialCrew) (machine : IsL
         grant = cube_grant crew.grant
 
         history-is : behind.history ≡ before.history ++ entry ∷ []
-        history-is = called.asked.history ∙ ap (λ what. before.history ++ by_host crew.grant.user what ∷ []) (sym has.what)
+        history-is = called.exchange.history ∙ ap (λ what. before.history ++ of_host crew.grant.user what ∷ []) (sym has.what)
 
         stands : IsHostInStep before.parts behind.history crew.grant other
         stands = record {
-          blocks = ids ∙ ap (put parcel.block.id) names ∙ sym accepted.stored
+          blocks = ids ∙ ap (with_id parcel.block.id) names ∙ sym accepted.stored
               ∙ ap (λ h. map outward (trace_store before.parts h crew.grant.number grant)) (sym history-is);
           room =
               omega (
@@ -275,7 +277,7 @@ module _ (before behind : MachineFacts) (crew crew' : SerialCrew) (machine : IsL
         message-taken bytes is = record {
           number = number;
           parcel = parcel_of parcel;
-          goes_on = subst (λ what. HasGoneOn before behind crew (record crew' { host = other }) (by_host crew.grant.user what ∷ [])) (sym has.what)
+          goes_on = subst (λ what. HasGoneOn before behind crew (record crew' { host = other }) (of_host crew.grant.user what ∷ [])) (sym has.what)
               (gone-on-with before behind crew crew' calls.HostTake reply machine step.held take_host called other stands);
           waited = waited;
           from_is = refl;

@@ -4,6 +4,7 @@ use Rattle.ce_model.specs.declared.topology.TheConstants.{HOST}
 use Rattle.ce_model.specs.declared.entry.What.{What}
 use Rattle.ce_model.specs.declared.entry.What.TheVariants as whats
 use Rattle.ce_model.specs.Machine.{after, peek}
+use Rattle.ce_model.specs.Literals.{of_host}
 use Rattle.ce_daemon.specs.declared.grant.PeekResult.{PeekResult}
 use Rattle.ce_daemon.specs.Peeks.{peek_result}
 use Rattle.rk_node.specs.Boxes.{Box, IsClean}
@@ -16,12 +17,11 @@ use Rattle.ce_machine.specs.Replies.{IsReplyTo}
 use Rattle.ce_host.specs.declared.command.Command.TheVariants.{Peek}
 use Rattle.ce_host.specs.declared.answer.Answer.TheVariants as answers
 use Rattle.ce_script.specs.Rounds.{serial}
-use Rattle.ce_script.specs.Commands.{by_host}
 use Rattle.ce_record.proofs.Asked.{asked}
-use Rattle.ce_run.specs.declared.seat.Seat.{Seat}
-use Rattle.ce_run.specs.Seats.{HasUser, HasDone, IsSeatAt}
+use Rattle.ce_run.specs.declared.user_state.UserState.{UserState}
+use Rattle.ce_run.specs.UserStates.{HasUser, HasDone, IsUserStateAt}
 use Rattle.ce_run.specs.Asking.{home_of, HasAsked}
-use Rattle.ce_run.proofs.Seating.{seat-beside-peek}
+use Rattle.ce_run.proofs.StatesBehind.{state-beside-peek}
 
 pub same-what : (a b : What) → Some a ≡ Some b → a ≡ b
 same-what a b e = cc
@@ -42,17 +42,17 @@ module _ (before behind : MachineFacts) (user : ℕ) (has : HasUser before user)
   pub peek-reply : reply ≡ replies.Peeked (peek_result before.parts (after before.history))
   peek-reply = subst (λ what. IsReplyTo home_of IsClean before.parts (after before.history) user HOST what reply) (sym what-is) asks.reply_is
 
-  pub peek-done : (found : PeekResult) → reply ≡ replies.Peeked found → (seat : Seat) → IsSeatAt before.parts before.history user seat
-      → HasDone before behind user Peek (answers.Peeked found) seat
-  peek-done found is seat seated =
-      let history = asks.history ∙ ap (λ what. before.history ++ by_host user what ∷ []) (sym what-is) in
+  pub peek-done : (found : PeekResult) → reply ≡ replies.Peeked found → (user_state : UserState) → IsUserStateAt before.parts before.history user user_state
+      → HasDone before behind user Peek (answers.Peeked found) user_state
+  peek-done found is user_state state_is =
+      let history = asks.history ∙ ap (λ what. before.history ++ of_host user what ∷ []) (sym what-is) in
       let same : peek_result before.parts (after before.history) ≡ found = ap (found-or found) (sym peek-reply ∙ is) in
       record {
-        made = by_host user whats.Peek ∷ [];
+        new_entries = of_host user whats.Peek ∷ [];
         parts = asks.parts;
         history = history;
         lawful = asks.lawful;
         next = asked serial before.parts before.history user Peek (record { home = 0; index = 0 }) peek whats.Peek (answers.Peeked found) has.book.within has.book.lawful refl
             (record { fits = (has.within, refl); answer = refl }) (ap (λ found. Some (answers.Peeked found)) same);
-        seated = subst (λ h. IsSeatAt before.parts h user seat) (sym history) (seat-beside-peek before behind user has.book has.within seat seated);
+        state_is = subst (λ h. IsUserStateAt before.parts h user user_state) (sym history) (state-beside-peek before behind user has.book has.within user_state state_is);
       }

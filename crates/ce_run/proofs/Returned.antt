@@ -13,10 +13,11 @@ use Rattle.ce_model.specs.Cube.{node_numbers}
 use Rattle.ce_model.specs.Subcubes.{IsSubcube, node_of}
 use Rattle.ce_model.specs.Renaming.{CubeGrant, block_outward}
 use Rattle.ce_model.specs.Machine.{MachineState, IsMachine, IsLawful, HeldCube, after, cube_held_by, all_parcels, IsFitting, freecube}
+use Rattle.ce_model.specs.Literals.{of_host}
 use Rattle.ce_solo.proofs.Projection.Law.{after-more}
 use Rattle.ce_solo.proofs.Projection.Held.{held-own, left-own}
 use Rattle.ce_daemon.specs.Boxes.{AreBoxesOf}
-use Rattle.ce_daemon.specs.Peeks.{numbered_grant}
+use Rattle.ce_daemon.specs.Peeks.{numbered_grant, cube_grant}
 use Rattle.xm_block.specs.Stores.{ids_of}
 use Rattle.rk_node.specs.Boxes.{Box, IsClean}
 use Rattle.ce_host.specs.declared.host.Host.{Host}
@@ -30,7 +31,7 @@ use Rattle.ce_machine.specs.Requests.{IsFittingCall}
 use Rattle.ce_machine.specs.Replies.{IsReplyTo, OfHeldCube, IsDrained}
 use Rattle.ce_cube.specs.declared.crew.SerialCrew.{SerialCrew}
 use Rattle.ce_cube.specs.Boxes.{trace_node, trace_store}
-use Rattle.ce_cube.specs.Crews.{IsLawfulMachine, IsCrewInStep, HasAllBlocks, AreAllHome, cube_grant, box_at}
+use Rattle.ce_cube.specs.Crews.{IsLawfulMachine, IsCrewInStep, HasAllBlocks, AreAllHome, box_at}
 use Rattle.ce_cube.specs.Rehoming.{AreAllBlocks, names_in}
 use Rattle.ce_cube.proofs.Held.{by_seen, placed-of}
 use Rattle.ce_cube.proofs.Seats.{node-said}
@@ -38,11 +39,10 @@ use Rattle.ce_cube.proofs.Hosts.{drains-fit-held}
 use Rattle.ce_cube.proofs.Returns.{placed-sub}
 use Rattle.ce_cube.proofs.Whole.{blocks-are-whole}
 use Rattle.ce_script.specs.Rounds.{serial}
-use Rattle.ce_script.specs.Commands.{by_host}
 use Rattle.ce_record.specs.Laws.{freecube_entries}
-use Rattle.ce_record.proofs.AtOnce.{freecube as freecube-next}
-use Rattle.ce_run.specs.declared.seat.Seat.TheVariants.{Free}
-use Rattle.ce_run.specs.Seats.{HasUser, HasDone}
+use Rattle.ce_record.proofs.AtOnce as at_once
+use Rattle.ce_run.specs.declared.user_state.UserState.TheVariants.{Free}
+use Rattle.ce_run.specs.UserStates.{HasUser, HasDone}
 use Rattle.ce_run.specs.Asking.{home_of, HasAsked, HasCube, HasDrained}
 use Rattle.ce_run.proofs.Peeking.{same-what}
 
@@ -62,7 +62,7 @@ module _ (before : MachineFacts) (user : ℕ) (has : HasUser before user) (holds
     pub drained-so : (blocks : Vec Block) → reply ≡ replies.Drained blocks → HasDrained before behind user blocks.items
     drained-so blocks is = record {
       parts = asks.parts;
-      history = asks.history ∙ ap (λ what. before.history ++ by_host user what ∷ []) (sym drain-is);
+      history = asks.history ∙ ap (λ what. before.history ++ of_host user what ∷ []) (sym drain-is);
       lawful = asks.lawful;
       blocks_are = subst (λ reply. OfHeldCube (after before.history) user (λ cube. IsDrained (all_parcels (after before.history) cube) reply)) is drain-reply;
     }
@@ -140,7 +140,7 @@ module _ (before : MachineFacts) (crew : SerialCrew) (has : HasUser before crew.
     drained-held : cube_held_by (after behind.history) crew.grant.user ≡ Some (record step.held.cube { is_drained = true; mail = [] })
     drained-held =
         ap (λ h. cube_held_by (after h) crew.grant.user) is.history
-        ∙ ap (λ (state : MachineState). cube_held_by state crew.grant.user) (after-more before.history (by_host crew.grant.user whats.Drain))
+        ∙ ap (λ (state : MachineState). cube_held_by state crew.grant.user) (after-more before.history (of_host crew.grant.user whats.Drain))
         ∙ held-own crew.grant.user (λ one. record one { is_drained = true; mail = [] }) (λ one. refl) (λ one node kept. record kept { waiting_items = [] })
         (after before.history) step.held.cube step.held.held
 
@@ -174,13 +174,13 @@ module _ (before : MachineFacts) (crew : SerialCrew) (has : HasUser before crew.
         pub free-reply : reply ≡ replies.Freed
         free-reply = subst (λ what. IsReplyTo home_of IsClean behind.parts (after behind.history) crew.grant.user HOST what reply) (sym free-is) asks.reply_is
 
-        last-is : end.history ≡ behind.history ++ by_host crew.grant.user whats.Freecube ∷ []
-        last-is = asks.history ∙ ap (λ what. behind.history ++ by_host crew.grant.user what ∷ []) (sym free-is)
+        last-is : end.history ≡ behind.history ++ of_host crew.grant.user whats.Freecube ∷ []
+        last-is = asks.history ∙ ap (λ what. behind.history ++ of_host crew.grant.user what ∷ []) (sym free-is)
 
         both-are : end.history ≡ before.history ++ freecube_entries crew.grant.user
         both-are =
-            last-is ∙ ap (λ h. h ++ by_host crew.grant.user whats.Freecube ∷ []) is.history
-            ∙ append_assoc before.history (by_host crew.grant.user whats.Drain ∷ []) (by_host crew.grant.user whats.Freecube ∷ [])
+            last-is ∙ ap (λ h. h ++ of_host crew.grant.user whats.Freecube ∷ []) is.history
+            ∙ append_assoc before.history (of_host crew.grant.user whats.Drain ∷ []) (of_host crew.grant.user whats.Freecube ∷ [])
 
         lawful-end : IsLawful before.parts end.history
         lawful-end = subst (λ parts. IsLawful parts end.history) is.parts asks.lawful
@@ -188,15 +188,15 @@ module _ (before : MachineFacts) (crew : SerialCrew) (has : HasUser before crew.
         none-left : cube_held_by (after end.history) crew.grant.user ≡ None
         none-left =
             ap (λ h. cube_held_by (after h) crew.grant.user) last-is
-            ∙ ap (λ (state : MachineState). cube_held_by state crew.grant.user) (after-more behind.history (by_host crew.grant.user whats.Freecube))
+            ∙ ap (λ (state : MachineState). cube_held_by state crew.grant.user) (after-more behind.history (of_host crew.grant.user whats.Freecube))
             ∙ left-own crew.grant.user (after behind.history)
 
         pub freed-done : HasDone before end crew.grant.user Freecube Freed (Free host)
         freed-done = record {
-          made = freecube_entries crew.grant.user;
+          new_entries = freecube_entries crew.grant.user;
           parts = asks.parts ∙ is.parts;
           history = both-are;
           lawful = lawful-end;
-          next = freecube-next serial before.parts before.history crew.grant.user step.held.cube step.held.held;
-          seated = (none-left, home.1);
+          next = at_once.freecube_next serial before.parts before.history crew.grant.user step.held.cube step.held.held;
+          state_is = (none-left, home.1);
         }

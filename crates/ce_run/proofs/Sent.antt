@@ -15,6 +15,7 @@ use Rattle.ce_model.specs.Answers.{answer}
 use Rattle.ce_model.specs.Cube.{send_bytes}
 use Rattle.ce_model.specs.Renaming.{CubeGrant, block_outward, place_outward}
 use Rattle.ce_model.specs.Machine.{IsFitting, after, what_of_request, cube_standing, in_cube}
+use Rattle.ce_model.specs.Literals.{of_host}
 use Rattle.xm_block.specs.Stores.{ids_of}
 use Rattle.rk_mail.specs.Targets.{targets_of, bytes_of, with_bytes}
 use Rattle.rk_mail.specs.declared.talk.Hearing.{Hearing}
@@ -32,25 +33,20 @@ use Rattle.ce_machine.specs.declared.call.Reply.TheVariants as replies
 use Rattle.ce_machine.specs.Replies.{IsReplyTo, IsHeard, actor_items}
 use Rattle.ce_cube.specs.declared.crew.SerialCrew.{SerialCrew}
 use Rattle.ce_cube.specs.Boxes.{trace_store}
-use Rattle.ce_cube.specs.Crews.{IsLawfulMachine, IsHostInStep, IsCrewInStep, cube_grant}
+use Rattle.ce_cube.specs.Crews.{IsLawfulMachine, IsHostInStep, IsCrewInStep}
+use Rattle.ce_daemon.specs.Peeks.{cube_grant}
 use Rattle.ce_cube.proofs.Hosts.{hosts-fit, hosts-send}
 use Rattle.ce_script.specs.Rounds.{serial}
-use Rattle.ce_script.specs.Commands.{by_host}
-use Rattle.ce_record.specs.Asked.{reply_by}
+use Rattle.ce_record.specs.Asked.{entry_reply}
 use Rattle.ce_record.specs.Run.{IsNextCommand}
 use Rattle.ce_record.proofs.Moments.{map-none}
 use Rattle.ce_record.proofs.Asked.{asked}
 use Rattle.ce_record.proofs.AtOnce.{no_store}
-use Rattle.ce_run.specs.declared.seat.Seat.TheVariants.{Holding}
-use Rattle.ce_run.specs.Seats.{HasDone}
+use Rattle.ce_run.specs.declared.user_state.UserState.TheVariants.{Holding}
+use Rattle.ce_run.specs.UserStates.{HasDone}
 use Rattle.ce_run.specs.Asking.{home_of, IsHostCall, HasCalled}
-use Rattle.ce_run.proofs.Seating.{answer-is, done-at-once, done-by}
+use Rattle.ce_run.proofs.StatesBehind.{answer-is, done-at-once, done-by, heard-or}
 use Rattle.ce_run.proofs.Looking.{gone-on-with}
-
--- what a reply has that was heard
-abbrev heard-or : Hearing → Reply Box → Hearing
-heard-or none (replies.Heard heard) = heard
-heard-or none other = none
 
 -- the least block of a store goes out with the bytes
 record IsMessage (to : Place) (bytes : List ℕ) (blocks : List Block) (batch : List (Place × Block)) : Type 0 where
@@ -153,15 +149,15 @@ module _ (before : MachineFacts) (crew : SerialCrew) (machine : IsLawfulMachine 
 
     module _ (behind : MachineFacts) (host : Host) (crew' : SerialCrew) (reply : Reply Box)
         (called : HasCalled before behind (record crew { host = host }) crew' (calls.Say (say.Send 0 batch)) reply) where
-      answered-so : what_of_request before.parts (after before.history) crew.grant.user HOST (in_cube call) ≡ Some called.asked.what
-      answered-so = ap (λ call. what_of_request before.parts (after before.history) crew.grant.user HOST (in_cube call)) (sym call-is) ∙ called.asked.answer
+      answered-so : what_of_request before.parts (after before.history) crew.grant.user HOST (in_cube call) ≡ Some called.exchange.what
+      answered-so = ap (λ call. what_of_request before.parts (after before.history) crew.grant.user HOST (in_cube call)) (sym call-is) ∙ called.exchange.answer
 
       abbrev sent : What
       sent = whats.Send 0 (cube_standing (after before.history) step.held.cube).parcel_count ((place_outward step.held.cube.grant.sub to, goes.block.id) ∷ []) bytes
 
-      sent-is : sent ≡ called.asked.what
+      sent-is : sent ≡ called.exchange.what
       unfolding answer
-      sent-is = answer-is before.parts (after before.history) crew.grant.user call called.asked.what step.held.cube step.held.held answered-so
+      sent-is = answer-is before.parts (after before.history) crew.grant.user call called.exchange.what step.held.cube step.held.held answered-so
 
       abbrev items : List Item
       items = actor_items (after before.history) step.held.cube HOST
@@ -169,7 +165,7 @@ module _ (before : MachineFacts) (crew : SerialCrew) (machine : IsLawfulMachine 
       heard-sent : IsHeard items sent reply
       heard-sent =
           subst (λ held. IsSomeAnd held (λ cube. IsHeard (actor_items (after before.history) cube HOST) sent reply)) step.held.held
-          (subst (λ what. IsReplyTo home_of IsClean before.parts (after before.history) crew.grant.user HOST what reply) (sym sent-is) called.asked.reply_is)
+          (subst (λ what. IsReplyTo home_of IsClean before.parts (after before.history) crew.grant.user HOST what reply) (sym sent-is) called.exchange.reply_is)
 
       reply-by : (reply : Reply Box) → IsHeard items sent reply → reply ≡ replies.Heard (Posted [])
       reply-by (replies.Heard heard) is = ap replies.Heard is
@@ -185,10 +181,10 @@ module _ (before : MachineFacts) (crew : SerialCrew) (machine : IsLawfulMachine 
       module _ (rest : host.store.blocks ≡ drop 1 crew.host.store.blocks) (room : host.store.spare ≡ crew.host.store.spare + 1)
           (other : Host) (regained : other ≡ record crew'.host { spare = Some [] }) where
         abbrev entry : Entry
-        entry = by_host crew.grant.user sent
+        entry = of_host crew.grant.user sent
 
         history-is : behind.history ≡ before.history ++ entry ∷ []
-        history-is = called.asked.history ∙ ap (λ what. before.history ++ by_host crew.grant.user what ∷ []) (sym sent-is)
+        history-is = called.exchange.history ∙ ap (λ what. before.history ++ of_host crew.grant.user what ∷ []) (sym sent-is)
 
         store-behind : trace_store before.parts behind.history crew.grant.number grant ≡ first.rest
         store-behind =
@@ -224,8 +220,8 @@ module _ (before : MachineFacts) (crew : SerialCrew) (machine : IsLawfulMachine 
 
         pub sent-done : HasDone before behind crew.grant.user (Send to bytes) answers.Ok (Holding (record crew' { host = other }))
         sent-done =
-            done-by before behind (record crew { host = host }) (record crew' { host = other }) (by_host crew.grant.user called.asked.what ∷ []) (Send to bytes) answers.Ok
+            done-by before behind (record crew { host = host }) (record crew' { host = other }) (of_host crew.grant.user called.exchange.what ∷ []) (Send to bytes) answers.Ok
             (gone-on-with before behind (record crew { host = host }) crew' (calls.Say (say.Send 0 batch)) reply machine step.held may-send called other stands)
-            (asked serial before.parts before.history crew.grant.user (Send to bytes) goes.block.id (in_cube call) called.asked.what answers.Ok machine.within machine.lawful refl
+            (asked serial before.parts before.history crew.grant.user (Send to bytes) goes.block.id (in_cube call) called.exchange.what answers.Ok machine.within machine.lawful refl
             (record { fits = fits; answer = answered-so })
-            (subst (λ what. reply_by before.parts (after before.history) what ≡ Some answers.Ok) sent-is refl))
+            (subst (λ what. entry_reply before.parts (after before.history) what ≡ Some answers.Ok) sent-is refl))

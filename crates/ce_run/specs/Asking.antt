@@ -1,5 +1,5 @@
 -- What a user's host asks of the machine, and how its crew stands behind that.
-use Rattle.std.specs.Prelude.{◌≡◌, ℕ, ◌+◌, ◌^◌, ◌<◌, false, List, [], ◌∷◌, ◌++◌, Some, length, map}
+use Rattle.std.specs.Prelude.{◌≡◌, ℕ, ◌+◌, ◌<◌, false, List, [], ◌∷◌, ◌++◌, Some, length, map}
 use Rattle.ce_model.specs.declared.topology.TheConstants.{HOST}
 use Rattle.ce_model.specs.Blocks.{Block}
 use Rattle.ce_model.specs.declared.entry.Entry.{Entry}
@@ -9,7 +9,9 @@ use Rattle.ce_model.specs.Node as model
 use Rattle.ce_model.specs.Renaming.{entry_inward}
 use Rattle.ce_model.specs.Views.{view}
 use Rattle.ce_model.specs.Machine.{MachineParts, IsLawful, HasHeldCube, after, all_parcels, what_of_request, in_cube, IsFitting}
+use Rattle.ce_model.specs.Literals.{of_host}
 use Rattle.rk_node.specs.Boxes.{Box, IsClean}
+use Rattle.ce_lock.specs.declared.limits.TheConstants.{HISTORY_LIMIT}
 use Rattle.ce_machine.specs.Meanings.{MachineFacts}
 use Rattle.ce_machine.specs.declared.call.Call.{Call}
 use Rattle.ce_machine.specs.declared.call.Reply.{Reply}
@@ -17,8 +19,8 @@ use Rattle.ce_machine.specs.Requests.{request_of}
 use Rattle.ce_machine.specs.Replies.{IsReplyTo}
 use Rattle.ce_cube.specs.declared.crew.SerialCrew.{SerialCrew}
 use Rattle.ce_cube.specs.Boxes.{IsHeldAs}
-use Rattle.ce_cube.specs.Crews.{AreBoxesInStep, cube_grant}
-use Rattle.ce_script.specs.Commands.{by_host}
+use Rattle.ce_cube.specs.Crews.{AreBoxesInStep}
+use Rattle.ce_daemon.specs.Peeks.{cube_grant}
 
 -- the home of a box
 abbrev pub home_of : Box → ℕ
@@ -28,9 +30,9 @@ home_of box = box.node.home
 pub record HasAsked (before behind : MachineFacts) (user : ℕ) (call : Call Box) (reply : Reply Box) : Type 0 where
   pub what : What
   pub parts : behind.parts ≡ before.parts
-  pub history : behind.history ≡ before.history ++ by_host user what ∷ []
+  pub history : behind.history ≡ before.history ++ of_host user what ∷ []
   pub lawful : IsLawful before.parts behind.history
-  pub few : length behind.history < 2 ^ 63
+  pub few : length behind.history < HISTORY_LIMIT
   pub answer : what_of_request before.parts (after before.history) user HOST (request_of call) ≡ Some what
   pub reply_is : IsReplyTo home_of IsClean before.parts (after before.history) user HOST what reply
 
@@ -50,11 +52,11 @@ pub record IsHostCall (parts : MachineParts) (history : List Entry) (user : ℕ)
 
 -- The host of a crew made this call of its cube: the trace is longer by its entry, and all but the host is in step.
 pub record HasCalled (before behind : MachineFacts) (crew crew' : SerialCrew) (call : Call Box) (reply : Reply Box) : Type 0 where
-  pub asked : HasAsked before behind crew.grant.user call reply
+  pub exchange : HasAsked before behind crew.grant.user call reply
   pub crew_is : crew' ≡ record crew { entries = crew.entries + 1 }
   pub nodes : AreNodesInStep before.parts behind.history crew'
   pub trace : view behind.history crew.grant.number
-      ≡ view before.history crew.grant.number ++ entry_inward crew.grant.sub (by_host crew.grant.user asked.what) ∷ []
+      ≡ view before.history crew.grant.number ++ entry_inward crew.grant.sub (of_host crew.grant.user exchange.what) ∷ []
 
 -- the start or the end of a process
 abbrev pub IsStartOrEnd : model.Call → Type 0
@@ -71,6 +73,6 @@ HasCube history user = HasHeldCube history user (λ cube. cube.is_drained ≡ fa
 -- A user's cube was drained: these are the blocks of all that waited in it.
 pub record HasDrained (before behind : MachineFacts) (user : ℕ) (blocks : List Block) : Type 0 where
   pub parts : behind.parts ≡ before.parts
-  pub history : behind.history ≡ before.history ++ by_host user Drain ∷ []
+  pub history : behind.history ≡ before.history ++ of_host user Drain ∷ []
   pub lawful : IsLawful before.parts behind.history
   pub blocks_are : HasHeldCube before.history user (λ cube. blocks ≡ map (λ parcel. parcel.block) (all_parcels (after before.history) cube))

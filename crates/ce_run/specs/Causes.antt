@@ -1,14 +1,14 @@
 -- Why a run ended as it did.
 use Rattle.std.specs.Prelude.{◌≡◌, ℕ, List, Option, Some, None, true, take}
 use Rattle.std.specs.Io.KnownBytes.{append_known}
-use Rattle.ce_words.specs.Line.{IsAccepted, asked_line}
-use Rattle.ce_run.specs.declared.ended.RunFault.{RunFault}
-use Rattle.ce_run.specs.declared.ended.RunFault.TheVariants.{Usage, Write, Memory}
+use Rattle.ce_words.specs.Line.{IsCommandLine, asked_line}
+use Rattle.ce_run.specs.declared.run_end.RunFault.{RunFault}
+use Rattle.ce_run.specs.declared.run_end.RunFault.TheVariants.{Usage, Write, Memory}
 use Rattle.ce_run.specs.Fault.{status_of}
 
 -- the words are a line that the program takes, and it asks for a run on one thread
 pub record IsServed (words : List (List ℕ)) : Type 0 where
-  pub accepted : IsAccepted words
+  pub accepted : IsCommandLine words
   pub serial : (asked_line words).is_serial ≡ true
 
 -- the exit status
@@ -22,9 +22,9 @@ HasRunToEnd None = Unit {0}
 HasRunToEnd (Some Write) = Unit {0}
 HasRunToEnd (Some other) = ⊥
 
-abbrev pub IsNoMemory : Option RunFault → Type 0
-IsNoMemory (Some (Memory fault)) = Unit {0}
-IsNoMemory other = ⊥
+abbrev pub IsRunNoMemory : Option RunFault → Type 0
+IsRunNoMemory (Some (Memory fault)) = Unit {0}
+IsRunNoMemory other = ⊥
 
 -- a fault that ends the reading of a script
 abbrev pub IsReadingFault : RunFault → Type 0

@@ -1,7 +1,7 @@
 pub mod Fault
 pub mod Causes
 pub mod Promise
-pub mod Seats
+pub mod UserStates
 pub mod Asking
 pub mod Rounds
 pub mod Script

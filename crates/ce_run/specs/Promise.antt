@@ -16,14 +16,15 @@ use Rattle.ce_script.specs.Rounds.{RoundKind, serial, threaded}
 use Rattle.ce_script.specs.Legal.{IsLegal}
 use Rattle.ce_script.specs.Serial.{IsSerial}
 use Rattle.ce_script.specs.Texts.{report, summary}
+use Rattle.ce_script.specs.declared.limited_script.LimitedScript.{LimitedScript}
 use Rattle.ce_script.specs.declared.record.Record.{Record}
 use Rattle.ce_script.specs.declared.script.Script.{Script}
 use Rattle.ce_script.specs.declared.script.ScriptFault.{ScriptFault}
-use Rattle.ce_run.specs.declared.ended.RunEnd.{RunEnd}
-use Rattle.ce_run.specs.declared.ended.RunFault.{RunFault}
-use Rattle.ce_run.specs.declared.ended.RunFault.TheVariants as run_fault
+use Rattle.ce_run.specs.declared.run_end.RunEnd.{RunEnd}
+use Rattle.ce_run.specs.declared.run_end.RunFault.{RunFault}
+use Rattle.ce_run.specs.declared.run_end.RunFault.TheVariants as run_fault
 use Rattle.ce_model.specs.declared.limits.TheConstants.{SCRIPT_LIMIT}
-use Rattle.ce_run.specs.Causes.{status_of_end, IsServed, IsNoMemory, HasRunToEnd, HasReported}
+use Rattle.ce_run.specs.Causes.{status_of_end, IsServed, IsRunNoMemory, HasRunToEnd, HasReported}
 use Rattle.ce_run.specs.Fault.{line_of}
 
 -- How a run ended: the status of each fault, the cause of each fault but Memory, which is free, what was read, and what was
@@ -35,14 +36,14 @@ pub record HasEnded {S K : Type 0} (words : List (List ℕ)) (source : Reading S
   pub kept : IsSome end.kept ↔ HasRunToEnd end.fault
   -- Usage comes exactly where the words are refused or ask for threads; and then nothing is read
   pub usage : end.fault ≡ Some run_fault.Usage → ¬ IsServed words
-  pub served : IsServed words ⊎ ((end.fault ≡ Some run_fault.Usage) ⊎ IsNoMemory end.fault)
+  pub served : IsServed words ⊎ ((end.fault ≡ Some run_fault.Usage) ⊎ IsRunNoMemory end.fault)
   pub unread : end.fault ≡ Some run_fault.Usage → source.new ≡ source.old
   -- what the source gave in the call, which is nothing where a load is asked for
   pub bytes : List ℕ
   pub gave : HasGiven source bytes
   pub load_unread : IsServed words → IsSome (asked_line words).load → source.new ≡ source.old
   -- and then nothing but the sink and memory can fail
-  pub load_runs : IsServed words → IsSome (asked_line words).load → HasRunToEnd end.fault ⊎ IsNoMemory end.fault
+  pub load_runs : IsServed words → IsSome (asked_line words).load → HasRunToEnd end.fault ⊎ IsRunNoMemory end.fault
   -- TooLong comes exactly where it gave more than a script may have, and then by a piece more at most
   pub too_long : (end.fault ≡ Some run_fault.TooLong) ↔ (SCRIPT_LIMIT < length bytes)
   pub bounded : length bytes ≤ SCRIPT_LIMIT + PIECE
@@ -94,15 +95,15 @@ HasWork None source =
 -- What is accepted is run and reported to its end, unless the source, the sink or memory fails.
 pub record IsComplete {S K : Type 0} (words : List (List ℕ)) (source : Reading S) (sink : Writing K) (fault : Option RunFault) : Type 0 where
   pub answered : IsServed words → HasWork (asked_line words).load source → ¬ HasRisen (source.faults source.old) (source.faults source.new)
-      → ¬ HasRisen (sink.faults sink.old) (sink.faults sink.new) → (fault ≡ None) ⊎ IsNoMemory fault
+      → ¬ HasRisen (sink.faults sink.old) (sink.faults sink.new) → (fault ≡ None) ⊎ IsRunNoMemory fault
 
 -- how the reading of a script went
-pub record HasReadScript {S : Type 0} (source : Reading S) (result : Result Script RunFault) : Type 0 where
+pub record HasReadScript {S : Type 0} (source : Reading S) (result : Result LimitedScript RunFault) : Type 0 where
   pub bytes : List ℕ
   pub gave : HasGiven source bytes
   pub too_long : IsErrOf result run_fault.TooLong ↔ (SCRIPT_LIMIT < length bytes)
   pub bounded : length bytes ≤ SCRIPT_LIMIT + PIECE
-  pub is_script : IfOk result (λ script. IsAtEnd (source.left source.new) × IsScript bytes script)
+  pub is_script : IfOk result (λ limited. IsAtEnd (source.left source.new) × IsScript bytes limited.script)
   pub faulty : (fault : ScriptFault) → IsErrOf result (run_fault.Script fault)
       → IsAtEnd (source.left source.new) × (first_fault bytes ≡ Some fault)
 
@@ -114,7 +115,7 @@ pub record HasFinished {K : Type 0} (script : Script) (seed : Option ℕ) (sink 
   pub legal : IfSome end.kept (IsLegal serial script)
   pub serial : IfSome end.kept (IsSerial script)
   pub reported : IfSome end.kept (λ kept. HasReported end.fault (text_of seed script kept) (sink.written sink.old) (sink.written sink.new))
-  pub fault : HasRunToEnd end.fault ⊎ IsNoMemory end.fault
+  pub fault : HasRunToEnd end.fault ⊎ IsRunNoMemory end.fault
   pub write : end.fault ≡ Some run_fault.Write → HasRisen (sink.faults sink.old) (sink.faults sink.new)
   pub no_write_failed : (end.fault ≡ Some run_fault.Write) ⊎ (sink.faults sink.new ≡ sink.faults sink.old)
   pub unwritten : HasRunToEnd end.fault ⊎ (sink.new ≡ sink.old)
@@ -129,7 +130,7 @@ pub record IsPromised {S K : Type 0} (words : List (List ℕ)) (source : Reading
 -- or written.
 pub record HasRefusedWords {S K : Type 0} (error : Error) (source : Reading S) (sink : Writing K) (end : RunEnd) : Type 0 where
   pub status : end.status ≡ status_of_end end.fault
-  pub memory : error_kind error ≡ OutOfMemory → IsNoMemory end.fault
+  pub memory : error_kind error ≡ OutOfMemory → IsRunNoMemory end.fault
   pub usage : (end.fault ≡ Some run_fault.Usage) ⊎ (error_kind error ≡ OutOfMemory)
   pub unread : source.new ≡ source.old
   pub unwritten : sink.new ≡ sink.old

@@ -10,22 +10,28 @@ use Rattle.ce_model.specs.Parcels.{Parcel}
 use Rattle.ce_model.specs.Node.{look_call}
 use Rattle.ce_model.specs.Cube.{parcel_numbered}
 use Rattle.ce_model.specs.Machine.{HasHeldCube}
+use Rattle.ce_model.specs.Literals.{of_host}
 use Rattle.ce_machine.specs.Meanings.{MachineFacts}
+use Rattle.ce_host.specs.declared.command.Command.{Command}
+use Rattle.ce_host.specs.declared.answer.Answer.{Answer}
 use Rattle.ce_cube.specs.declared.crew.SerialCrew.{SerialCrew}
 use Rattle.ce_cube.specs.Boxes.{IsMadeBy}
-use Rattle.ce_cube.specs.Crews.{HasGoneOn, cube_grant}
+use Rattle.ce_cube.specs.Crews.{HasGoneOn}
+use Rattle.ce_daemon.specs.Peeks.{cube_grant}
 use Rattle.ce_script.specs.Rounds.{serial, joined_lists}
-use Rattle.ce_script.specs.Commands.{by_host, host_take}
+use Rattle.ce_script.specs.Commands.{host_take}
 use Rattle.ce_record.specs.CubeRounds.{IsRoundOf}
+use Rattle.ce_run.specs.declared.user_state.UserState.TheVariants.{Holding}
+use Rattle.ce_run.specs.UserStates.{HasCrew, HasDone}
 
 -- a crew's host allowed so many dispatches
 abbrev pub HasAllowed : MachineFacts → MachineFacts → SerialCrew → SerialCrew → ℕ → Type 0
-HasAllowed before behind crew crew' count = HasGoneOn before behind crew crew' (by_host crew.grant.user (Arm count) ∷ [])
+HasAllowed before behind crew crew' count = HasGoneOn before behind crew crew' (of_host crew.grant.user (Arm count) ∷ [])
 
 -- a crew's host looked, and found this
 pub record HasLooked (before behind : MachineFacts) (crew crew' : SerialCrew) (found : LookResult) : Type 0 where
-  pub goes_on : HasGoneOn before behind crew crew' (by_host crew.grant.user (Look found) ∷ [])
-  pub made : IsMadeBy before.parts before.history (cube_grant crew.grant) HOST look_call (by_host crew.grant.user (Look found))
+  pub goes_on : HasGoneOn before behind crew crew' (of_host crew.grant.user (Look found) ∷ [])
+  pub made : IsMadeBy before.parts before.history (cube_grant crew.grant) HOST look_call (of_host crew.grant.user (Look found))
 
 -- a crew's host took no message, since none waited
 abbrev pub HasTakenNone : MachineFacts → MachineFacts → SerialCrew → SerialCrew → Type 0
@@ -47,3 +53,9 @@ pub record HasRunRounds (before behind : MachineFacts) (crew crew' : SerialCrew)
   pub goes_on : HasGoneOn before behind crew crew' (joined_lists rounds ++ last)
   pub with_work : AllByRecursion (IsRoundOf serial crew.grant.user (cube_grant crew.grant) true) rounds
   pub without_work : IsRoundOf serial crew.grant.user (cube_grant crew.grant) false last
+
+-- Behind each allowance of dispatches the command is carried out that asks for so many, with this answer.
+abbrev pub HasEndedCommand : (ℕ → Command) → MachineFacts → MachineFacts → SerialCrew → SerialCrew → Answer → Type 0
+HasEndedCommand command armed behind crew crew' answer =
+    (before : MachineFacts) (first : SerialCrew) (count : ℕ) → HasCrew before first → HasAllowed before armed first crew count
+    → HasDone before behind first.grant.user (command count) answer (Holding crew')

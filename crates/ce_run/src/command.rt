@@ -4,13 +4,13 @@ ghost use Rattle.std.specs.String.{string_bytes};
 ghost use Rattle.std.specs.IoError.{error_kind};
 ghost use Rattle.std.specs.declared.io.ErrorKind.TheVariants.{OutOfMemory};
 ghost use Rattle.ce_io.specs.Whole.{reading, writing};
-ghost use Rattle.ce_run.specs.Causes.{IsNoMemory, HasRunToEnd};
+ghost use Rattle.ce_run.specs.Causes.{IsRunNoMemory, HasRunToEnd};
 ghost use Rattle.ce_run.specs.Promise.{HasRefusedWords, IsTold, IsPromised};
-ghost use Rattle.ce_run.specs.declared.ended.RunEnd.{RunEnd};
-ghost use Rattle.ce_run.specs.declared.ended.RunFault.TheVariants.{Usage};
+ghost use Rattle.ce_run.specs.declared.run_end.RunEnd.{RunEnd};
+ghost use Rattle.ce_run.specs.declared.run_end.RunFault.TheVariants.{Usage};
 
-use crate::ended::{RunEnd, RunFault, write_fault};
 use crate::program::{refusal, top};
+use crate::run_end::{RunEnd, RunFault, write_fault};
 use ce_gate::Gate;
 use ce_io::{Sink, Source};
 use ce_model::NoMemory;
@@ -42,17 +42,17 @@ pub fn run_command<R: Threads + Sync, S: Source, K: Sink, E: Sink, G: Gate>(
         (reading S.left S.given S.faults source.old source.new)
         (writing K.written K.faults sink.old sink.new) end) }
 {
-    let ended = match words {
+    let end = match words {
         Ok(words) => top(rt, alloc, words.as_slice(), source, sink, gate),
         Err(error) => refusal(words_fault(&error)),
     };
-    tell(ended.fault, errors);
-    ended.status
+    tell(end.fault, errors);
+    end.status
 }
 
 /// Why words can't be read.
 fn words_fault(error: &io::Error) -> RunFault
-    ensures memory { error_kind error.now ≡ OutOfMemory → IsNoMemory (Some result) }
+    ensures memory { error_kind error.now ≡ OutOfMemory → IsRunNoMemory (Some result) }
     ensures usage { (result ≡ Usage) ⊎ (error_kind error.now ≡ OutOfMemory) }
     ensures refusal { HasRunToEnd (Some result) → ⊥ }
 {

@@ -1,27 +1,25 @@
 //! What each command of a user does.
-ghost use Rattle.std.specs.Prelude.{◌≡◌, ◌≤◌, IfOk, length};
+ghost use Rattle.std.specs.Prelude.{◌≡◌, IfOk, length};
 ghost use Rattle.ce_model.specs.declared.topology.TheConstants.{HOST};
 ghost use Rattle.ce_host.specs.declared.command.Command.{Command};
 ghost use Rattle.ce_host.specs.declared.command.Command.TheVariants.{Freecube};
 ghost use Rattle.ce_script.specs.Bounds.{IsCommandWithin};
-ghost use Rattle.ce_cube.specs.Crews.{IsHostAtHome};
-ghost use Rattle.ce_model.specs.Machine.{after, cube_held_by};
-ghost use Rattle.ce_run.specs.Seats.{HasCrew, HasDone, HasUser, IsSeatAt};
-ghost use Rattle.ce_run.specs.declared.seat.Seat.TheVariants.{Free, Holding};
+ghost use Rattle.ce_run.specs.UserStates.{HasDone, HasReadyCrew, HasReadyUser, HasUser, IsUserStateAt};
+ghost use Rattle.ce_run.specs.declared.user_state.UserState.TheVariants.{Free, Holding};
 
 mod cubes;
 mod running;
 mod sending;
 mod telling;
 
-use crate::seat::Seat;
+use crate::user_state::UserState;
 use ce_cube::SerialCrew;
 use ce_host::{Answer, Command, Host};
 use ce_machine::Machine;
 use ce_model::NoMemory;
 use cubes::{free_cube, get_cube, peek};
 use rk_node::NodeBox;
-use running::{receive, run};
+use running::{allow, receive, run};
 use rv_image::Image;
 use sending::{end, send, start};
 use std::alloc::Global;
@@ -33,19 +31,19 @@ pub(crate) fn carry_out(
     machine: &mut Machine<NodeBox>,
     images: &[Image],
     user: u32,
-    seat: Seat,
+    user_state: UserState,
     command: &Command,
-) -> Result<(Seat, Answer), NoMemory>
+) -> Result<(UserState, Answer), NoMemory>
     requires user { HasUser machine.old user }
     requires images { images.now ≡ machine.old.parts.images }
-    requires seat { IsSeatAt machine.old.parts machine.old.history user seat }
+    requires user_state { IsUserStateAt machine.old.parts machine.old.history user user_state }
     requires command { IsCommandWithin (length machine.old.parts.images) command.now }
     ensures { IfOk result (λ done.
         HasDone machine.old machine.new user command.now done.1 done.0) }
 {
-    match seat {
-        Seat::Free(host) => for_free(alloc, machine, images, user, host, command),
-        Seat::Holding(crew) => for_holder(alloc, machine, images, crew, command),
+    match user_state {
+        UserState::Free(host) => for_free(alloc, machine, images, user, host, command),
+        UserState::Holding(crew) => for_holder(alloc, machine, images, crew, command),
     }
 }
 
@@ -57,11 +55,8 @@ fn for_free(
     user: u32,
     host: Host,
     command: &Command,
-) -> Result<(Seat, Answer), NoMemory>
-    requires user { HasUser machine.old user }
-    requires images { images.now ≡ machine.old.parts.images }
-    requires free { cube_held_by (after machine.old.history) user ≡ None }
-    requires host { IsHostAtHome user host }
+) -> Result<(UserState, Answer), NoMemory>
+    requires ready { HasReadyUser machine.old images.now user host }
     requires command { IsCommandWithin (length machine.old.parts.images) command.now }
     ensures { IfOk result (λ done.
         HasDone machine.old machine.new user command.now done.1 done.0) }
@@ -70,9 +65,9 @@ fn for_free(
         Command::Getcube(dim) => get_cube(alloc, machine, images, user, host, *dim),
         Command::Peek => {
             let answer = peek(alloc, machine, user)?;
-            Ok((Seat::Free(host), answer))
+            Ok((UserState::Free(host), answer))
         }
-        _ => Ok((Seat::Free(host), Answer::NoCube)),
+        _ => Ok((UserState::Free(host), Answer::NoCube)),
     }
 }
 
@@ -83,9 +78,8 @@ fn for_holder(
     images: &[Image],
     mut crew: SerialCrew,
     command: &Command,
-) -> Result<(Seat, Answer), NoMemory>
-    requires images { images.now ≡ machine.old.parts.images }
-    requires crew { HasCrew machine.old crew }
+) -> Result<(UserState, Answer), NoMemory>
+    requires ready { HasReadyCrew machine.old images.now crew }
     requires command { IsCommandWithin (length machine.old.parts.images) command.now }
     ensures { IfOk result (λ done.
         HasDone machine.old machine.new crew.grant.user command.now done.1 done.0) }
@@ -94,7 +88,7 @@ fn for_holder(
         return free_cube(alloc, machine, crew);
     }
     let answer = in_cube(alloc, machine, images, &mut crew, command)?;
-    Ok((Seat::Holding(crew), answer))
+    Ok((UserState::Holding(crew), answer))
 }
 
 /// A command of a user who holds a cube, and holds it still behind the command.
@@ -105,8 +99,7 @@ fn in_cube(
     crew: &mut SerialCrew,
     command: &Command,
 ) -> Result<Answer, NoMemory>
-    requires images { images.now ≡ machine.old.parts.images }
-    requires crew { HasCrew machine.old crew.old }
+    requires ready { HasReadyCrew machine.old images.now crew.old }
     requires within { IsCommandWithin (length machine.old.parts.images) command.now }
     requires stays { ¬ (command.now ≡ Freecube) }
     ensures { IfOk result (λ answer.
@@ -118,8 +111,14 @@ fn in_cube(
         Command::Spawn(image, to) => start(alloc, machine, crew, *image, *to),
         Command::Kill(to) => end(alloc, machine, crew, *to),
         Command::Send(to, bytes) => send(alloc, machine, crew, *to, bytes),
-        Command::Run(count) => run(alloc, machine, images, crew, *count),
-        Command::Recv(count) => receive(alloc, machine, images, crew, *count),
+        Command::Run(count) => {
+            allow(alloc, machine, crew, *count)?;
+            run(alloc, machine, images, crew)
+        }
+        Command::Recv(count) => {
+            allow(alloc, machine, crew, *count)?;
+            receive(alloc, machine, images, crew)
+        }
         Command::Dump(at) => Ok(status(crew, *at)),
         Command::Trace => Ok(Answer::Entries(crew.entries)),
         Command::Freecube => unreachable!(),

@@ -4,14 +4,14 @@
 mod asking;
 mod command;
 mod commands;
-mod ended;
 mod program;
-mod seat;
+mod run_end;
 mod serial;
+mod user_state;
 
 pub use command::run_command;
-pub use ended::{RunEnd, RunFault, write_fault};
 pub use program::{serial_call, top};
+pub use run_end::{RunEnd, RunFault, write_fault};
 
 #[cfg(test)]
 mod tests;

@@ -4,22 +4,21 @@ ghost use Rattle.std.specs.String.{string_bytes};
 ghost use Rattle.ce_io.specs.Faults.{HasRisen};
 ghost use Rattle.ce_io.specs.Whole.{reading, writing};
 ghost use Rattle.ce_words.specs.Line.{asked_line};
-ghost use Rattle.ce_script.specs.Bounds.{IsWithinLimits};
 ghost use Rattle.ce_script.specs.Legal.{IsLegal};
 ghost use Rattle.ce_script.specs.Rounds.{serial};
 ghost use Rattle.ce_script.specs.Serial.{IsSerial};
-ghost use Rattle.ce_run.specs.Causes.{status_of_end, IsReadingFault, IsNoMemory, IsServed, HasRunToEnd, HasReported};
+ghost use Rattle.ce_run.specs.Causes.{status_of_end, IsReadingFault, IsRunNoMemory, IsServed, HasRunToEnd, HasReported};
 ghost use Rattle.ce_run.specs.Fault.{status_of};
 ghost use Rattle.ce_run.specs.Promise.{IsPromised, HasEnded, HasReadScript, HasRun, HasFinished, IsComplete, text_of};
 ghost use Rattle.ce_script.specs.Load.{load};
-ghost use Rattle.ce_run.specs.declared.ended.RunFault.TheVariants.{Read, Usage, Write};
+ghost use Rattle.ce_run.specs.declared.run_end.RunFault.TheVariants.{Read, Usage, Write};
 
-use crate::ended::{RunEnd, RunFault};
+use crate::run_end::{RunEnd, RunFault};
 use crate::serial::run_serial;
 use ce_gate::Gate;
 use ce_io::{ReadError, Sink, Source, read_to_end, write_all};
 use ce_model::{NoMemory, SCRIPT_LIMIT};
-use ce_script::{Record, Script, ScriptKind, make, read_script};
+use ce_script::{LimitedScript, Record, ScriptKind, make, read_script};
 use ce_trace::{write_report, write_summary};
 use ce_words::{CommandLine, CommandLineError, read_line};
 use std::alloc::Global;
@@ -29,7 +28,7 @@ use std::thread::Threads;
 /// summary. `words` are the words of the command line behind the program's name: `--serial`, and `--load N` for a load.
 ///
 /// Lines without `--serial` are refused as `Usage`: nothing runs on further threads yet, and the gate is not called. The
-/// faults are those of `Fault`, and `Ended` says what each leaves.
+/// faults are those of `RunFault`, and `HasEnded` says what each leaves.
 pub fn top<R: Threads + Sync, S: Source, K: Sink, G: Gate>(
     _rt: &R,
     alloc: Global,
@@ -78,7 +77,7 @@ fn load_asked(alloc: Global, words: &[String]) -> Result<Option<u32>, RunFault>
     ensures load { IfOk result (λ load. (asked_line (map string_bytes words.now)).load ≡ load) }
     ensures refused { IfErr result (λ fault. fault ≡ Usage
         → ¬ IsServed (map string_bytes words.now)) }
-    ensures fault { IfErr result (λ fault. (fault ≡ Usage) ⊎ IsNoMemory (Some fault)) }
+    ensures fault { IfErr result (λ fault. (fault ≡ Usage) ⊎ IsRunNoMemory (Some fault)) }
 {
     match read_line(alloc, words) {
         Ok(
@@ -117,9 +116,8 @@ fn run_load<K: Sink>(alloc: Global, seed: u32, sink: &mut K) -> RunEnd
 }
 
 /// Reads a script from a source.
-fn read_source<S: Source>(alloc: Global, source: &mut S) -> Result<Script, RunFault>
+fn read_source<S: Source>(alloc: Global, source: &mut S) -> Result<LimitedScript, RunFault>
     ensures read { HasReadScript (reading S.left S.given S.faults source.old source.new) result }
-    ensures within { IfOk result IsWithinLimits }
     ensures failed { IsErrOf result Read → HasRisen (S.faults source.old) (S.faults source.new) }
     ensures passed { IsErrOf result Read ⊎ (S.faults source.new ≡ S.faults source.old) }
     ensures fault { IfErr result IsReadingFault }
@@ -140,11 +138,16 @@ fn read_source<S: Source>(alloc: Global, source: &mut S) -> Result<Script, RunFa
 }
 
 /// Runs a script and writes its report, or, where it is the load of a seed, the summary.
-fn run_script<K: Sink>(alloc: Global, script: &Script, seed: Option<u32>, sink: &mut K) -> RunEnd
-    requires { IsWithinLimits script.now }
-    ensures { HasFinished script.now seed (writing K.written K.faults sink.old sink.new) result }
+fn run_script<K: Sink>(
+    alloc: Global,
+    limited: &LimitedScript,
+    seed: Option<u32>,
+    sink: &mut K,
+) -> RunEnd
+    ensures { HasFinished limited.now.script seed
+        (writing K.written K.faults sink.old sink.new) result }
 {
-    match record_and_text(alloc, script, seed) {
+    match record_and_text(alloc, limited, seed) {
         Ok((kept, text)) => write_text(kept, text, sink),
         Err(fault) => refusal(RunFault::Memory(fault)),
     }
@@ -153,17 +156,16 @@ fn run_script<K: Sink>(alloc: Global, script: &Script, seed: Option<u32>, sink: 
 /// The record of a script's run, and the text that is written about it.
 fn record_and_text(
     alloc: Global,
-    script: &Script,
+    limited: &LimitedScript,
     seed: Option<u32>,
 ) -> Result<(Record, Vec<u8>), NoMemory>
-    requires { IsWithinLimits script.now }
-    ensures legal { IfOk result (λ made. IsLegal serial script.now made.0) }
-    ensures serial { IfOk result (λ made. IsSerial script.now made.0) }
-    ensures text { IfOk result (λ made. made.1.items ≡ text_of seed script.now made.0) }
+    ensures legal { IfOk result (λ made. IsLegal serial limited.now.script made.0) }
+    ensures serial { IfOk result (λ made. IsSerial limited.now.script made.0) }
+    ensures text { IfOk result (λ made. made.1.items ≡ text_of seed limited.now.script made.0) }
 {
-    let kept = run_serial(alloc, script)?;
+    let kept = run_serial(alloc, limited)?;
     let text = match seed {
-        None => write_report(alloc, script, &kept)?,
+        None => write_report(alloc, &limited.script, &kept)?,
         Some(seed) => write_summary(alloc, seed, &kept)?,
     };
     Ok((kept, text))

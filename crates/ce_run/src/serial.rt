@@ -5,20 +5,20 @@ ghost use Rattle.ce_model.specs.Machine.{IsMachine};
 ghost use Rattle.ce_daemon.specs.Boxes.{AreBoxes};
 ghost use Rattle.rk_node.specs.Boxes.{IsClean};
 ghost use Rattle.ce_script.specs.declared.script.Script.{Script};
-ghost use Rattle.ce_script.specs.Bounds.{IsWithinLimits, IsCommandWithin};
+ghost use Rattle.ce_script.specs.Bounds.{IsCommandWithin};
 ghost use Rattle.ce_script.specs.Doings.{Doing};
 ghost use Rattle.ce_script.specs.Legal.{IsLegal, machine_of};
 ghost use Rattle.ce_script.specs.Rounds.{serial};
 ghost use Rattle.ce_script.specs.Serial.{IsSerial};
 ghost use Rattle.ce_run.specs.Asking.{home_of};
-ghost use Rattle.ce_run.specs.Script.{AreOpenSeats, HasGoneFurther, IsRunBehind};
+ghost use Rattle.ce_run.specs.Script.{AreFreeStates, HasGoneFurther, IsRunBehind};
 
 use crate::commands::carry_out;
-use crate::seat::Seat;
+use crate::user_state::UserState;
 use ce_host::{Command, Host};
 use ce_machine::Machine;
 use ce_model::{Bytes, GREATEST_BLOCKS, NoMemory};
-use ce_script::{Name, NamedImage, Record, Script, UserRecord};
+use ce_script::{LimitedScript, Name, NamedImage, Record, UserRecord};
 use rk_node::NodeBox;
 use rv_image::Image;
 use sqlite_items::Items;
@@ -26,13 +26,12 @@ use std::alloc::Global;
 
 /// Carries out the commands of a script one after another, in the script's order, on a machine of its own. A script without
 /// users makes no machine, and its record is empty. `NoMemory` may come at any time.
-pub(crate) fn run_serial(alloc: Global, script: &Script) -> Result<Record, NoMemory>
-    requires { IsWithinLimits script.now }
-    ensures legal { IfOk result (IsLegal serial script.now) }
-    ensures serial { IfOk result (IsSerial script.now) }
+pub(crate) fn run_serial(alloc: Global, limited: &LimitedScript) -> Result<Record, NoMemory>
+    ensures legal { IfOk result (IsLegal serial limited.now.script) }
+    ensures serial { IfOk result (IsSerial limited.now.script) }
 {
-    match script.dim {
-        Some(dim) if !script.users.is_empty() => run_on_machine(alloc, script, dim),
+    match limited.script.dim {
+        Some(dim) if !limited.script.users.is_empty() => run_on_machine(alloc, limited, dim),
         _ => Ok(Record {
             users: Items::new(alloc),
             history: Items::new(alloc),
@@ -42,23 +41,23 @@ pub(crate) fn run_serial(alloc: Global, script: &Script) -> Result<Record, NoMem
 
 /// The run of a script that has users, on a machine of its dimension.
 #[tactic(auto, using(ce_model::specs::Limits::greatest_users_lem))]
-fn run_on_machine(alloc: Global, script: &Script, dim: u32) -> Result<Record, NoMemory>
-    requires within { IsWithinLimits script.now }
-    requires dim { script.now.dim ≡ Some dim }
-    requires users { 0 < length script.now.users }
-    ensures legal { IfOk result (IsLegal serial script.now) }
-    ensures serial { IfOk result (IsSerial script.now) }
+fn run_on_machine(alloc: Global, limited: &LimitedScript, dim: u32) -> Result<Record, NoMemory>
+    requires dim { limited.now.script.dim ≡ Some dim }
+    requires users { 0 < length limited.now.script.users }
+    ensures legal { IfOk result (IsLegal serial limited.now.script) }
+    ensures serial { IfOk result (IsSerial limited.now.script) }
 {
+    let script = &limited.script;
     let images = copy_images(alloc, script.images.as_slice())?;
-    let mut machine = open_machine(alloc, script, dim)?;
-    let mut seats = open_seats(alloc, script.users.len() as u32)?;
+    let mut machine = open_machine(alloc, limited, dim)?;
+    let mut user_states = open_user_states(alloc, script.users.len() as u32)?;
     let mut users = open_records(alloc, script.users.as_slice())?;
     for (user, command) in script.commands.as_slice() {
         go_further(
             alloc,
             &mut machine,
             images.as_slice(),
-            seats.as_mut_slice(),
+            user_states.as_mut_slice(),
             users.as_mut_slice(),
             *user,
             command,
@@ -76,7 +75,7 @@ fn go_further(
     alloc: Global,
     machine: &mut Machine<NodeBox>,
     images: &[Image],
-    seats: &mut [Option<Seat>],
+    user_states: &mut [Option<UserState>],
     users: &mut [UserRecord],
     user: u32,
     command: &Command,
@@ -86,15 +85,15 @@ fn go_further(
     requires user { user < length users.old }
     requires command { IsCommandWithin (length machine.old.parts.images) command.now }
     requires behind { (script : Script) × (all : List (ℕ × Doing))
-        × IsRunBehind script machine.old seats.old users.old all }
+        × IsRunBehind script machine.old user_states.old users.old all }
     ensures { OnOk result (HasGoneFurther machine.old machine.new
-        seats.old seats.new users.old users.new user command.now) }
+        user_states.old user_states.new users.old users.new user command.now) }
 {
-    let Some(seat) = seats[user as usize].take() else {
+    let Some(user_state) = user_states[user as usize].take() else {
         unreachable!()
     };
-    let (seat, answer) = carry_out(alloc, machine, images, user, seat, command)?;
-    seats[user as usize] = Some(seat);
+    let (user_state, answer) = carry_out(alloc, machine, images, user, user_state, command)?;
+    user_states[user as usize] = Some(user_state);
     let command = copy_command(alloc, command)?;
     users[user as usize].done.push((command, answer))?;
     Ok(())
@@ -102,13 +101,17 @@ fn go_further(
 
 /// The machine of a script, whose nodes have clean boxes.
 #[tactic(auto, using(ce_model::specs::Limits::greatest_users_lem))]
-fn open_machine(alloc: Global, script: &Script, dim: u32) -> Result<Machine<NodeBox>, NoMemory>
-    requires within { IsWithinLimits script.now }
-    requires dim { script.now.dim ≡ Some dim }
-    requires users { 0 < length script.now.users }
+fn open_machine(
+    alloc: Global,
+    limited: &LimitedScript,
+    dim: u32,
+) -> Result<Machine<NodeBox>, NoMemory>
+    requires dim { limited.now.script.dim ≡ Some dim }
+    requires users { 0 < length limited.now.script.users }
     ensures { IfOk result (λ machine.
-        machine ≡ record { parts = machine_of script.now; history = [] }) }
+        machine ≡ record { parts = machine_of limited.now.script; history = [] }) }
 {
+    let script = &limited.script;
     let images = copy_images(alloc, script.images.as_slice())?;
     let boxes = open_boxes(alloc, dim)?;
     Machine::new(alloc, dim, script.users.len() as u32, images, boxes)
@@ -139,16 +142,16 @@ fn open_boxes(alloc: Global, dim: u32) -> Result<Vec<NodeBox>, NoMemory>
     Ok(boxes)
 }
 
-/// The seats of so many users, who hold no cube.
-fn open_seats(alloc: Global, users: u32) -> Result<Vec<Option<Seat>>, NoMemory>
+/// What so many users have, who hold no cube.
+fn open_user_states(alloc: Global, users: u32) -> Result<Vec<Option<UserState>>, NoMemory>
     requires { users ≤ greatest_users }
-    ensures { IfOk result (λ seats. AreOpenSeats users seats.items) }
+    ensures { IfOk result (λ user_states. AreFreeStates users user_states.items) }
 {
-    let mut seats = Vec::new(alloc);
+    let mut user_states = Vec::new(alloc);
     for user in 0..users {
-        seats.push(Some(Seat::Free(Host::new(alloc, user)?)))?;
+        user_states.push(Some(UserState::Free(Host::new(alloc, user)?)))?;
     }
-    Ok(seats)
+    Ok(user_states)
 }
 
 /// The records of users who did nothing.

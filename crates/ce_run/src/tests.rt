@@ -8,9 +8,10 @@ use ce_gate::Open;
 use ce_io::{MemSink, MemSource};
 use ce_model::SCRIPT_LIMIT;
 use rows::{
-    ANSWERS, DEAD, ENDLESS, GONE, HELLO, HELLO_WORDS, IMAGE_AS_BYTES, JUMPS, LONGEST_POLLER,
-    NO_FIT, NO_STATEMENTS, NO_USERS, NOT_CONTIGUOUS, NOTHING_ALLOWED, NUMBERS, REFUSED_COMMANDS,
-    RENAMING, Row, SIZES, STOP_CAUSES, TIE, TURN_LIMIT, UNBORN, USED_AGAIN, WINDOWS, XMSEND,
+    ANSWERS, DEAD, ENDLESS, GONE, HELLO, HELLO_REPORT, HELLO_SCRIPT, HELLO_SPAWN, HELLO_START,
+    HELLO_WORDS, IMAGE_AS_BYTES, JUMPS, LONGEST_POLLER, NO_FIT, NO_STATEMENTS, NO_USERS,
+    NOT_CONTIGUOUS, NOTHING_ALLOWED, NUMBERS, REFUSED_COMMANDS, RENAMING, Row, SIZES, STOP_CAUSES,
+    TIE, TURN_LIMIT, UNBORN, USED_AGAIN, WINDOWS, XMSEND,
 };
 use std::alloc::Global;
 use std::io;
@@ -22,8 +23,8 @@ use std::thread::Threads;
 #[derive(Drop)]
 struct Ran {
     status: u8,
-    written: Vec<u8>,
-    told: Vec<u8>,
+    report_text: Vec<u8>,
+    fault_line: Vec<u8>,
 }
 
 /// How the memory behaves: which calls fail, and how many bytes a call moves at most.
@@ -31,13 +32,13 @@ struct Ran {
 struct Ends<'a> {
     failing_read: &'a [u64],
     failing_write: &'a [u64],
-    most: usize,
+    greatest_piece: usize,
 }
 
 const SOUND: Ends<'static> = Ends {
     failing_read: &[],
     failing_write: &[],
-    most: 4096,
+    greatest_piece: 4096,
 };
 
 /// The whole program but for its `main`.
@@ -48,14 +49,14 @@ fn run_line<R: Threads + Sync>(
     script: &[u8],
     ends: Ends,
 ) -> Result<Ran, Fail>
-    requires { 1 ≤ ends.most }
+    requires { 1 ≤ ends.greatest_piece }
 {
     let words = words_of(alloc, line)?;
     let bytes = Vec::from_slice(alloc, script)?;
     let reads = Vec::from_slice(alloc, ends.failing_read)?;
     let writes = Vec::from_slice(alloc, ends.failing_write)?;
-    let mut source = MemSource::new(bytes, reads, ends.most);
-    let mut sink = memory_sink(alloc, writes, ends.most)?;
+    let mut source = MemSource::new(bytes, reads, ends.greatest_piece);
+    let mut sink = memory_sink(alloc, writes, ends.greatest_piece)?;
     let mut errors = memory_sink(alloc, Vec::new(alloc), 4096)?;
     let status = run_command(
         rt,
@@ -68,8 +69,8 @@ fn run_line<R: Threads + Sync>(
     );
     Ok(Ran {
         status,
-        written: Vec::from_slice(alloc, sink.bytes())?,
-        told: Vec::from_slice(alloc, errors.bytes())?,
+        report_text: Vec::from_slice(alloc, sink.bytes())?,
+        fault_line: Vec::from_slice(alloc, errors.bytes())?,
     })
 }
 
@@ -81,10 +82,14 @@ fn words_of(alloc: Global, line: &[&str]) -> Result<Vec<String>, Fail> {
     Ok(words)
 }
 
-fn memory_sink(alloc: Global, fails: Vec<u64>, most: usize) -> Result<MemSink, Fail>
-    requires { 1 ≤ most }
+fn memory_sink(
+    alloc: Global,
+    failing_calls: Vec<u64>,
+    greatest_piece: usize,
+) -> Result<MemSink, Fail>
+    requires { 1 ≤ greatest_piece }
 {
-    Ok(MemSink::new(alloc, 262_144, fails, most).map_err(|_| "no memory")?)
+    Ok(MemSink::new(alloc, 262_144, failing_calls, greatest_piece).map_err(|_| "no memory")?)
 }
 
 fn run_script<R: Threads + Sync>(rt: &R, alloc: Global, script: &str) -> Result<Ran, Fail> {
@@ -105,15 +110,16 @@ fn text(alloc: Global, parts: &[(&str, u32)]) -> Result<String, Fail> {
 /// The script of a row has the row's report.
 fn holds<R: Threads + Sync + Abort>(rt: &R, alloc: Global, row: &Row) -> Result<(), Fail> {
     let script = row.script.concat(alloc)?;
+    let report = row.report.concat(alloc)?;
     let ran = run_script(rt, alloc, script.as_str())?;
     assert_eq!(rt; ran.status, 0, "{}", row.title);
     assert_eq!(rt;
-        ran.written.as_slice(),
-        row.report.as_bytes(),
+        ran.report_text.as_slice(),
+        report.as_bytes(),
         "{}",
         row.title
     );
-    assert_eq!(rt; ran.told.len(), 0, "{}", row.title);
+    assert_eq!(rt; ran.fault_line.len(), 0, "{}", row.title);
     Ok(())
 }
 
@@ -169,35 +175,24 @@ fn worked_texts(rt: HostRuntime) -> Result<(), Fail> {
     Ok(())
 }
 
-/// A script that runs hello, in pieces.
-const HELLO_SCRIPT: &[&str] = &[
-    "machine 0\nimage hello hex\n",
-    HELLO_WORDS,
-    "end\nuser alice\ngetcube 0\nspawn hello 0 0\nrun 10\n",
-];
-
-const HELLO_REPORT: &str =
-    "machine 0\nuser alice\ngetcube 0\n= granted mask 0 base 0\nspawn hello 0 0\n= ok\n\
-    run 10\n= quiet\ncube 0 user alice dim 0 mask 0 base 0\nhost spawn 0 hello 0.0 ok\nhost arm 10\n\
-    node 0 take 0 0 - start 0 hello\nnode 0 note 0 42\nnode 0 take 0 1 - idle\nhost look quiet\nend\n";
-
 /// Both public calls, over a source and a sink that move a few bytes at a time.
 #[test]
 fn hello_by_both_calls(rt: HostRuntime) -> Result<(), Fail> {
     let alloc = rt.alloc();
     let script = HELLO_SCRIPT.concat(alloc)?;
+    let report = HELLO_REPORT.concat(alloc)?;
     for through_top in [true, false] {
         let words = words_of(alloc, &["--serial"])?;
         let bytes = Vec::from_slice(alloc, script.as_bytes())?;
         let mut source = MemSource::new(bytes, Vec::new(alloc), 7);
         let mut sink = memory_sink(alloc, Vec::new(alloc), 7)?;
-        let ended = if through_top {
+        let end = if through_top {
             top(&rt, alloc, words.as_slice(), &mut source, &mut sink, &Open)
         } else {
             serial_call(alloc, words.as_slice(), &mut source, &mut sink)
         };
-        assert_eq!(rt; ended.status, 0);
-        assert_eq!(rt; sink.bytes(), HELLO_REPORT.as_bytes());
+        assert_eq!(rt; end.status, 0);
+        assert_eq!(rt; sink.bytes(), report.as_bytes());
     }
     Ok(())
 }
@@ -216,7 +211,7 @@ fn polling(rt: HostRuntime) -> Result<(), Fail> {
     let ran = run_script(&rt, rt.alloc(), script)?;
     let want = text(rt.alloc(), &[(head, 1), (poll, 99), (tail, 1)])?;
     assert_eq!(rt; ran.status, 0);
-    assert_eq!(rt; ran.written.as_slice(), want.as_bytes());
+    assert_eq!(rt; ran.report_text.as_slice(), want.as_bytes());
     Ok(())
 }
 
@@ -241,7 +236,7 @@ fn no_store(rt: HostRuntime) -> Result<(), Fail> {
     }
     want.push_str("end\n")?;
     assert_eq!(rt; ran.status, 0);
-    assert_eq!(rt; ran.written.as_slice(), want.as_bytes());
+    assert_eq!(rt; ran.report_text.as_slice(), want.as_bytes());
     Ok(())
 }
 
@@ -268,7 +263,7 @@ fn store(rt: HostRuntime) -> Result<(), Fail> {
     want.push_str(tail)?;
     let ran = run_script(&rt, alloc, script)?;
     assert_eq!(rt; ran.status, 0);
-    assert_eq!(rt; ran.written.as_slice(), want.as_bytes());
+    assert_eq!(rt; ran.report_text.as_slice(), want.as_bytes());
     Ok(())
 }
 
@@ -286,7 +281,7 @@ fn load(rt: HostRuntime) -> Result<(), Fail> {
     for line in lines {
         let ran = run_line(&rt, rt.alloc(), line, b"not read".as_slice(), SOUND)?;
         assert_eq!(rt; ran.status, 0);
-        assert_eq!(rt; ran.written.as_slice(), LOAD_0.as_bytes());
+        assert_eq!(rt; ran.report_text.as_slice(), LOAD_0.as_bytes());
     }
     Ok(())
 }
@@ -304,14 +299,14 @@ fn usage(rt: HostRuntime) -> Result<(), Fail> {
         &["--load", "0"],
         &[],
     ];
-    let told = b"ce: usage: ce [--serial] [--load N]\n".as_slice();
+    let fault_line = b"ce: usage: ce [--serial] [--load N]\n".as_slice();
     let alloc = rt.alloc();
     let script = HELLO_SCRIPT.concat(alloc)?;
     for line in lines {
         let ran = run_line(&rt, alloc, line, script.as_bytes(), SOUND)?;
         assert_eq!(rt; ran.status, 2);
-        assert_eq!(rt; ran.written.len(), 0);
-        assert_eq!(rt; ran.told.as_slice(), told);
+        assert_eq!(rt; ran.report_text.len(), 0);
+        assert_eq!(rt; ran.fault_line.as_slice(), fault_line);
     }
     Ok(())
 }
@@ -339,16 +334,20 @@ fn no_script(rt: HostRuntime) -> Result<(), Fail> {
             "ce: line 3: unknown image\n",
         ),
     ];
-    for (script, told) in rows {
+    for (script, fault_line) in rows {
         let ran = run_script(&rt, alloc, script)?;
         assert_eq!(rt; ran.status, 1, "{script}");
-        assert_eq!(rt; ran.written.len(), 0, "{script}");
-        assert_eq!(rt; ran.told.as_slice(), told.as_bytes(), "{script}");
+        assert_eq!(rt; ran.report_text.len(), 0, "{script}");
+        assert_eq!(rt;
+            ran.fault_line.as_slice(),
+            fault_line.as_bytes(),
+            "{script}"
+        );
     }
     Ok(())
 }
 
-/// A script may have 1,048,576 bytes, and a text of one more is refused, whatever it says.
+/// A script may have `SCRIPT_LIMIT` bytes, and a text of one more is refused, whatever it says.
 #[test]
 fn script_limits(rt: HostRuntime) -> Result<(), Fail> {
     let alloc = rt.alloc();
@@ -359,36 +358,47 @@ fn script_limits(rt: HostRuntime) -> Result<(), Fail> {
     }
     let ran = run_script(&rt, alloc, script.as_str())?;
     assert_eq!(rt; ran.status, 0);
-    assert_eq!(rt; ran.written.as_slice(), b"machine 0\nend\n".as_slice());
+    assert_eq!(rt; ran.report_text.as_slice(), b"machine 0\nend\n".as_slice());
     script.push('#')?;
     let ran = run_script(&rt, alloc, script.as_str())?;
     assert_eq!(rt; ran.status, 1);
-    assert_eq!(rt; ran.written.len(), 0);
-    assert_eq!(rt; ran.told.as_slice(), b"ce: script too long\n".as_slice());
+    assert_eq!(rt; ran.report_text.len(), 0);
+    assert_eq!(rt;
+        ran.fault_line.as_slice(),
+        b"ce: script too long\n".as_slice()
+    );
     Ok(())
 }
 
-/// An image that fills its room: 30,720 words. One more is refused.
+/// Runs hello, with so many words of zero behind its own.
+fn run_with_zeros<R: Threads + Sync>(rt: &R, alloc: Global, zeros: u32) -> Result<Ran, Fail> {
+    let script = text(
+        alloc,
+        &[
+            (HELLO_START, 1),
+            (HELLO_WORDS, 1),
+            ("00000000\n", zeros),
+            (HELLO_SPAWN, 1),
+            ("run 10\n", 1),
+        ],
+    )?;
+    run_script(rt, alloc, script.as_str())
+}
+
+/// An image of `IMAGE_ROOM` bytes fills its room. A word more is refused.
 #[test]
 fn an_image_of_the_greatest_length(rt: HostRuntime) -> Result<(), Fail> {
     let alloc = rt.alloc();
-    let head = "machine 0\nimage hello hex\n";
-    let rest = "end\nuser alice\ngetcube 0\nspawn hello 0 0\nrun 10\n";
-    let zeros = "00000000\n";
-    let script = text(
-        alloc,
-        &[(head, 1), (HELLO_WORDS, 1), (zeros, 30_715), (rest, 1)],
-    )?;
-    let ran = run_script(&rt, alloc, script.as_str())?;
+    let report = HELLO_REPORT.concat(alloc)?;
+    let ran = run_with_zeros(&rt, alloc, 30_715)?;
     assert_eq!(rt; ran.status, 0);
-    assert_eq!(rt; ran.written.as_slice(), HELLO_REPORT.as_bytes());
-    let script = text(
-        alloc,
-        &[(head, 1), (HELLO_WORDS, 1), (zeros, 30_716), (rest, 1)],
-    )?;
-    let ran = run_script(&rt, alloc, script.as_str())?;
+    assert_eq!(rt; ran.report_text.as_slice(), report.as_bytes());
+    let ran = run_with_zeros(&rt, alloc, 30_716)?;
     assert_eq!(rt; ran.status, 1);
-    assert_eq!(rt; ran.told.as_slice(), b"ce: line 2: bad image\n".as_slice());
+    assert_eq!(rt;
+        ran.fault_line.as_slice(),
+        b"ce: line 2: bad image\n".as_slice()
+    );
     Ok(())
 }
 
@@ -410,7 +420,7 @@ fn a_turn_of_the_most_notes(rt: HostRuntime) -> Result<(), Fail> {
     )?;
     let ran = run_script(&rt, alloc, script)?;
     assert_eq!(rt; ran.status, 0);
-    assert_eq!(rt; ran.written.as_slice(), want.as_bytes());
+    assert_eq!(rt; ran.report_text.as_slice(), want.as_bytes());
     Ok(())
 }
 
@@ -422,21 +432,21 @@ fn faults(rt: HostRuntime) -> Result<(), Fail> {
     let broken_source = Ends {
         failing_read: &[0],
         failing_write: &[],
-        most: 4096,
+        greatest_piece: 4096,
     };
     let ran = run_line(&rt, alloc, &["--serial"], script.as_bytes(), broken_source)?;
     assert_eq!(rt; ran.status, 3);
-    assert_eq!(rt; ran.written.len(), 0);
-    assert_eq!(rt; ran.told.as_slice(), b"ce: read fault\n".as_slice());
+    assert_eq!(rt; ran.report_text.len(), 0);
+    assert_eq!(rt; ran.fault_line.as_slice(), b"ce: read fault\n".as_slice());
     let broken_sink = Ends {
         failing_read: &[],
         failing_write: &[2],
-        most: 8,
+        greatest_piece: 8,
     };
     let ran = run_line(&rt, alloc, &["--serial"], script.as_bytes(), broken_sink)?;
     assert_eq!(rt; ran.status, 5);
-    assert_eq!(rt; ran.written.as_slice(), b"machine 0\nuser a".as_slice());
-    assert_eq!(rt; ran.told.as_slice(), b"ce: write fault\n".as_slice());
+    assert_eq!(rt; ran.report_text.as_slice(), b"machine 0\nuser a".as_slice());
+    assert_eq!(rt; ran.fault_line.as_slice(), b"ce: write fault\n".as_slice());
     Ok(())
 }
 
@@ -451,7 +461,7 @@ fn words_that_cannot_be_read(rt: HostRuntime) -> Result<(), Fail> {
         let mut source = MemSource::new(Vec::new(alloc), Vec::new(alloc), 1);
         let mut sink = memory_sink(alloc, Vec::new(alloc), 1)?;
         let mut errors = memory_sink(alloc, Vec::new(alloc), 3)?;
-        let ended = run_command(
+        let exit = run_command(
             &rt,
             alloc,
             Err(io::Error::from(kind)),
@@ -460,7 +470,7 @@ fn words_that_cannot_be_read(rt: HostRuntime) -> Result<(), Fail> {
             &mut errors,
             &Open,
         );
-        assert_eq!(rt; ended, status);
+        assert_eq!(rt; exit, status);
         assert_eq!(rt; sink.bytes().len(), 0);
     }
     Ok(())

@@ -10,12 +10,12 @@ use Rattle.std.proofs.lemmas.List.Concat.{flat_map-append}
 use Rattle.std.specs.Prelude.{option_map, IfSome}
 use Rattle.std.specs.List.{list_any, slice_split, onto_first, position_or_len, before_first, after_first, AllByRecursion}
 use Rattle.ce_text.specs.Bytes.{is_line_feed}
-use Rattle.ce_text.specs.Line.{cut}
+use Rattle.ce_text.specs.Line.{cut_parts}
 use Rattle.ce_script.specs.declared.reader.rest.Rest.{Rest}
 use Rattle.ce_script.specs.declared.reader.rest.Body.{Body}
 use Rattle.ce_script.specs.Lines.{Line, size_of}
 use Rattle.ce_script.specs.Statements.{is_end, found_body}
-use Rattle.ce_script.specs.ReadLines.{texts_left, numbered_lines, left_of, lines_left, reach_of, IsNext, IsBodyIn, remaining_statements}
+use Rattle.ce_script.specs.ReadLines.{texts_left, numbered_lines, left_of, lines_left, reach_of, IsFirstLine, IsBodyIn, remaining_statements}
 use Rattle.ce_script.proofs.BodyLines.{left, left_shorter, line_at, joined, text_is, first_line, numbered_append}
 use Rattle.ce_script.proofs.Outside.{past_body, body_there, body_missing}
 
@@ -71,12 +71,12 @@ parted front behind bytes true lt same found =
     ∙ ap (λ (text : List ℕ). front ++ (10 ∷ text)) (sym after)
 parted front behind bytes false lt same found = absurd cc
 
-cut_bytes : (front behind bytes : List ℕ) → (front, Some behind) ≡ cut is_line_feed bytes → bytes ≡ front ++ 10 ∷ behind
-unfolding cut
+cut_bytes : (front behind bytes : List ℕ) → (front, Some behind) ≡ cut_parts is_line_feed bytes → bytes ≡ front ++ 10 ∷ behind
+unfolding cut_parts
 cut_bytes front behind bytes e = parted front behind bytes (nat_lt (position_or_len is_line_feed bytes) (length bytes)) refl
     (ap (λ (parts : List ℕ × Option (List ℕ)). parts.0) e) (ap (λ (parts : List ℕ × Option (List ℕ)). parts.1) e)
 
-cut_piece : (front behind bytes : List ℕ) → (front, Some behind) ≡ cut is_line_feed bytes → IsPiece front
+cut_piece : (front behind bytes : List ℕ) → (front, Some behind) ≡ cut_parts is_line_feed bytes → IsPiece front
 cut_piece front behind bytes e =
     append_cancel_right (slice_split is_line_feed front) (front ∷ []) (slice_split is_line_feed behind)
     (sym (split_apart front behind) ∙ ap (slice_split is_line_feed) (sym (cut_bytes front behind bytes e))
@@ -118,13 +118,13 @@ pub reach_shorter : (here : Rest) (bytes : List ℕ) (behind : Option (Bor (List
 reach_shorter here bytes behind e shorter = omega (arith, ap size_of e, left_shorter behind (length bytes) shorter)
 
 -- the lines that are left begin with the next one
-pub next_line : (here : Rest) (front : List ℕ) (next : Rest) → IsNext here front next → lines_left here ≡ line_at next.line_count front ∷ lines_left next
+pub next_line : (here : Rest) (front : List ℕ) (next : Rest) → IsFirstLine here front next → lines_left here ≡ line_at next.line_count front ∷ lines_left next
 next_line here front next step =
     ap (λ (left : Option (List ℕ)). numbered_lines (here.line_count + 1) (texts_left left)) step.is
     ∙ first_line (here.line_count + 1) step.bytes front (left_of next) step.parts
     ∙ ap (λ (n : ℕ). line_at n front ∷ numbered_lines (n + 1) (texts_left (left_of next))) (sym step.before)
 
-module _ (rest here next : Rest) (all front : List ℕ) (up : IsUpTo rest all here) (step : IsNext here front next) where
+module _ (rest here next : Rest) (all front : List ℕ) (up : IsUpTo rest all here) (step : IsFirstLine here front next) where
   abbrev line : Line
   line = line_at next.line_count front
 
@@ -163,7 +163,7 @@ module _ (rest here next : Rest) (all front : List ℕ) (up : IsUpTo rest all he
   more_bytes : (left : Option (Bor (List ℕ))) → next.text ≡ left → IfSome here.text (λ bytes. IsAt up.done all bytes.now) → IfSome left (λ behind. IsAt (up.done ++ front ∷ []) all behind.now)
   more_bytes None e at = tt
   more_bytes (Some behind) e at =
-      let behind_is : (front, Some behind.now) ≡ cut is_line_feed step.bytes = ap (λ (it : Option (Bor (List ℕ))). (front, option_map (λ b. b.now) it)) (sym e) ∙ step.parts in
+      let behind_is : (front, Some behind.now) ≡ cut_parts is_line_feed step.bytes = ap (λ (it : Option (Bor (List ℕ))). (front, option_map (λ b. b.now) it)) (sym e) ∙ step.parts in
       let here_at = is_at up.done all here.text step.bytes step.is at in
       record {
         joins =

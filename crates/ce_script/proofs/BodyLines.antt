@@ -6,7 +6,7 @@ use Rattle.std.specs.Prelude.{find, flat_map, option_map, unwrap_or, is_none, If
 use Rattle.std.specs.Option.{option_or}
 use Rattle.std.specs.List.{list_any, slice_split}
 use Rattle.ce_text.specs.Bytes.{is_line_feed}
-use Rattle.ce_text.specs.Line.{cut, before_comment}
+use Rattle.ce_text.specs.Line.{cut_parts, before_comment}
 use Rattle.ce_text.specs.Words.{words_between}
 use Rattle.ce_text.proofs.Splitting.{split_cut, split_behind, cut_pieces}
 use Rattle.ce_script.specs.Lines.{Line, words, has_bad_byte, size_of}
@@ -29,12 +29,12 @@ abbrev pub line_at : ℕ → List ℕ → Line
 line_at n text = record { number = n; text = text }
 
 -- what is left begins with its first line
-pub first_line : (n : ℕ) (bytes front : List ℕ) (after : Option (List ℕ)) → (front, after) ≡ cut is_line_feed bytes
+pub first_line : (n : ℕ) (bytes front : List ℕ) (after : Option (List ℕ)) → (front, after) ≡ cut_parts is_line_feed bytes
     → numbered_lines n (slice_split is_line_feed bytes) ≡ line_at n front ∷ numbered_lines (n + 1) (texts_left after)
 first_line n bytes front after e =
     ap (numbered_lines n) (split_cut is_line_feed bytes ∙ ap (cut_pieces is_line_feed) (sym e) ∙ ap (λ rest. front ∷ rest) (same_pieces after))
 
-module _ (n : ℕ) (bytes front : List ℕ) (after : Option (List ℕ)) (parts : (front, after) ≡ cut is_line_feed bytes) where
+module _ (n : ℕ) (bytes front : List ℕ) (after : Option (List ℕ)) (parts : (front, after) ≡ cut_parts is_line_feed bytes) where
   pub found_here : (test : Line → Bool) → test (line_at n front) ≡ true → find test (numbered_lines n (slice_split is_line_feed bytes)) ≡ Some (line_at n front)
   found_here test e = ap (find test) (first_line n bytes front after parts) ∙ ap (λ here. cond here (Some (line_at n front)) (find test (numbered_lines (n + 1) (texts_left after)))) e
 
@@ -66,11 +66,11 @@ find_last test lines last e =
     or_none (Some x) = refl
 
 empty_plain : (last : ℕ) → has_bad_byte (line_at last []) ≡ false
-unfolding before_comment cut
+unfolding before_comment cut_parts
 empty_plain last = refl
 
 empty_words : (last : ℕ) → words (line_at last []) ≡ []
-unfolding words_between before_comment cut
+unfolding words_between before_comment cut_parts
 empty_words last = refl
 
 pub shown_bad_byte : (lines : List Line) (last : ℕ) → find has_bad_byte (with_empty lines last) ≡ find has_bad_byte lines

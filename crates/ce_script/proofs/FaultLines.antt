@@ -2,8 +2,8 @@
 use Rattle.std.proofs.Common.{◌≡◌, ℕ, ◌+◌, ◌≤◌, Bool, true, false, not, cond, List, [], ◌∷◌, ◌++◌, length, Option, Some, None, Result, Ok, Err, refl, ap, subst, arith}
 use Rattle.std.proofs.lemmas.List.Splits.{length-slice_split}
 use Rattle.std.proofs.lemmas.List.Sums.{count_by-le-length}
+use Rattle.rv_model.specs.declared.limits.TheConstants.{PRIVATE_START}
 use Rattle.rv_model.specs.declared.memory.NoMemory.{NoMemory}
-use Rattle.rv_model.specs.Image.{image_start}
 use Rattle.ce_text.specs.Bytes.{is_line_feed}
 use Rattle.ce_text.specs.Line.{without_outer_blanks, line_texts}
 use Rattle.rv_asm.specs.declared.fault.AsmKind.{AsmKind}
@@ -13,8 +13,8 @@ use Rattle.rv_asm.specs.declared.statement.Statement.{Statement}
 use Rattle.rv_asm.specs.declared.statement.PlacedStatement.{PlacedStatement}
 use Rattle.rv_asm.specs.declared.symbols.Symbol.{Symbol}
 use Rattle.rv_asm.specs.Names.{Names}
-use Rattle.rv_asm.specs.Faults.{◌>>=◌, refusal, Unless}
-use Rattle.rv_asm.specs.FirstPass.{LayoutSoFar, layout_of, nothing_laid, layout_with_statement, layout_with_all, layout_with_name, layout_with_number, layout_with_statements, statement, labelled_statement, line_laid, at_line, lines_laid, first_pass}
+use Rattle.rv_asm.specs.Faults.{◌>>=◌, refusal, AsmUnless}
+use Rattle.rv_asm.specs.FirstPass.{LayoutSoFar, layout_of, nothing_laid, layout_with_statement, layout_with_all, layout_with_name, layout_with_number, layout_with_statements, statement, labelled_statement, line_laid, judgment_at_line, lines_laid, first_pass}
 use Rattle.rv_asm.specs.SecondPass.{Part, parts_of, second_pass}
 use Rattle.rv_asm.specs.Assembly.{Assembly, entry_of, assembly_of}
 use Rattle.rv_asm.specs.Sizes.{size_of}
@@ -117,7 +117,7 @@ record AreOnLines (before : ℕ) (laid : LayoutSoFar) (these : List (List ℕ)) 
   fault : (fault : AsmFault) → r ≡ Err fault → fault.line ≤ before + length these
 
 lines_by : (before : ℕ) (laid : LayoutSoFar) (line : List ℕ) (these : List (List ℕ)) (r : Result LayoutSoFar AsmKind) → HasKept (before + 1) laid r
-    → ((one : LayoutSoFar) → AreOnLines (before + 1) one these (lines_laid (before + 1) one these)) → AreOnLines before laid (line ∷ these) (at_line (before + 1) r >>= λ one. lines_laid (before + 1) one these)
+    → ((one : LayoutSoFar) → AreOnLines (before + 1) one these (lines_laid (before + 1) one these)) → AreOnLines before laid (line ∷ these) (judgment_at_line (before + 1) r >>= λ one. lines_laid (before + 1) one these)
 lines_by before laid line these (Ok one) keeps others = record {
   up = λ out e h. up_more (before + 1 + length these) (before + length (line ∷ these)) out.statements (omega arith)
       ((others one).up out e (keeps.up one refl (up_more before (before + 1) laid.statements (omega arith) h)));
@@ -140,7 +140,7 @@ all_lines before laid (line ∷ these) =
 -- ---- the second pass
 
 second_by : (one : PlacedStatement) (last : ℕ) (here : Result (List Part) AsmKind) (there : Result (List Part) AsmFault) (fault : AsmFault) → one.line ≤ last
-    → (there ≡ Err fault → fault.line ≤ last) → (at_line one.line here >>= λ parts. there >>= λ more. Ok (parts ++ more)) ≡ Err fault → fault.line ≤ last
+    → (there ≡ Err fault → fault.line ≤ last) → (judgment_at_line one.line here >>= λ parts. there >>= λ more. Ok (parts ++ more)) ≡ Err fault → fault.line ≤ last
 second_by one last (Err kind) there fault le h e =
     let same : one.line ≡ fault.line = ap (line_in {A = List Part}) e in
     omega (arith, same, le)
@@ -164,7 +164,7 @@ then_line {A} {B} (Err one) next last fault first second e =
     let same : one.line ≡ fault.line = ap (line_in {A = B}) e in
     omega (arith, same, le)
 
-entry_line : (test : Bool) (last : ℕ) (fault : AsmFault) → at_line 0 (refusal test kinds.Entry) ≡ Err fault → fault.line ≤ last
+entry_line : (test : Bool) (last : ℕ) (fault : AsmFault) → judgment_at_line 0 (refusal test kinds.Entry) ≡ Err fault → fault.line ≤ last
 entry_line true last fault e =
     let same : 0 ≡ fault.line = ap (line_in {A = Unit {0}}) e in
     omega (arith, same)
@@ -173,17 +173,17 @@ entry_line false last fault e = absurd cc
 -- what comes behind the second pass
 abbrev entered : LayoutSoFar → List Part → Result Assembly AsmFault
 entered laid parts =
-    at_line 0 (refusal (not (is_entry (entry_of laid.names) laid.size)) kinds.Entry) >>= λ begins. Ok (record { entry = entry_of laid.names; parts = parts })
+    judgment_at_line 0 (refusal (not (is_entry (entry_of laid.names) laid.size)) kinds.Entry) >>= λ begins. Ok (record { entry = entry_of laid.names; parts = parts })
 
 entered_line : (laid : LayoutSoFar) (parts : List Part) (last : ℕ) (fault : AsmFault) → entered laid parts ≡ Err fault → fault.line ≤ last
 entered_line laid parts last fault e =
     let test = not (is_entry (entry_of laid.names) laid.size) in
-    then_line (at_line 0 (refusal test kinds.Entry)) (λ begins. Ok (record { entry = entry_of laid.names; parts = parts })) last fault
+    then_line (judgment_at_line 0 (refusal test kinds.Entry)) (λ begins. Ok (record { entry = entry_of laid.names; parts = parts })) last fault
     (entry_line test last) (λ begins here other. absurd cc) e
 
 -- what comes behind the first pass
 abbrev behind_first : LayoutSoFar → Result Assembly AsmFault
-behind_first laid = second_pass laid.names image_start laid.statements >>= entered laid
+behind_first laid = second_pass laid.names PRIVATE_START laid.statements >>= entered laid
 
 assembled_line : (text : List ℕ) (fault : AsmFault) → assembly_of text ≡ Err fault → fault.line ≤ 0 + length (line_texts text)
 unfolding assembly_of first_pass
@@ -191,8 +191,8 @@ assembled_line text fault e =
     let last = 0 + length (line_texts text) in
     let all = all_lines 0 nothing_laid (line_texts text) in
     then_line (lines_laid 0 nothing_laid (line_texts text)) behind_first last fault all.fault
-    (λ laid is. then_line (second_pass laid.names image_start laid.statements) (entered laid) last fault
-    (λ one. second_line laid.names image_start last laid.statements one (all.up laid is tt))
+    (λ laid is. then_line (second_pass laid.names PRIVATE_START laid.statements) (entered laid) last fault
+    (λ one. second_line laid.names PRIVATE_START last laid.statements one (all.up laid is tt))
     (λ parts there. entered_line laid parts last fault))
     e
 
@@ -202,12 +202,12 @@ fewer text =
     let le = count_by-le-length is_line_feed text in
     omega (arith, n, le)
 
-known : {P : Type 0} (kind : AsmKind) → ((want : NoMemory) → kind ≡ kinds.Memory want → ⊥) → Unless kind P → P
+known : {P : Type 0} (kind : AsmKind) → ((want : NoMemory) → kind ≡ kinds.Memory want → ⊥) → AsmUnless kind P → P
 known (kinds.Memory want) not h = absurd (not want refl)
 known kind not h = h
 
 -- there are no more lines than bytes and one
-pub fault_line : (text : List ℕ) (fault : AsmFault) → ((want : NoMemory) → fault.kind ≡ kinds.Memory want → ⊥) → Unless fault.kind (assembly_of text ≡ Err fault) → fault.line ≤ length text + 1
+pub fault_line : (text : List ℕ) (fault : AsmFault) → ((want : NoMemory) → fault.kind ≡ kinds.Memory want → ⊥) → AsmUnless fault.kind (assembly_of text ≡ Err fault) → fault.line ≤ length text + 1
 fault_line text fault not h =
     let le = assembled_line text fault (known fault.kind not h) in
     let few = fewer text in

@@ -15,12 +15,12 @@ use Rattle.ce_script.specs.declared.script.ScriptKind.TheVariants.{BadName, Unkn
 use Rattle.ce_script.specs.Lines.{Spot, later_spots, words}
 use Rattle.ce_script.specs.Names.{is_name}
 use Rattle.ce_script.specs.Verbs.{verb_of, is_machine, is_image, is_user, is_command}
-use Rattle.ce_script.specs.Statements.{Statement, operand, has_verb_kind}
+use Rattle.ce_script.specs.Statements.{ScriptStatement, operand, has_verb_kind}
 use Rattle.ce_script.specs.Bodies.{located_fault}
 use Rattle.ce_script.specs.Sayings.{of_kind, stated_names, without_repeats, name_number, operand_place, image_names, users, last_user, command_of_verb, command_of_statement, numbered_command}
 use Rattle.ce_script.specs.Faults.{kind_where, is_one_name_of, first_some, statement_fault, image_fault}
-use Rattle.ce_script.specs.Reading.{with_name, word_fault, place_fault, operands_judged}
-use Rattle.ce_script.specs.Standing.{names_so_far, AreFew, with_statement, with_command, rest_fault, verb_fault, line_judged, statement_judged, IsBehind, HasReadUpTo}
+use Rattle.ce_script.specs.Reading.{with_name, word_fault, place_fault, operands_judgment}
+use Rattle.ce_script.specs.Standing.{names_so_far, AreFew, with_statement, with_command, rest_fault, verb_fault, line_judgment, statement_judgment, IsBehind, HasReadUpTo}
 use Rattle.ce_script.proofs.Spots.{or_none, map_none, refused_none}
 use Rattle.ce_script.proofs.Judged.{names_append}
 use Rattle.ce_script.proofs.Members.{among_distinct}
@@ -75,7 +75,7 @@ distinct_front names (name ∷ more) =
     )
 
 -- the number of the user who speaks
-user_number : (front more : List Statement) → list_any (has_verb_kind is_user) front ≡ true → name_number (last_user front) (users (front ++ more)) ≡ name_number (last_user front) (users front)
+user_number : (front more : List ScriptStatement) → list_any (has_verb_kind is_user) front ≡ true → name_number (last_user front) (users (front ++ more)) ≡ name_number (last_user front) (users front)
 unfolding users
 user_number front more e =
     let names = stated_names (of_kind is_user front) in
@@ -92,8 +92,8 @@ no_operand names name rest e =
     not-false (is_one_name_of names name)
     (refused_none (not (is_one_name_of names name)) UnknownImage (or_none (kind_where (not (is_name name)) BadName) (kind_where (not (is_one_name_of names name)) UnknownImage) (or_none _ rest e).0).1)
 
-command_same : (verb : Verb) (names more : List (List ℕ)) (here : Statement) → is_command verb ≡ true → operands_judged names verb here ≡ None → command_of_verb verb (names ++ more) here ≡ command_of_verb verb names here
-unfolding operands_judged
+command_same : (verb : Verb) (names more : List (List ℕ)) (here : ScriptStatement) → is_command verb ≡ true → operands_judgment names verb here ≡ None → command_of_verb verb (names ++ more) here ≡ command_of_verb verb names here
+unfolding operands_judgment
 command_same Machine names more here c e = refl
 command_same Image names more here c e = refl
 command_same User names more here c e = refl
@@ -115,8 +115,8 @@ speaker None number e h = absurd cc
 speaker (Some n) number e h = h
 
 -- the command of a statement among all is the one that the reader adds
-command_added : (so_far : ScriptSoFar) (front rest : List Statement) (here : Statement) (verb : Verb) → IsBehind so_far front → verb_of (words here.line) ≡ Some verb
-    → is_some so_far.user ≡ true → is_command verb ≡ true → operands_judged (names_so_far so_far) verb here ≡ None
+command_added : (so_far : ScriptSoFar) (front rest : List ScriptStatement) (here : ScriptStatement) (verb : Verb) → IsBehind so_far front → verb_of (words here.line) ≡ Some verb
+    → is_some so_far.user ≡ true → is_command verb ≡ true → operands_judgment (names_so_far so_far) verb here ≡ None
     → numbered_command (front ++ here ∷ rest) (record { before = front; here = here; behind = rest }) ≡ option_map (λ it. (unwrap_or so_far.user 0, it)) (command_of_verb verb (names_so_far so_far) here)
 unfolding command_of_statement
 command_added so_far front rest here verb is e user command none =
@@ -129,7 +129,7 @@ command_added so_far front rest here verb is e user command none =
     ∙ ap (option_map (λ (it : Command). (name_number (last_user front) (users all), it))) (command_same verb (names_so_far so_far) (image_names (here ∷ rest)) here command none)
     ∙ ap (λ (n : ℕ). option_map (λ (it : Command). (n, it)) (command_of_verb verb (names_so_far so_far) here)) number
 
-no_command : (front rest : List Statement) (here : Statement) (verb : Verb) → verb_of (words here.line) ≡ Some verb → ((names : List (List ℕ)) → command_of_verb verb names here ≡ None)
+no_command : (front rest : List ScriptStatement) (here : ScriptStatement) (verb : Verb) → verb_of (words here.line) ≡ Some verb → ((names : List (List ℕ)) → command_of_verb verb names here ≡ None)
     → numbered_command (front ++ here ∷ rest) (record { before = front; here = here; behind = rest }) ≡ None
 unfolding command_of_statement
 no_command front rest here verb e none =
@@ -140,13 +140,13 @@ no_command front rest here verb e none =
 -- ---- one statement further
 
 -- what is known of a statement without a fault
-pub record IsFree (so_far : ScriptSoFar) (verb : Verb) (here : Statement) : Type 0 where
+pub record IsFree (so_far : ScriptSoFar) (verb : Verb) (here : ScriptStatement) : Type 0 where
   pub place : place_fault (is_some so_far.script.dim) (is_some so_far.user) verb ≡ None
   pub rest : rest_fault so_far verb here ≡ None
 
-pub free : (so_far : ScriptSoFar) (verb : Verb) (here : Statement) → verb_of (words here.line) ≡ Some verb → statement_judged so_far here ≡ None → IsFree so_far verb here
+pub free : (so_far : ScriptSoFar) (verb : Verb) (here : ScriptStatement) → verb_of (words here.line) ≡ Some verb → statement_judgment so_far here ≡ None → IsFree so_far verb here
 free so_far verb here e none =
-    let line = map_none (located_fault here.line.number) (line_judged so_far here) (or_none (option_map (located_fault here.line.number) (line_judged so_far here)) (image_fault here) none).0 in
+    let line = map_none (located_fault here.line.number) (line_judgment so_far here) (or_none (option_map (located_fault here.line.number) (line_judgment so_far here)) (image_fault here) none).0 in
     let behind = (or_none (word_fault here) (option_and_then (λ it. verb_fault so_far it here) (verb_of (words here.line))) line).1 in
     let judged : verb_fault so_far verb here ≡ None = sym (ap (λ (found : Option Verb). option_and_then (λ it. verb_fault so_far it here) found) e) ∙ behind in
     let both = or_none (place_fault (is_some so_far.script.dim) (is_some so_far.user) verb) (rest_fault so_far verb here) judged in
@@ -165,9 +165,9 @@ has_user machine user verb command e =
     let last = (or_none two (kind_where (is_command verb && not user) NoUser) (or_none one _ e).1).1 in
     not-false user (sym (ap (λ b. b && not user) command) ∙ refused_none (is_command verb && not user) NoUser last)
 
-module _ (all rest : List Statement) (here : Statement) (so_far : ScriptSoFar) (verb : Verb) (is : verb_of (words here.line) ≡ Some verb) (st : HasReadUpTo all so_far (here ∷ rest)) (few : AreFew so_far)
-    (none : statement_judged so_far here ≡ None) where
-  abbrev spot : Spot Statement
+module _ (all rest : List ScriptStatement) (here : ScriptStatement) (so_far : ScriptSoFar) (verb : Verb) (is : verb_of (words here.line) ≡ Some verb) (st : HasReadUpTo all so_far (here ∷ rest)) (few : AreFew so_far)
+    (none : statement_judgment so_far here ≡ None) where
+  abbrev spot : Spot ScriptStatement
   spot = record { before = st.front; here = here; behind = rest }
 
   steps : (next : ScriptSoFar) → IsBehind next (st.front ++ here ∷ []) → so_far.script.commands ++ cons_option (numbered_command all spot) [] ≡ next.script.commands → HasReadUpTo all next rest
@@ -191,7 +191,7 @@ module _ (all rest : List Statement) (here : Statement) (so_far : ScriptSoFar) (
       ∙ ap (λ said. so_far.script.commands ++ cons_option said []) (no_command st.front rest here verb is silent)
       ∙ append-nil so_far.script.commands
 
-  speaks : is_machine verb ≡ false → is_image verb ≡ false → is_user verb ≡ false → is_command verb ≡ true → operands_judged (names_so_far so_far) verb here ≡ None
+  speaks : is_machine verb ≡ false → is_image verb ≡ false → is_user verb ≡ false → is_command verb ≡ true → operands_judgment (names_so_far so_far) verb here ≡ None
       → HasReadUpTo all (with_command so_far (command_of_verb verb (names_so_far so_far) here)) rest
   speaks machine image user command right =
       let there = has_user _ _ verb command (free so_far verb here is none).place in
@@ -199,8 +199,8 @@ module _ (all rest : List Statement) (here : Statement) (so_far : ScriptSoFar) (
       (ap (λ every. so_far.script.commands ++ cons_option (numbered_command every spot) []) st.whole
       ∙ ap (λ said. so_far.script.commands ++ cons_option said []) (command_added so_far st.front rest here verb st.behind is there command right))
 
-pub one_further : (all rest : List Statement) (here : Statement) (so_far : ScriptSoFar) (verb : Verb) → verb_of (words here.line) ≡ Some verb → HasReadUpTo all so_far (here ∷ rest) → AreFew so_far
-    → statement_judged so_far here ≡ None → HasReadUpTo all (with_statement so_far verb here) rest
+pub one_further : (all rest : List ScriptStatement) (here : ScriptStatement) (so_far : ScriptSoFar) (verb : Verb) → verb_of (words here.line) ≡ Some verb → HasReadUpTo all so_far (here ∷ rest) → AreFew so_far
+    → statement_judgment so_far here ≡ None → HasReadUpTo all (with_statement so_far verb here) rest
 one_further all rest here so_far Machine is st few none =
     steps all rest here so_far Machine is st few none (with_statement so_far Machine here) (behind_machine so_far st.front here is (first_machine _ _ (free so_far Machine here is none).place) st.behind) (quiet all rest here so_far Machine is st few none (λ names. refl))
 one_further all rest here so_far Image is st few none =

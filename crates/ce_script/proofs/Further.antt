@@ -24,14 +24,14 @@ use Rattle.ce_script.specs.declared.script.ScriptKind.{ScriptKind}
 use Rattle.ce_script.specs.declared.script.ScriptKind.TheVariants.{BadByte, UnknownWord, WordCount, TooMany, Assembly, Memory}
 use Rattle.ce_script.specs.Lines.{Line, lines, words, has_bad_byte, later_spots}
 use Rattle.ce_script.specs.Verbs.{verbs, verb_of, is_image, is_command, form_of, operands_of, NewImage}
-use Rattle.ce_script.specs.Statements.{Statement, operand, are_only, is_end, begins_image, found_body, statements}
+use Rattle.ce_script.specs.Statements.{ScriptStatement, operand, are_only, is_end, begins_image, found_body, statements}
 use Rattle.ce_script.specs.Bodies.{located_fault, body_fault}
 use Rattle.ce_script.specs.Faults.{first_fault, first_some, kind_where, operand_fault, is_unknown, has_unknown_form, has_wrong_count, image_fault, statement_fault}
 use Rattle.ce_script.specs.Sayings.{dimension, images, users, commands}
-use Rattle.ce_script.specs.Reading.{Unless, word_fault, place_fault}
-use Rattle.ce_script.specs.ReadLines.{plain_line, here_of, lines_left, inside_behind, remaining_statements, texts_left, numbered_lines, left_of}
+use Rattle.ce_script.specs.Reading.{ScriptUnless, word_fault, place_fault}
+use Rattle.ce_script.specs.ReadLines.{plain_line, statement_of_line, lines_left, is_inside_behind, remaining_statements, texts_left, numbered_lines, left_of}
 use Rattle.ce_script.specs.Scripts.{IsScript, IsNoMemory}
-use Rattle.ce_script.specs.Standing.{nothing_said, first_statement_fault, IsBehind, names_so_far, AreFew, new_image_fault, HasReadUpTo, with_statement, rest_fault, verb_fault, begin_fault, statement_judged, with_body, on_line, IsPast}
+use Rattle.ce_script.specs.Standing.{blank_script, first_statement_fault, IsBehind, names_so_far, AreFew, new_image_fault, HasReadUpTo, with_statement, rest_fault, verb_fault, begin_fault, statement_judgment, with_body, on_line, IsPast}
 use Rattle.ce_script.specs.ReaderCalls.{HasSaidImage, HasSaidStatement, HasKept}
 use Rattle.ce_script.proofs.BodyFaults.{unless_map}
 use Rattle.ce_script.proofs.Following.{has_user, one_further}
@@ -47,7 +47,7 @@ form_there (verb ∷ []) known e none = omega arith
 form_there (verb ∷ name ∷ []) known e none = omega arith
 form_there (verb ∷ name ∷ form ∷ others) known e none = let missing = ap is_none none in cc
 
-pub image_has_form : (here : Statement) → verb_of (words here.line) ≡ Some Image → word_fault here ≡ None → form_of (operand 2 here) ≡ None → ⊥
+pub image_has_form : (here : ScriptStatement) → verb_of (words here.line) ≡ Some Image → word_fault here ≡ None → form_of (operand 2 here) ≡ None → ⊥
 unfolding word_fault
 image_has_form here e right none =
     let behind = (or_none (kind_where (has_bad_byte here.line) BadByte) (option_or (kind_where (is_unknown here) UnknownWord) (kind_where (has_wrong_count here) WordCount)) right).1 in
@@ -76,7 +76,7 @@ no_body number None = refl
 no_body number (Some form) = refl
 
 module _ (so_far : ScriptSoFar) (line : WordedLine) (rest : Rest) where
-  abbrev here : Statement
+  abbrev here : ScriptStatement
   here = on_line line rest
 
   abbrev found : Option Verb
@@ -85,19 +85,19 @@ module _ (so_far : ScriptSoFar) (line : WordedLine) (rest : Rest) where
   abbrev place : Verb → Option ScriptKind
   place = place_fault (is_some so_far.script.dim) (is_some so_far.user)
 
-  word_same : word_fault here ≡ word_fault (here_of line)
+  word_same : word_fault here ≡ word_fault (statement_of_line line)
   unfolding word_fault
   word_same = refl
 
-  pub begun_wrong : (kind : ScriptKind) → Unless kind (begin_fault so_far (here_of line) ≡ Some kind) → Unless kind (statement_judged so_far here ≡ Some (located_fault line.number kind))
+  pub begun_wrong : (kind : ScriptKind) → ScriptUnless kind (begin_fault so_far (statement_of_line line) ≡ Some kind) → ScriptUnless kind (statement_judgment so_far here ≡ Some (located_fault line.number kind))
   begun_wrong kind wrong =
       unless_map kind _ _
-      (λ (e : begin_fault so_far (here_of line) ≡ Some kind).
+      (λ (e : begin_fault so_far (statement_of_line line) ≡ Some kind).
       ap (λ judged. option_or (option_map (located_fault line.number) judged) (image_fault here))
       (begin_leads (word_fault here) found place (λ verb. rest_fault so_far verb here) kind (ap (λ word. option_or word (option_and_then place found)) word_same ∙ e)))
       wrong
 
-  module _ (verb : Verb) (right : word_fault (here_of line) ≡ None) (is : found ≡ Some verb) (placed : place verb ≡ None) where
+  module _ (verb : Verb) (right : word_fault (statement_of_line line) ≡ None) (is : found ≡ Some verb) (placed : place verb ≡ None) where
     pub user_there : IsTrue (is_command verb) → IsTrue (is_some so_far.user)
     user_there command = has_user (is_some so_far.script.dim) (is_some so_far.user) verb command placed
 
@@ -105,7 +105,7 @@ module _ (so_far : ScriptSoFar) (line : WordedLine) (rest : Rest) where
     begins_same = ap (λ it. option_map_or is_image it false) is
 
     -- behind the words and the place
-    judged_behind : statement_judged so_far here ≡ option_or (option_map (located_fault line.number) (rest_fault so_far verb here)) (image_fault here)
+    judged_behind : statement_judgment so_far here ≡ option_or (option_map (located_fault line.number) (rest_fault so_far verb here)) (image_fault here)
     judged_behind =
         ap (λ judged. option_or (option_map (located_fault line.number) judged) (image_fault here))
         (ap (λ word. option_or word (option_and_then (λ it. verb_fault so_far it here) found)) (word_same ∙ right)
@@ -117,22 +117,22 @@ module _ (so_far : ScriptSoFar) (line : WordedLine) (rest : Rest) where
 
     -- a statement that is no image
     module _ (other : is_image verb ≡ false) where
-      plain_judged : statement_judged so_far here ≡ option_map (located_fault line.number) (rest_fault so_far verb (here_of line))
+      plain_judged : statement_judgment so_far here ≡ option_map (located_fault line.number) (rest_fault so_far verb (statement_of_line line))
       plain_judged =
           judged_behind
           ∙ ap (λ it. option_or (option_map (located_fault line.number) (rest_fault so_far verb it)) (image_fault it)) (here_is false other)
-          ∙ ap (λ body. option_or (option_map (located_fault line.number) (rest_fault so_far verb (here_of line))) body) (no_body line.number (form_of (operand 2 (here_of line))))
-          ∙ alone (option_map (located_fault line.number) (rest_fault so_far verb (here_of line)))
+          ∙ ap (λ body. option_or (option_map (located_fault line.number) (rest_fault so_far verb (statement_of_line line))) body) (no_body line.number (form_of (operand 2 (statement_of_line line))))
+          ∙ alone (option_map (located_fault line.number) (rest_fault so_far verb (statement_of_line line)))
         where
           alone : (one : Option ScriptFault) → option_or one None ≡ one
           alone None = refl
           alone (Some it) = refl
 
-      pub plain_wrong : (kind : ScriptKind) → Unless kind (rest_fault so_far verb (here_of line) ≡ Some kind) → Unless kind (statement_judged so_far here ≡ Some (located_fault line.number kind))
+      pub plain_wrong : (kind : ScriptKind) → ScriptUnless kind (rest_fault so_far verb (statement_of_line line) ≡ Some kind) → ScriptUnless kind (statement_judgment so_far here ≡ Some (located_fault line.number kind))
       plain_wrong kind wrong =
-          unless_map kind _ _ (λ (e : rest_fault so_far verb (here_of line) ≡ Some kind). plain_judged ∙ ap (option_map (located_fault line.number)) e) wrong
+          unless_map kind _ _ (λ (e : rest_fault so_far verb (statement_of_line line) ≡ Some kind). plain_judged ∙ ap (option_map (located_fault line.number)) e) wrong
 
-      pub plain_past : (new : ScriptSoFar) → rest_fault so_far verb (here_of line) ≡ None → new ≡ with_statement so_far verb (here_of line) → IsPast so_far new line rest rest
+      pub plain_past : (new : ScriptSoFar) → rest_fault so_far verb (statement_of_line line) ≡ None → new ≡ with_statement so_far verb (statement_of_line line) → IsPast so_far new line rest rest
       plain_past new none says = record {
         verb = verb;
         is = is;
@@ -142,8 +142,8 @@ module _ (so_far : ScriptSoFar) (line : WordedLine) (rest : Rest) where
       }
 
   -- an image
-  module _ (right : word_fault (here_of line) ≡ None) (is : found ≡ Some Image) (placed : place Image ≡ None) where
-    image_judged : statement_judged so_far here ≡ option_or (option_map (located_fault line.number) (rest_fault so_far Image (with_body line rest))) (image_fault (with_body line rest))
+  module _ (right : word_fault (statement_of_line line) ≡ None) (is : found ≡ Some Image) (placed : place Image ≡ None) where
+    image_judged : statement_judgment so_far here ≡ option_or (option_map (located_fault line.number) (rest_fault so_far Image (with_body line rest))) (image_fault (with_body line rest))
     image_judged =
         judged_behind Image right is placed
         ∙ ap (λ it. option_or (option_map (located_fault line.number) (rest_fault so_far Image it)) (image_fault it)) (here_is Image right is placed true refl)
@@ -194,14 +194,14 @@ no_words (word ∷ others) e = absurd (let n = (Decides-eqb (length (word ∷ ot
 pub statements_empty : (line : Line) (lines : List Line) → (length (words line) == 0) ≡ true → remaining_statements false (line ∷ lines) ≡ remaining_statements false lines
 unfolding remaining_statements verb_of
 statements_empty line lines e =
-    let others : List (List ℕ) → List Statement = λ all. remaining_statements (cond (are_only (codes "end") all) false (false || option_map_or is_image (verb_of all) false)) lines in
+    let others : List (List ℕ) → List ScriptStatement = λ all. remaining_statements (cond (are_only (codes "end") all) false (false || option_map_or is_image (verb_of all) false)) lines in
     ap (λ (all : List (List ℕ)). cond ((length all == 0) || false) (others all) (record { line = line; body = cond (begins_image line) (found_body lines) None } ∷ others all)) (no_words (words line) e)
 
 statements_first : (line : Line) (lines : List Line) → (length (words line) == 0) ≡ false
-    → remaining_statements false (line ∷ lines) ≡ record { line = line; body = cond (begins_image line) (found_body lines) None } ∷ remaining_statements (inside_behind false line) lines
+    → remaining_statements false (line ∷ lines) ≡ record { line = line; body = cond (begins_image line) (found_body lines) None } ∷ remaining_statements (is_inside_behind false line) lines
 unfolding remaining_statements
 statements_first line lines e =
-    let others = remaining_statements (inside_behind false line) lines in
+    let others = remaining_statements (is_inside_behind false line) lines in
     ap (λ empty. cond (empty || false) others (record { line = line; body = cond (begins_image line) (found_body lines) None } ∷ others)) e
 
 end_is_no_verb : (all : List (List ℕ)) → are_only (codes "end") all ≡ true → verb_of all ≡ None
@@ -210,15 +210,15 @@ end_is_no_verb [] e = absurd cc
 end_is_no_verb (first ∷ []) e = ap (λ word. verb_of (word ∷ [])) ((bytes_eq-Decides first (codes "end")).0 e)
 end_is_no_verb (first ∷ second ∷ others) e = absurd cc
 
-inside_line : (line : Line) (verb : Verb) → verb_of (words line) ≡ Some verb → inside_behind false line ≡ begins_image line
+inside_line : (line : Line) (verb : Verb) → verb_of (words line) ≡ Some verb → is_inside_behind false line ≡ begins_image line
 inside_line line verb is = by (is_end line) refl
   where
-    by : (ends : Bool) → is_end line ≡ ends → inside_behind false line ≡ begins_image line
+    by : (ends : Bool) → is_end line ≡ ends → is_inside_behind false line ≡ begins_image line
     by true e = let none = end_is_no_verb (words line) e in absurd cc
     by false e = ap (λ ends. cond ends false (false || begins_image line)) e
 
 pub line_keeps : (old : ScriptSoFar) (line : WordedLine) (rest : Rest) (result : Result (Reader × Rest) ScriptFault) → AreFew old → (length (words (plain_line line)) == 0) ≡ false
-    → HasSaidStatement result old line rest → (all : List Statement) → HasReadUpTo all old (remaining_statements false (plain_line line ∷ lines_left rest)) → HasKept all result
+    → HasSaidStatement result old line rest → (all : List ScriptStatement) → HasReadUpTo all old (remaining_statements false (plain_line line ∷ lines_left rest)) → HasKept all result
 line_keeps old line rest (Ok next) few some past all stands =
     let here = on_line line rest in
     let lines = lines_left rest in
@@ -228,33 +228,33 @@ line_keeps old line rest (Ok next) few some past all stands =
     (subst (HasReadUpTo all (with_statement old past.verb here)) past.past further)
 line_keeps old line rest (Err fault) few some wrong all stands =
     let here = on_line line rest in
-    let others = remaining_statements (inside_behind false (plain_line line)) (lines_left rest) in
+    let others = remaining_statements (is_inside_behind false (plain_line line)) (lines_left rest) in
     let at : HasReadUpTo all old (here ∷ others) = subst (HasReadUpTo all old) (statements_first (plain_line line) (lines_left rest) some) stands in
     unless_map fault.kind _ _
-    (λ (e : statement_judged old here ≡ Some fault).
+    (λ (e : statement_judgment old here ≡ Some fault).
     at.faults
     ∙ ap (λ one. option_or one (first_some (map statement_fault (later_spots (at.front ++ here ∷ []) others)))) (statement_same at.front others here old at.behind few ∙ e))
     wrong
 
 -- ---- a text
 
-behind_nothing : IsBehind nothing_said []
+behind_nothing : IsBehind blank_script []
 unfolding dimension images users
 behind_nothing = record { dim = refl; machine = refl; has_user = refl; user = tt; images = refl; users = refl }
 
 -- the reader begins
-pub begins_reading : (text : List ℕ) (so_far : ScriptSoFar) (rest : Rest) → so_far ≡ nothing_said → rest.line_count ≡ 0 → left_of rest ≡ Some text
+pub begins_reading : (text : List ℕ) (so_far : ScriptSoFar) (rest : Rest) → so_far ≡ blank_script → rest.line_count ≡ 0 → left_of rest ≡ Some text
     → HasReadUpTo (statements text) so_far (remaining_statements false (lines_left rest))
 unfolding commands lines
 begins_reading text so_far rest none before left =
     let all : lines_left rest ≡ numbered_lines 1 (slice_split is_line_feed text) =
     ap (λ (n : ℕ). numbered_lines (n + 1) (texts_left (left_of rest))) before ∙ ap (λ (left : Option (List ℕ)). numbered_lines 1 (texts_left left)) left in
     subst (λ (so_far : ScriptSoFar). HasReadUpTo (statements text) so_far (remaining_statements false (lines_left rest))) (sym none)
-    (subst (HasReadUpTo (statements text) nothing_said) (from_outside text ∙ ap (remaining_statements false) (sym all))
+    (subst (HasReadUpTo (statements text) blank_script) (from_outside text ∙ ap (remaining_statements false) (sym all))
     (record { front = []; whole = refl; behind = behind_nothing; faults = refl; commands = refl }))
 
 -- nobody is too many
-pub few_at_first : AreFew nothing_said
+pub few_at_first : AreFew blank_script
 few_at_first = record { users = omega arith; images = omega arith }
 
 -- the reader is at the end
@@ -274,13 +274,13 @@ ends_reading text so_far rest none stands = by (subst (HasReadUpTo (statements t
         }
 
 -- what is known of a fault that is no want of memory
-pub is_known : (kind : ScriptKind) (P : Type 0) → Unless kind P → (IsNoMemory kind → ⊥) → P
+pub is_known : (kind : ScriptKind) (P : Type 0) → ScriptUnless kind P → (IsNoMemory kind → ⊥) → P
 is_known (Memory want) P known other = absurd (other tt)
 is_known (Assembly (kinds.Memory want)) P known other = absurd known
 is_known kind P known other = known
 
 -- the assembler tells nothing of memory
-pub is_no_want : (kind : ScriptKind) (P : Type 0) → Unless kind P → (want : NoMemory) → kind ≡ Assembly (kinds.Memory want) → ⊥
+pub is_no_want : (kind : ScriptKind) (P : Type 0) → ScriptUnless kind P → (want : NoMemory) → kind ≡ Assembly (kinds.Memory want) → ⊥
 is_no_want (Assembly (kinds.Memory want)) P known other e = known
 is_no_want kind P known other e = cc
 

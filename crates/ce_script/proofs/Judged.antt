@@ -9,7 +9,7 @@ use Rattle.ce_script.specs.declared.grammar.Verb.{Verb}
 use Rattle.ce_script.specs.declared.grammar.Verb.TheVariants.{Machine, Image, User}
 use Rattle.ce_script.specs.Lines.{Spot, spots, words}
 use Rattle.ce_script.specs.Verbs.{verb_of, is_machine, is_image, is_user, operands_of}
-use Rattle.ce_script.specs.Statements.{Statement, operand, has_verb_kind}
+use Rattle.ce_script.specs.Statements.{ScriptStatement, operand, has_verb_kind}
 use Rattle.ce_script.specs.Bodies.{located_fault}
 use Rattle.ce_script.specs.Sayings.{of_kind, stated_names}
 use Rattle.ce_script.specs.Faults.{expected_operands, lacks_machine, lacks_user, placed_fault, operands_fault, is_one_too_many, line_faults, line_fault, image_fault, statement_fault}
@@ -18,13 +18,13 @@ use Rattle.ce_script.proofs.Spots.{or_none, map_none, each_none, each_mapped_non
 -- ---- a statement without a fault
 
 -- what is known of a statement without a fault
-pub record IsRight (spot : Spot Statement) : Type 0 where
+pub record IsRight (spot : Spot ScriptStatement) : Type 0 where
   pub machine : lacks_machine spot ≡ false
   pub user : lacks_user spot ≡ false
   pub operands : AllByRecursion (λ placed. placed_fault spot placed ≡ None) (enumerate_from 1 (expected_operands spot.here))
   pub many : is_one_too_many spot ≡ false
 
-right : (spot : Spot Statement) → statement_fault spot ≡ None → IsRight spot
+right : (spot : Spot ScriptStatement) → statement_fault spot ≡ None → IsRight spot
 unfolding line_fault operands_fault
 right spot e =
     let line = map_none (located_fault spot.here.line.number) (line_fault spot) (or_none (option_map (located_fault spot.here.line.number) (line_fault spot)) (image_fault spot.here) e).0 in
@@ -36,13 +36,13 @@ right spot e =
       many = refused_none _ _ rows.1.1.1.1.1.1.1.0;
     }
 
-pub each_right : (all : List Statement) → AllByRecursion (λ spot. statement_fault spot ≡ None) (spots all) → AllByRecursion IsRight (spots all)
+pub each_right : (all : List ScriptStatement) → AllByRecursion (λ spot. statement_fault spot ≡ None) (spots all) → AllByRecursion IsRight (spots all)
 each_right all each = each_of (λ spot. statement_fault spot ≡ None) IsRight (spots all) right each
 
 -- ---- operands
 
 -- the operands of a statement with this verb are right
-pub operands_right : (spot : Spot Statement) (verb : Verb) → verb_of (words spot.here.line) ≡ Some verb → IsRight spot
+pub operands_right : (spot : Spot ScriptStatement) (verb : Verb) → verb_of (words spot.here.line) ≡ Some verb → IsRight spot
     → AllByRecursion (λ placed. placed_fault spot placed ≡ None) (enumerate_from 1 (operands_of verb))
 operands_right spot verb e is =
     let P : Option Verb → Type 0 = λ found. AllByRecursion (λ placed. placed_fault spot placed ≡ None) (enumerate_from 1 (option_map_or operands_of found [])) in
@@ -67,5 +67,5 @@ user_alone other e = absurd cc
 
 -- ---- names
 
-pub names_append : (kind : Verb → Bool) (before more : List Statement) → stated_names (of_kind kind (before ++ more)) ≡ stated_names (of_kind kind before) ++ stated_names (of_kind kind more)
+pub names_append : (kind : Verb → Bool) (before more : List ScriptStatement) → stated_names (of_kind kind (before ++ more)) ≡ stated_names (of_kind kind before) ++ stated_names (of_kind kind more)
 names_append kind before more = ap stated_names (filter-append (has_verb_kind kind) before more) ∙ map-append (operand 1) (of_kind kind before) (of_kind kind more)

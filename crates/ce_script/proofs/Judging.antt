@@ -21,7 +21,7 @@ use Rattle.ce_text.specs.Name as text
 use Rattle.ce_script.specs.Names.{is_name}
 use Rattle.ce_text.specs.Table.{look_up}
 use Rattle.ce_script.specs.Verbs.{verbs, verb_of, is_image, operands_of, OldImage}
-use Rattle.ce_script.specs.Statements.{Statement, operand}
+use Rattle.ce_script.specs.Statements.{ScriptStatement, operand}
 use Rattle.ce_script.specs.Sayings.{name_number}
 use Rattle.ce_script.specs.Faults.{kind_where, has_unknown_form, is_one_name_of, operand_fault}
 use Rattle.ce_script.specs.Reading.{word_fault, user_fault}
@@ -156,32 +156,32 @@ unfolding verb_of verbs
 first_word [] = refl
 first_word (word ∷ words) = refl
 
-pub verb_found : (here : Statement) (found : Option Verb) → found ≡ look_up verbs (operand 0 here) → verb_of (words here.line) ≡ found
+pub verb_found : (here : ScriptStatement) (found : Option Verb) → found ≡ look_up verbs (operand 0 here) → verb_of (words here.line) ≡ found
 verb_found here found e = sym (e ∙ first_word (words here.line))
 
-abbrev judged_by : (here : Statement) (found : Option Verb) → Option ScriptKind
+abbrev judged_by : (here : ScriptStatement) (found : Option Verb) → Option ScriptKind
 judged_by here found =
     option_or (kind_where (has_bad_byte here.line) BadByte)
     (option_or (kind_where (is_none found || (option_map_or is_image found false && has_unknown_form (words here.line))) UnknownWord)
     (kind_where (not (length (words here.line) == 1 + length (option_map_or operands_of found []))) WordCount))
 
-judged_is : (here : Statement) (found : Option Verb) → verb_of (words here.line) ≡ found → word_fault here ≡ judged_by here found
+judged_is : (here : ScriptStatement) (found : Option Verb) → verb_of (words here.line) ≡ found → word_fault here ≡ judged_by here found
 unfolding word_fault
 judged_is here found e = ap (judged_by here) e
 
-pub bad_byte : (here : Statement) → has_bad_byte here.line ≡ true → word_fault here ≡ Some BadByte
+pub bad_byte : (here : ScriptStatement) → has_bad_byte here.line ≡ true → word_fault here ≡ Some BadByte
 unfolding word_fault
 bad_byte here e = rw e refl
 
-pub no_verb : (here : Statement) → has_bad_byte here.line ≡ false → verb_of (words here.line) ≡ None → word_fault here ≡ Some UnknownWord
+pub no_verb : (here : ScriptStatement) → has_bad_byte here.line ≡ false → verb_of (words here.line) ≡ None → word_fault here ≡ Some UnknownWord
 no_verb here e f = judged_is here None f ∙ rw e refl
 
-pub no_form : (here : Statement) (verb : Verb) → has_bad_byte here.line ≡ false → verb_of (words here.line) ≡ Some verb → is_image verb && has_unknown_form (words here.line) ≡ true
+pub no_form : (here : ScriptStatement) (verb : Verb) → has_bad_byte here.line ≡ false → verb_of (words here.line) ≡ Some verb → is_image verb && has_unknown_form (words here.line) ≡ true
     → word_fault here ≡ Some UnknownWord
 no_form here verb e f unknown = judged_is here (Some verb) f ∙ rw (e, unknown) refl
 
 -- an image has a form or no third word
-abbrev pub HasForm : Verb → Statement → Type 0
+abbrev pub HasForm : Verb → ScriptStatement → Type 0
 HasForm verb here = is_image verb && has_unknown_form (words here.line) ≡ false
 
 differ : (m n : ℕ) → (m ≡ n → ⊥) → m == n ≡ false
@@ -190,13 +190,13 @@ differ m n h = grind (arith, nat_tests)
 agree : (m n : ℕ) → m ≡ n → m == n ≡ true
 agree m n h = grind (arith, nat_tests)
 
-pub wrong_count : (here : Statement) (verb : Verb) → has_bad_byte here.line ≡ false → verb_of (words here.line) ≡ Some verb → HasForm verb here
+pub wrong_count : (here : ScriptStatement) (verb : Verb) → has_bad_byte here.line ≡ false → verb_of (words here.line) ≡ Some verb → HasForm verb here
     → (length (words here.line) ≡ 1 + length (operands_of verb) → ⊥) → word_fault here ≡ Some WordCount
 wrong_count here verb e f form ne =
     let count = differ (length (words here.line)) (1 + length (operands_of verb)) ne in
     judged_is here (Some verb) f ∙ rw (e, form, count) refl
 
-pub right_words : (here : Statement) (verb : Verb) → has_bad_byte here.line ≡ false → verb_of (words here.line) ≡ Some verb → HasForm verb here
+pub right_words : (here : ScriptStatement) (verb : Verb) → has_bad_byte here.line ≡ false → verb_of (words here.line) ≡ Some verb → HasForm verb here
     → length (words here.line) ≡ 1 + length (operands_of verb) → word_fault here ≡ None
 right_words here verb e f form same =
     let count = agree (length (words here.line)) (1 + length (operands_of verb)) same in

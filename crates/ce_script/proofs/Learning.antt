@@ -13,27 +13,27 @@ use Rattle.ce_script.specs.declared.reader.so_far.ScriptSoFar.{ScriptSoFar}
 use Rattle.ce_script.specs.declared.script.NamedImage.{NamedImage}
 use Rattle.ce_script.specs.Lines.{words}
 use Rattle.ce_script.specs.Verbs.{verb_of, is_machine, is_image, is_user}
-use Rattle.ce_script.specs.Statements.{Statement, operand, has_verb_kind}
-use Rattle.ce_script.specs.Sayings.{of_kind, stated_names, name_number, operand_number, image_said, dimension, images, users, last_user}
+use Rattle.ce_script.specs.Statements.{ScriptStatement, operand, has_verb_kind}
+use Rattle.ce_script.specs.Sayings.{of_kind, stated_names, name_number, operand_number, stated_image, dimension, images, users, last_user}
 use Rattle.ce_script.specs.Reading.{with_name}
 use Rattle.ce_script.specs.Standing.{with_statement, with_command, IsBehind}
 use Rattle.ce_script.proofs.Stepping.{kind_is, more_users, names_more}
 
 -- ---- each part behind one statement more
 
-dim_more : (front : List Statement) (here : Statement) (is : Bool) → has_verb_kind is_machine here ≡ is
+dim_more : (front : List ScriptStatement) (here : ScriptStatement) (is : Bool) → has_verb_kind is_machine here ≡ is
     → dimension (front ++ here ∷ []) ≡ option_or (dimension front) (cond is (Some (operand_number 1 here)) None)
 unfolding dimension
 dim_more front here is e =
     ap (option_map (operand_number 1)) (find-append (has_verb_kind is_machine) front (here ∷ []) ∙ ap (λ b. option_or (find (has_verb_kind is_machine) front) (cond b (Some here) None)) e)
     ∙ by (find (has_verb_kind is_machine) front) is
   where
-    by : (found : Option Statement) (b : Bool) → option_map (operand_number 1) (option_or found (cond b (Some here) None)) ≡ option_or (option_map (operand_number 1) found) (cond b (Some (operand_number 1 here)) None)
+    by : (found : Option ScriptStatement) (b : Bool) → option_map (operand_number 1) (option_or found (cond b (Some here) None)) ≡ option_or (option_map (operand_number 1) found) (cond b (Some (operand_number 1 here)) None)
     by None true = refl
     by None false = refl
     by (Some one) b = refl
 
-any_more : (kind : Verb → Bool) (front : List Statement) (here : Statement) (is : Bool) → has_verb_kind kind here ≡ is → list_any (has_verb_kind kind) (front ++ here ∷ []) ≡ (list_any (has_verb_kind kind) front || is)
+any_more : (kind : Verb → Bool) (front : List ScriptStatement) (here : ScriptStatement) (is : Bool) → has_verb_kind kind here ≡ is → list_any (has_verb_kind kind) (front ++ here ∷ []) ≡ (list_any (has_verb_kind kind) front || is)
 any_more kind front here is e =
     list_any-append (has_verb_kind kind) front (here ∷ []) ∙ ap (λ b. list_any (has_verb_kind kind) front || (b || false)) e ∙ by is
   where
@@ -41,14 +41,14 @@ any_more kind front here is e =
     by true = refl
     by false = refl
 
-abbrev made_of : Statement → NamedImage
-made_of one = record { name = operand 1 one; image = image_said one }
+abbrev made_of : ScriptStatement → NamedImage
+made_of one = record { name = operand 1 one; image = stated_image one }
 
-abbrev made_if : Bool → Statement → List NamedImage
+abbrev made_if : Bool → ScriptStatement → List NamedImage
 made_if true here = made_of here ∷ []
 made_if false here = []
 
-images_more : (front : List Statement) (here : Statement) (is : Bool) → has_verb_kind is_image here ≡ is → images (front ++ here ∷ []) ≡ images front ++ made_if is here
+images_more : (front : List ScriptStatement) (here : ScriptStatement) (is : Bool) → has_verb_kind is_image here ≡ is → images (front ++ here ∷ []) ≡ images front ++ made_if is here
 unfolding images
 images_more front here is e =
     ap (map made_of) (filter-append (has_verb_kind is_image) front (here ∷ [])) ∙ map-append made_of (of_kind is_image front) (of_kind is_image (here ∷ []))
@@ -62,14 +62,14 @@ last_more : {A : Type 0} (first : Option A) (all : List A) (one : A) → last_or
 last_more first [] one = refl
 last_more first (it ∷ all) one = last_more (Some it) all one
 
-last_user_more : (front : List Statement) (here : Statement) (is : Bool) → has_verb_kind is_user here ≡ is → last_user (front ++ here ∷ []) ≡ cond is (operand 1 here) (last_user front)
+last_user_more : (front : List ScriptStatement) (here : ScriptStatement) (is : Bool) → has_verb_kind is_user here ≡ is → last_user (front ++ here ∷ []) ≡ cond is (operand 1 here) (last_user front)
 last_user_more front here true e =
     ap (λ names. unwrap_or (last_or None names) []) (names_more is_user front here true e)
     ∙ ap (λ last. unwrap_or last []) (last_more None (stated_names (of_kind is_user front)) (operand 1 here))
 last_user_more front here false e =
     ap (λ names. unwrap_or (last_or None names) []) (names_more is_user front here false e ∙ append-nil (stated_names (of_kind is_user front)))
 
-users_kept : (front : List Statement) (here : Statement) (verb : Verb) → verb_of (words here.line) ≡ Some verb → is_user verb ≡ false → users (front ++ here ∷ []) ≡ users front
+users_kept : (front : List ScriptStatement) (here : ScriptStatement) (verb : Verb) → verb_of (words here.line) ≡ Some verb → is_user verb ≡ false → users (front ++ here ∷ []) ≡ users front
 users_kept front here verb e f = more_users front here verb e ∙ ap (λ b. cond b (with_name (users front) (operand 1 here)) (users front)) f
 
 -- ---- behind one statement more, by its kind
@@ -95,7 +95,7 @@ or_true true = refl
 or_true false = refl
 
 -- a statement that is none of the three
-pub behind_command : (so_far : ScriptSoFar) (front : List Statement) (here : Statement) (verb : Verb) (command : Option Command) → verb_of (words here.line) ≡ Some verb
+pub behind_command : (so_far : ScriptSoFar) (front : List ScriptStatement) (here : ScriptStatement) (verb : Verb) (command : Option Command) → verb_of (words here.line) ≡ Some verb
     → is_machine verb ≡ false → is_image verb ≡ false → is_user verb ≡ false → IsBehind so_far front → IsBehind (with_command so_far command) (front ++ here ∷ [])
 behind_command so_far front here verb command e machine image user is = record {
   dim = is.dim ∙ sym (dim_more front here false (kind_is is_machine here verb e ∙ machine) ∙ keeps_option (dimension front));
@@ -108,7 +108,7 @@ behind_command so_far front here verb command e machine image user is = record {
   users = is.users ∙ sym (users_kept front here verb e user);
 }
 
-pub behind_machine : (so_far : ScriptSoFar) (front : List Statement) (here : Statement) → verb_of (words here.line) ≡ Some Machine → is_some so_far.script.dim ≡ false
+pub behind_machine : (so_far : ScriptSoFar) (front : List ScriptStatement) (here : ScriptStatement) → verb_of (words here.line) ≡ Some Machine → is_some so_far.script.dim ≡ false
     → IsBehind so_far front → IsBehind (with_statement so_far Machine here) (front ++ here ∷ [])
 behind_machine so_far front here e none is = record {
   dim = sym (dim_more front here true (kind_is is_machine here Machine e) ∙ none_or (dimension front) (Some (operand_number 1 here)) (sym (ap is_some is.dim) ∙ none));
@@ -121,7 +121,7 @@ behind_machine so_far front here e none is = record {
   users = is.users ∙ sym (users_kept front here Machine e refl);
 }
 
-pub behind_image : (so_far : ScriptSoFar) (front : List Statement) (here : Statement) → verb_of (words here.line) ≡ Some Image
+pub behind_image : (so_far : ScriptSoFar) (front : List ScriptStatement) (here : ScriptStatement) → verb_of (words here.line) ≡ Some Image
     → IsBehind so_far front → IsBehind (with_statement so_far Image here) (front ++ here ∷ [])
 behind_image so_far front here e is = record {
   dim = is.dim ∙ sym (dim_more front here false (kind_is is_machine here Image e) ∙ keeps_option (dimension front));
@@ -134,7 +134,7 @@ behind_image so_far front here e is = record {
   users = is.users ∙ sym (users_kept front here Image e refl);
 }
 
-pub behind_user : (so_far : ScriptSoFar) (front : List Statement) (here : Statement) → verb_of (words here.line) ≡ Some User
+pub behind_user : (so_far : ScriptSoFar) (front : List ScriptStatement) (here : ScriptStatement) → verb_of (words here.line) ≡ Some User
     → IsBehind so_far front → IsBehind (with_statement so_far User here) (front ++ here ∷ [])
 behind_user so_far front here e is =
     let more = ap (λ known. with_name known (operand 1 here)) is.users ∙ sym (more_users front here User e) in

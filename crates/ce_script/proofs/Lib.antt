@@ -43,4 +43,5 @@ pub mod UnbornDone
 pub mod UsedAgainDone
 pub mod UsedAgainLegal
 pub mod Users
+pub mod VerbWords
 pub mod WithinLimits

@@ -3,10 +3,12 @@ use Rattle.std.proofs.Common.{◌≡◌, ℕ, zero, suc, ◌+◌, ◌≤◌, Lis
 use Rattle.std.specs.List.{range_with_len}
 use Rattle.std.specs.Int.{w32, to_le_bytes}
 use Rattle.std.proofs.lemmas.List.FromFn.{map-range_with_len_more}
+use Rattle.ce_script.specs.declared.load.TheConstants.{HAND_OVERS}
 use Rattle.ce_host.specs.declared.command.Command.{Command}
 use Rattle.ce_host.specs.declared.command.Command.TheVariants.{Spawn}
 use Rattle.ce_model.specs.Limits.{block_room}
-use Rattle.ce_script.specs.Load.{place, hand_overs, next_number, load_number, numbered_commands}
+use Rattle.ce_model.specs.Literals.{place}
+use Rattle.ce_script.specs.Load.{next_number, load_number, numbered_commands}
 
 -- the commands of the first users
 abbrev pub commands_below : ℕ → ℕ → List (ℕ × Command)
@@ -39,6 +41,6 @@ pub starts-more : (user count : ℕ) → starts_below user (count + 1) ≡ start
 starts-more user count = map-range_with_len_more (start_on user) 0 count count (omega arith)
 
 -- a message is short
-pub message_short : (number : ℕ) → length (to_le_bytes w32 number ++ to_le_bytes w32 hand_overs) ≤ block_room
+pub message_short : (number : ℕ) → length (to_le_bytes w32 number ++ to_le_bytes w32 HAND_OVERS) ≤ block_room
 unfolding block_room
 message_short number = lit≤ tt

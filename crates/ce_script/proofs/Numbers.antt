@@ -3,9 +3,10 @@ use Rattle.std.proofs.Common.{◌≡◌, ℕ, ◌≤◌, List, length, Bool, tru
 use Rattle.std.proofs.lemmas.Bool.Decides.{nat_tests}
 use Rattle.std.specs.Prelude.{is_none, unwrap_or}
 use Rattle.std.specs.Str.Parse.{digits_value}
+use Rattle.ce_script.specs.declared.spelling.TheConstants.{NUMBER_DIGITS}
 use Rattle.ce_text.specs.Number.{are_digits, number_of_digits}
 use Rattle.ce_script.specs.declared.script.ScriptKind.{ScriptKind}
-use Rattle.ce_script.specs.Spellings.{number_digits, greatest_number, bounded_number}
+use Rattle.ce_script.specs.Spellings.{greatest_number, bounded_number}
 use Rattle.ce_script.specs.Faults.{kind_where}
 
 above : (n most : ℕ) → n ≤ most → nat_le n most ≡ true
@@ -27,7 +28,7 @@ wider_by false few small value number most le is e = absurd cc
 wider : (word : List ℕ) (number most : ℕ) → most ≤ greatest_number → Some number ≡ bounded_number most word → bounded_number greatest_number word ≡ Some number
 unfolding bounded_number number_of_digits
 wider word number most le e =
-    wider_by (nat_le (length word) number_digits) (are_digits 10 word) (nat_le (digits_value 10 word) most) (digits_value 10 word) number most le refl e
+    wider_by (nat_le (length word) NUMBER_DIGITS) (are_digits 10 word) (nat_le (digits_value 10 word) most) (digits_value 10 word) number most le refl e
 
 -- a number that is found is no fault, and the one that any limit gives
 pub number_there : (kind : ScriptKind) (word : List ℕ) (number most : ℕ) → most ≤ greatest_number → Some number ≡ bounded_number most word

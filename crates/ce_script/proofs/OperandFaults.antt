@@ -11,10 +11,10 @@ use Rattle.ce_script.specs.declared.script.ScriptKind.{ScriptKind}
 use Rattle.ce_script.specs.declared.script.ScriptKind.TheVariants.{BadNumber, BadHex}
 use Rattle.ce_script.specs.Spellings.{greatest_number, bounded_number, data_in}
 use Rattle.ce_script.specs.Verbs.{OldImage}
-use Rattle.ce_script.specs.Statements.{Statement, operand}
+use Rattle.ce_script.specs.Statements.{ScriptStatement, operand}
 use Rattle.ce_script.specs.Sayings.{name_number, operand_place, command_of_verb}
 use Rattle.ce_script.specs.Faults.{first_some, kind_where, operand_fault}
-use Rattle.ce_script.specs.Reading.{operands_judged}
+use Rattle.ce_script.specs.Reading.{operands_judgment}
 
 or_none : {A : Type 0} (one : Option A) → option_or one None ≡ one
 or_none None = refl
@@ -25,54 +25,54 @@ or_assoc None two three = refl
 or_assoc (Some x) two three = refl
 
 -- the number at a place is none, or above this
-abbrev pub number_fault : ℕ → ℕ → Statement → Option ScriptKind
+abbrev pub number_fault : ℕ → ℕ → ScriptStatement → Option ScriptKind
 number_fault place most here = kind_where (is_none (bounded_number most (operand place here))) BadNumber
 
 -- the numbers of a place
-abbrev pub place_fault_at : ℕ → Statement → Option ScriptKind
+abbrev pub place_fault_at : ℕ → ScriptStatement → Option ScriptKind
 place_fault_at place here = first_some (number_fault place greatest_number here ∷ number_fault (place + 1) greatest_number here ∷ [])
 
-module _ (names : List (List ℕ)) (here : Statement) where
-  pub machine_fault : operands_judged names Machine here ≡ number_fault 1 GREATEST_DIMENSION here
-  unfolding operands_judged greatest_dim
+module _ (names : List (List ℕ)) (here : ScriptStatement) where
+  pub machine_fault : operands_judgment names Machine here ≡ number_fault 1 GREATEST_DIMENSION here
+  unfolding operands_judgment greatest_dim
   machine_fault = or_none (number_fault 1 GREATEST_DIMENSION here)
 
-  pub getcube_fault : operands_judged names Getcube here ≡ number_fault 1 GREATEST_DIMENSION here
-  unfolding operands_judged greatest_dim
+  pub getcube_fault : operands_judgment names Getcube here ≡ number_fault 1 GREATEST_DIMENSION here
+  unfolding operands_judgment greatest_dim
   getcube_fault = or_none (number_fault 1 GREATEST_DIMENSION here)
 
-  pub run_fault : operands_judged names Run here ≡ number_fault 1 GREATEST_COUNT here
-  unfolding operands_judged greatest_count
+  pub run_fault : operands_judgment names Run here ≡ number_fault 1 GREATEST_COUNT here
+  unfolding operands_judgment greatest_count
   run_fault = or_none (number_fault 1 GREATEST_COUNT here)
 
-  pub recv_fault : operands_judged names Recv here ≡ number_fault 1 GREATEST_COUNT here
-  unfolding operands_judged greatest_count
+  pub recv_fault : operands_judgment names Recv here ≡ number_fault 1 GREATEST_COUNT here
+  unfolding operands_judgment greatest_count
   recv_fault = or_none (number_fault 1 GREATEST_COUNT here)
 
-  pub kill_fault : operands_judged names Kill here ≡ place_fault_at 1 here
-  unfolding operands_judged
+  pub kill_fault : operands_judgment names Kill here ≡ place_fault_at 1 here
+  unfolding operands_judgment
   kill_fault = refl
 
-  pub dump_fault : operands_judged names Dump here ≡ place_fault_at 1 here
-  unfolding operands_judged
+  pub dump_fault : operands_judgment names Dump here ≡ place_fault_at 1 here
+  unfolding operands_judgment
   dump_fault = refl
 
-  pub spawn_fault : operands_judged names Spawn here ≡ option_or (operand_fault names OldImage (operand 1 here)) (place_fault_at 2 here)
-  unfolding operands_judged
+  pub spawn_fault : operands_judgment names Spawn here ≡ option_or (operand_fault names OldImage (operand 1 here)) (place_fault_at 2 here)
+  unfolding operands_judgment
   spawn_fault = refl
 
   -- the command of a spawn line
   pub spawn_there : (image : ℕ) (to : Place) → (operand_fault names OldImage (operand 1 here) ≡ None) × (Some (name_number (operand 1 here) names) ≡ Some image)
       → (place_fault_at 2 here ≡ None) × (Some (operand_place 2 here) ≡ Some to)
-      → (operands_judged names Spawn here ≡ None) × (command_of_verb Spawn names here ≡ Some (command.Spawn image to))
+      → (operands_judgment names Spawn here ≡ None) × (command_of_verb Spawn names here ≡ Some (command.Spawn image to))
   spawn_there image to named placed = (
     spawn_fault ∙ ap (λ one. option_or one (place_fault_at 2 here)) named.0 ∙ placed.0,
     ap (λ (found : Option ℕ). Some (command.Spawn (unwrap_or found 0) (operand_place 2 here))) named.1
         ∙ ap (λ (found : Option Place). Some (command.Spawn image (unwrap_or found (operand_place 2 here)))) placed.1,
   )
 
-  pub send_fault : operands_judged names Send here ≡ option_or (place_fault_at 1 here) (kind_where (is_none (data_in (operand 3 here))) BadHex)
-  unfolding operands_judged
+  pub send_fault : operands_judgment names Send here ≡ option_or (place_fault_at 1 here) (kind_where (is_none (data_in (operand 3 here))) BadHex)
+  unfolding operands_judgment
   send_fault =
       let node = number_fault 1 greatest_number here in
       let pid = number_fault 2 greatest_number here in
@@ -81,14 +81,14 @@ module _ (names : List (List ℕ)) (here : Statement) where
       ∙ ap (λ rest. option_or node (option_or rest hex)) (sym (or_none pid))
       ∙ sym (or_assoc node (option_or pid None) hex)
 
-  pub peek_fault : operands_judged names Peek here ≡ None
-  unfolding operands_judged
+  pub peek_fault : operands_judgment names Peek here ≡ None
+  unfolding operands_judgment
   peek_fault = refl
 
-  pub freecube_fault : operands_judged names Freecube here ≡ None
-  unfolding operands_judged
+  pub freecube_fault : operands_judgment names Freecube here ≡ None
+  unfolding operands_judgment
   freecube_fault = refl
 
-  pub trace_fault : operands_judged names Trace here ≡ None
-  unfolding operands_judged
+  pub trace_fault : operands_judgment names Trace here ≡ None
+  unfolding operands_judgment
   trace_fault = refl

@@ -5,7 +5,7 @@ use Rattle.rv_model.specs.declared.memory.NoMemory.{NoMemory}
 use Rattle.rv_asm.specs.declared.fault.AsmFault.{AsmFault}
 use Rattle.rv_asm.specs.declared.fault.AsmKind.{AsmKind}
 use Rattle.rv_asm.specs.declared.fault.AsmKind.TheVariants.{Memory}
-use Rattle.rv_asm.specs.Faults.{Unless}
+use Rattle.rv_asm.specs.Faults.{AsmUnless}
 use Rattle.rv_asm.specs.Assembly.{IsAssemblyOf}
 use Rattle.ce_script.specs.AssemblyImage.{assembly_image}
 use Rattle.ce_script.specs.Bodies.{image_or_nothing}
@@ -17,7 +17,7 @@ pub assembled_ring : (text : List ℕ) (image : ImageParts) → text ≡ ring_te
 unfolding ring_image
 assembled_ring text image same made = ap image_or_nothing (sym (assembles_image text image made) ∙ ap assembly_image same)
 
-known_unless : (kind : AsmKind) (P : Type 0) → ((cause : NoMemory) → kind ≡ Memory cause → ⊥) → Unless kind P → P
+known_unless : (kind : AsmKind) (P : Type 0) → ((cause : NoMemory) → kind ≡ Memory cause → ⊥) → AsmUnless kind P → P
 known_unless (Memory cause) P other known = absurd (other cause refl)
 known_unless kind P other known = known
 

@@ -9,7 +9,6 @@ use Rattle.ce_model.specs.Limits.{host_home, greatest_dim}
 use Rattle.ce_model.specs.Subcubes.{extract, relative_number}
 use Rattle.ce_model.specs.Views.{view}
 use Rattle.ce_model.proofs.Rows.UsedAgain.{first_cube, second_cube}
-pub use Rattle.ce_model.proofs.Rows.UsedAgain.{first_sends as alice_sends}
 use Rattle.ce_host.specs.declared.command.Command.{Command}
 use Rattle.ce_host.specs.declared.command.Command.TheVariants.{Getcube, Send, Freecube, Spawn, Run}
 use Rattle.ce_host.specs.declared.answer.Answer.{Answer}

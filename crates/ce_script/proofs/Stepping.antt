@@ -15,12 +15,12 @@ use Rattle.ce_script.specs.declared.script.ScriptKind.TheVariants.{BadByte, Word
 use Rattle.ce_script.specs.Lines.{Spot, words, has_bad_byte}
 use Rattle.ce_script.specs.Names.{is_name}
 use Rattle.ce_script.specs.Verbs.{verb_of, is_machine, is_image, is_user, is_command, Operand, operands_of, NewImage}
-use Rattle.ce_script.specs.Statements.{Statement, operand, has_verb_kind}
+use Rattle.ce_script.specs.Statements.{ScriptStatement, operand, has_verb_kind}
 use Rattle.ce_script.specs.Bodies.{located_fault}
-use Rattle.ce_script.specs.Sayings.{of_kind, stated_names, without_repeats, image_said, images, image_names, users}
+use Rattle.ce_script.specs.Sayings.{of_kind, stated_names, without_repeats, stated_image, images, image_names, users}
 use Rattle.ce_script.specs.Faults.{first_some, kind_where, is_unknown, has_wrong_count, has_unknown_form, operand_fault, operands_fault, is_one_too_many, lacks_end, lacks_machine, lacks_user, is_second_machine, line_fault, image_fault, statement_fault}
-use Rattle.ce_script.specs.Reading.{word_fault, place_fault, operands_judged, with_name}
-use Rattle.ce_script.specs.Standing.{names_so_far, AreFew, rest_fault, verb_fault, line_judged, statement_judged, IsBehind}
+use Rattle.ce_script.specs.Reading.{word_fault, place_fault, operands_judgment, with_name}
+use Rattle.ce_script.specs.Standing.{names_so_far, AreFew, rest_fault, verb_fault, line_judgment, statement_judgment, IsBehind}
 use Rattle.ce_script.proofs.Judged.{names_append}
 use Rattle.ce_script.proofs.Users.{distinct_behind_one}
 
@@ -36,7 +36,7 @@ or_none (Some x) = refl
 
 -- ---- what one statement more says
 
-pub names_more : (kind : Verb → Bool) (front : List Statement) (here : Statement) (is : Bool) → has_verb_kind kind here ≡ is
+pub names_more : (kind : Verb → Bool) (front : List ScriptStatement) (here : ScriptStatement) (is : Bool) → has_verb_kind kind here ≡ is
     → stated_names (of_kind kind (front ++ here ∷ [])) ≡ cond is (stated_names (of_kind kind front) ++ operand 1 here ∷ []) (stated_names (of_kind kind front) ++ [])
 names_more kind front here true e =
     names_append kind front (here ∷ []) ∙ ap (λ (b : Bool). stated_names (of_kind kind front) ++ stated_names (cond b (here ∷ []) [])) e
@@ -44,24 +44,24 @@ names_more kind front here false e =
     names_append kind front (here ∷ []) ∙ ap (λ (b : Bool). stated_names (of_kind kind front) ++ stated_names (cond b (here ∷ []) [])) e
 
 -- the kind of a statement with this verb
-pub kind_is : (kind : Verb → Bool) (here : Statement) (verb : Verb) → verb_of (words here.line) ≡ Some verb → has_verb_kind kind here ≡ kind verb
+pub kind_is : (kind : Verb → Bool) (here : ScriptStatement) (verb : Verb) → verb_of (words here.line) ≡ Some verb → has_verb_kind kind here ≡ kind verb
 kind_is kind here verb e = ap (λ found. option_map_or kind found false) e
 
-named_names : (front : List Statement) → map (λ (named : NamedImage). named.name) (images front) ≡ image_names front
+named_names : (front : List ScriptStatement) → map (λ (named : NamedImage). named.name) (images front) ≡ image_names front
 unfolding images image_names
 named_names front = mapped (of_kind is_image front)
   where
-    mapped : (all : List Statement) → map (λ (named : NamedImage). named.name) (map (λ (one : Statement). record { name = operand 1 one; image = image_said one }) all) ≡ stated_names all
+    mapped : (all : List ScriptStatement) → map (λ (named : NamedImage). named.name) (map (λ (one : ScriptStatement). record { name = operand 1 one; image = stated_image one }) all) ≡ stated_names all
     mapped [] = refl
     mapped (one ∷ others) = ap (λ names. operand 1 one ∷ names) (mapped others)
 
 -- the names of the images that the reader knows
-pub known_names : (so_far : ScriptSoFar) (front : List Statement) → IsBehind so_far front → names_so_far so_far ≡ image_names front
+pub known_names : (so_far : ScriptSoFar) (front : List ScriptStatement) → IsBehind so_far front → names_so_far so_far ≡ image_names front
 known_names so_far front is = ap (map (λ (named : NamedImage). named.name)) is.images ∙ named_names front
 
 -- ---- the parts of a statement's fault
 
-placed_on : (images : List (List ℕ)) → Statement → ℕ × Operand → Option ScriptKind
+placed_on : (images : List (List ℕ)) → ScriptStatement → ℕ × Operand → Option ScriptKind
 placed_on images here placed = operand_fault images placed.1 (operand placed.0 here)
 
 -- the faults from the words to the place, and those behind them
@@ -76,7 +76,7 @@ module _ (bytes unknown count machine second user operands many end : Option Scr
 
 -- ---- how many users and images there are
 
-more_names : (kind : Verb → Bool) (front : List Statement) (here : Statement) (verb : Verb) → verb_of (words here.line) ≡ Some verb
+more_names : (kind : Verb → Bool) (front : List ScriptStatement) (here : ScriptStatement) (verb : Verb) → verb_of (words here.line) ≡ Some verb
     → stated_names (of_kind kind (front ++ here ∷ [])) ≡ stated_names (of_kind kind front) ++ cond (kind verb) (operand 1 here ∷ []) []
 more_names kind front here verb e = by (kind verb) (kind_is kind here verb e)
   where
@@ -85,7 +85,7 @@ more_names kind front here verb e = by (kind verb) (kind_is kind here verb e)
     by false e = names_more kind front here false e
 
 -- the users behind one statement more
-pub more_users : (front : List Statement) (here : Statement) (verb : Verb) → verb_of (words here.line) ≡ Some verb
+pub more_users : (front : List ScriptStatement) (here : ScriptStatement) (verb : Verb) → verb_of (words here.line) ≡ Some verb
     → users (front ++ here ∷ []) ≡ cond (is_user verb) (with_name (users front) (operand 1 here)) (users front)
 unfolding users
 more_users front here verb e = ap without_repeats (more_names is_user front here verb e) ∙ by (is_user verb)
@@ -95,7 +95,7 @@ more_users front here verb e = ap without_repeats (more_names is_user front here
     by false = ap without_repeats (append-nil (stated_names (of_kind is_user front)))
 
 -- the names of the images behind one statement more
-pub more_images : (front : List Statement) (here : Statement) (verb : Verb) → verb_of (words here.line) ≡ Some verb
+pub more_images : (front : List ScriptStatement) (here : ScriptStatement) (verb : Verb) → verb_of (words here.line) ≡ Some verb
     → image_names (front ++ here ∷ []) ≡ image_names front ++ cond (is_image verb) (operand 1 here ∷ []) []
 unfolding image_names
 more_images front here verb e = more_names is_image front here verb e
@@ -104,7 +104,7 @@ no_more_than : (most n : ℕ) → n ≤ most → nat_lt most n ≡ false
 no_more_than most n le = grind (arith, nat_tests)
 
 -- what the reader asks behind some statements
-pub too_many : (so_far : ScriptSoFar) (front rest : List Statement) (here : Statement) (verb : Verb) → IsBehind so_far front → AreFew so_far → verb_of (words here.line) ≡ Some verb
+pub too_many : (so_far : ScriptSoFar) (front rest : List ScriptStatement) (here : ScriptStatement) (verb : Verb) → IsBehind so_far front → AreFew so_far → verb_of (words here.line) ≡ Some verb
     → is_one_too_many (record { before = front; here = here; behind = rest })
     ≡ (nat_lt greatest_users (length (cond (is_user verb) (with_name so_far.script.users (operand 1 here)) so_far.script.users))
     || nat_lt greatest_images (length (names_so_far so_far ++ cond (is_image verb) (operand 1 here ∷ []) [])))
@@ -114,15 +114,15 @@ too_many so_far front rest here verb is few e =
 
 -- ---- the whole fault of a statement
 
-placed_same : (front rest : List Statement) (here : Statement) (so_far : ScriptSoFar) (verb : Verb) → IsBehind so_far front → verb_of (words here.line) ≡ Some verb
-    → operands_fault (record { before = front; here = here; behind = rest }) ≡ operands_judged (names_so_far so_far) verb here
-unfolding operands_fault operands_judged
+placed_same : (front rest : List ScriptStatement) (here : ScriptStatement) (so_far : ScriptSoFar) (verb : Verb) → IsBehind so_far front → verb_of (words here.line) ≡ Some verb
+    → operands_fault (record { before = front; here = here; behind = rest }) ≡ operands_judgment (names_so_far so_far) verb here
+unfolding operands_fault operands_judgment
 placed_same front rest here so_far verb is e =
     ap (λ (names : List (List ℕ)). first_some (map (λ placed. operand_fault names placed.1 (operand placed.0 here)) (enumerate_from 1 (option_map_or operands_of (verb_of (words here.line)) [])))) (sym (known_names so_far front is))
     ∙ ap (λ (found : Option Verb). first_some (map (λ placed. operand_fault (names_so_far so_far) placed.1 (operand placed.0 here)) (enumerate_from 1 (option_map_or operands_of found [])))) e
 
 -- the fault of the place
-place_same : (front rest : List Statement) (here : Statement) (so_far : ScriptSoFar) (verb : Verb) → IsBehind so_far front → verb_of (words here.line) ≡ Some verb
+place_same : (front rest : List ScriptStatement) (here : ScriptStatement) (so_far : ScriptSoFar) (verb : Verb) → IsBehind so_far front → verb_of (words here.line) ≡ Some verb
     → option_or (kind_where (lacks_machine (record { before = front; here = here; behind = rest })) NoMachine)
     (option_or (kind_where (is_second_machine (record { before = front; here = here; behind = rest })) SecondMachine) (kind_where (lacks_user (record { before = front; here = here; behind = rest })) NoUser))
     ≡ place_fault (is_some so_far.script.dim) (is_some so_far.user) verb
@@ -136,7 +136,7 @@ place_same front rest here so_far verb is e =
     ∙ ap (λ b. table (is_machine verb) (is_some so_far.script.dim) (is_command verb) b) (sym is.has_user)
 
 -- what stands behind the operands
-abbrev behind_operands : (so_far : ScriptSoFar) (verb : Verb) (here : Statement) → Option ScriptKind
+abbrev behind_operands : (so_far : ScriptSoFar) (verb : Verb) (here : ScriptStatement) → Option ScriptKind
 behind_operands so_far verb here =
     option_or (kind_where (nat_lt greatest_users (length (cond (is_user verb) (with_name so_far.script.users (operand 1 here)) so_far.script.users))
     || nat_lt greatest_images (length (names_so_far so_far ++ cond (is_image verb) (operand 1 here ∷ []) []))) TooMany)
@@ -158,8 +158,8 @@ or_false true = refl
 or_false false = refl
 
 -- what is asked behind the place
-rest_same : (so_far : ScriptSoFar) (verb : Verb) (here : Statement) → AreFew so_far → option_or (operands_judged (names_so_far so_far) verb here) (behind_operands so_far verb here) ≡ rest_fault so_far verb here
-unfolding operands_judged
+rest_same : (so_far : ScriptSoFar) (verb : Verb) (here : ScriptStatement) → AreFew so_far → option_or (operands_judgment (names_so_far so_far) verb here) (behind_operands so_far verb here) ≡ rest_fault so_far verb here
+unfolding operands_judgment
 rest_same so_far User here few =
     let name = operand 1 here in
     let bad = kind_where (not (is_name name)) BadName in
@@ -176,41 +176,41 @@ rest_same so_far Image here few =
     ap (λ users. option_or (option_or named None) (option_or (kind_where (users || over) TooMany) end)) (few_users so_far few)
     ∙ ap (λ front. option_or front (option_or (kind_where over TooMany) end)) (or_none named)
     ∙ sym (or_assoc named (kind_where over TooMany) end)
-rest_same so_far Machine here few = few_by _ _ (operands_judged (names_so_far so_far) Machine here) (few_users so_far few) (few_images so_far few)
-rest_same so_far Getcube here few = few_by _ _ (operands_judged (names_so_far so_far) Getcube here) (few_users so_far few) (few_images so_far few)
-rest_same so_far Peek here few = few_by _ _ (operands_judged (names_so_far so_far) Peek here) (few_users so_far few) (few_images so_far few)
-rest_same so_far Freecube here few = few_by _ _ (operands_judged (names_so_far so_far) Freecube here) (few_users so_far few) (few_images so_far few)
-rest_same so_far Spawn here few = few_by _ _ (operands_judged (names_so_far so_far) Spawn here) (few_users so_far few) (few_images so_far few)
-rest_same so_far Kill here few = few_by _ _ (operands_judged (names_so_far so_far) Kill here) (few_users so_far few) (few_images so_far few)
-rest_same so_far Send here few = few_by _ _ (operands_judged (names_so_far so_far) Send here) (few_users so_far few) (few_images so_far few)
-rest_same so_far Run here few = few_by _ _ (operands_judged (names_so_far so_far) Run here) (few_users so_far few) (few_images so_far few)
-rest_same so_far Recv here few = few_by _ _ (operands_judged (names_so_far so_far) Recv here) (few_users so_far few) (few_images so_far few)
-rest_same so_far Dump here few = few_by _ _ (operands_judged (names_so_far so_far) Dump here) (few_users so_far few) (few_images so_far few)
-rest_same so_far Trace here few = few_by _ _ (operands_judged (names_so_far so_far) Trace here) (few_users so_far few) (few_images so_far few)
+rest_same so_far Machine here few = few_by _ _ (operands_judgment (names_so_far so_far) Machine here) (few_users so_far few) (few_images so_far few)
+rest_same so_far Getcube here few = few_by _ _ (operands_judgment (names_so_far so_far) Getcube here) (few_users so_far few) (few_images so_far few)
+rest_same so_far Peek here few = few_by _ _ (operands_judgment (names_so_far so_far) Peek here) (few_users so_far few) (few_images so_far few)
+rest_same so_far Freecube here few = few_by _ _ (operands_judgment (names_so_far so_far) Freecube here) (few_users so_far few) (few_images so_far few)
+rest_same so_far Spawn here few = few_by _ _ (operands_judgment (names_so_far so_far) Spawn here) (few_users so_far few) (few_images so_far few)
+rest_same so_far Kill here few = few_by _ _ (operands_judgment (names_so_far so_far) Kill here) (few_users so_far few) (few_images so_far few)
+rest_same so_far Send here few = few_by _ _ (operands_judgment (names_so_far so_far) Send here) (few_users so_far few) (few_images so_far few)
+rest_same so_far Run here few = few_by _ _ (operands_judgment (names_so_far so_far) Run here) (few_users so_far few) (few_images so_far few)
+rest_same so_far Recv here few = few_by _ _ (operands_judgment (names_so_far so_far) Recv here) (few_users so_far few) (few_images so_far few)
+rest_same so_far Dump here few = few_by _ _ (operands_judgment (names_so_far so_far) Dump here) (few_users so_far few) (few_images so_far few)
+rest_same so_far Trace here few = few_by _ _ (operands_judgment (names_so_far so_far) Trace here) (few_users so_far few) (few_images so_far few)
 
 -- the table of a statement with a verb
-with_verb : (front rest : List Statement) (here : Statement) (so_far : ScriptSoFar) (verb : Verb) → IsBehind so_far front → AreFew so_far → verb_of (words here.line) ≡ Some verb
-    → line_fault (record { before = front; here = here; behind = rest }) ≡ line_judged so_far here
+with_verb : (front rest : List ScriptStatement) (here : ScriptStatement) (so_far : ScriptSoFar) (verb : Verb) → IsBehind so_far front → AreFew so_far → verb_of (words here.line) ≡ Some verb
+    → line_fault (record { before = front; here = here; behind = rest }) ≡ line_judgment so_far here
 unfolding line_fault word_fault
 with_verb front rest here so_far verb is few e =
-    let spot : Spot Statement = record { before = front; here = here; behind = rest } in
+    let spot : Spot ScriptStatement = record { before = front; here = here; behind = rest } in
     let word = word_fault here in
     let end = kind_where (lacks_end here) NoEnd in
     let many = kind_where (is_one_too_many spot) TooMany in
     in_parts (kind_where (has_bad_byte here.line) BadByte) (kind_where (is_unknown here) UnknownWord) (kind_where (has_wrong_count here) WordCount) (kind_where (lacks_machine spot) NoMachine) (kind_where (is_second_machine spot) SecondMachine) (kind_where (lacks_user spot) NoUser) (operands_fault spot) many end
     ∙ ap (λ place. option_or word (option_or place (option_or (operands_fault spot) (option_or many end)))) (place_same front rest here so_far verb is e)
     ∙ ap (λ operands. option_or word (option_or (place_fault (is_some so_far.script.dim) (is_some so_far.user) verb) (option_or operands (option_or many end)))) (placed_same front rest here so_far verb is e)
-    ∙ ap (λ over. option_or word (option_or (place_fault (is_some so_far.script.dim) (is_some so_far.user) verb) (option_or (operands_judged (names_so_far so_far) verb here) (option_or (kind_where over TooMany) end)))) (too_many so_far front rest here verb is few e)
-    ∙ ap (λ image. option_or word (option_or (place_fault (is_some so_far.script.dim) (is_some so_far.user) verb) (option_or (operands_judged (names_so_far so_far) verb here) (option_or (kind_where (nat_lt greatest_users (length (cond (is_user verb) (with_name so_far.script.users (operand 1 here)) so_far.script.users)) || nat_lt greatest_images (length (names_so_far so_far ++ cond (is_image verb) (operand 1 here ∷ []) []))) TooMany) (kind_where (image && is_none here.body) NoEnd))))) (kind_is is_image here verb e)
+    ∙ ap (λ over. option_or word (option_or (place_fault (is_some so_far.script.dim) (is_some so_far.user) verb) (option_or (operands_judgment (names_so_far so_far) verb here) (option_or (kind_where over TooMany) end)))) (too_many so_far front rest here verb is few e)
+    ∙ ap (λ image. option_or word (option_or (place_fault (is_some so_far.script.dim) (is_some so_far.user) verb) (option_or (operands_judgment (names_so_far so_far) verb here) (option_or (kind_where (nat_lt greatest_users (length (cond (is_user verb) (with_name so_far.script.users (operand 1 here)) so_far.script.users)) || nat_lt greatest_images (length (names_so_far so_far ++ cond (is_image verb) (operand 1 here ∷ []) []))) TooMany) (kind_where (image && is_none here.body) NoEnd))))) (kind_is is_image here verb e)
     ∙ ap (λ rest. option_or word (option_or (place_fault (is_some so_far.script.dim) (is_some so_far.user) verb) rest)) (rest_same so_far verb here few)
     ∙ ap (λ found. option_or word (option_and_then (λ it. verb_fault so_far it here) found)) (sym e)
 
-without_verb : (front rest : List Statement) (here : Statement) (so_far : ScriptSoFar) → verb_of (words here.line) ≡ None
-    → line_fault (record { before = front; here = here; behind = rest }) ≡ line_judged so_far here
+without_verb : (front rest : List ScriptStatement) (here : ScriptStatement) (so_far : ScriptSoFar) → verb_of (words here.line) ≡ None
+    → line_fault (record { before = front; here = here; behind = rest }) ≡ line_judgment so_far here
 unfolding line_fault word_fault
 without_verb front rest here so_far e =
     let bytes = kind_where (has_bad_byte here.line) BadByte in
-    let spot : Spot Statement = record { before = front; here = here; behind = rest } in
+    let spot : Spot ScriptStatement = record { before = front; here = here; behind = rest } in
     let count = kind_where (has_wrong_count here) WordCount in
     let later = option_or count (option_or (kind_where (lacks_machine spot) NoMachine) (option_or (kind_where (is_second_machine spot) SecondMachine) (option_or (kind_where (lacks_user spot) NoUser) (option_or (operands_fault spot) (option_or (kind_where (is_one_too_many spot) TooMany) (option_or (kind_where (lacks_end here) NoEnd) None)))))) in
     let unknown : kind_where (is_unknown here) UnknownWord ≡ Some UnknownWord = ap (λ (found : Option Verb). kind_where (is_none found || (has_verb_kind is_image here && has_unknown_form (words here.line))) UnknownWord) e in
@@ -222,15 +222,15 @@ without_verb front rest here so_far e =
     last None behind = refl
     last (Some kind) behind = refl
 
-pub line_same : (front rest : List Statement) (here : Statement) (so_far : ScriptSoFar) → IsBehind so_far front → AreFew so_far
-    → line_fault (record { before = front; here = here; behind = rest }) ≡ line_judged so_far here
+pub line_same : (front rest : List ScriptStatement) (here : ScriptStatement) (so_far : ScriptSoFar) → IsBehind so_far front → AreFew so_far
+    → line_fault (record { before = front; here = here; behind = rest }) ≡ line_judgment so_far here
 line_same front rest here so_far is few = by (verb_of (words here.line)) refl
   where
-    by : (found : Option Verb) → verb_of (words here.line) ≡ found → line_fault (record { before = front; here = here; behind = rest }) ≡ line_judged so_far here
+    by : (found : Option Verb) → verb_of (words here.line) ≡ found → line_fault (record { before = front; here = here; behind = rest }) ≡ line_judgment so_far here
     by None e = without_verb front rest here so_far e
     by (Some verb) e = with_verb front rest here so_far verb is few e
 
 -- a statement is judged by what the reader knows
-pub statement_same : (front rest : List Statement) (here : Statement) (so_far : ScriptSoFar) → IsBehind so_far front → AreFew so_far
-    → statement_fault (record { before = front; here = here; behind = rest }) ≡ statement_judged so_far here
+pub statement_same : (front rest : List ScriptStatement) (here : ScriptStatement) (so_far : ScriptSoFar) → IsBehind so_far front → AreFew so_far
+    → statement_fault (record { before = front; here = here; behind = rest }) ≡ statement_judgment so_far here
 statement_same front rest here so_far is few = ap (λ line. option_or (option_map (located_fault here.line.number) line) (image_fault here)) (line_same front rest here so_far is few)

@@ -15,7 +15,7 @@ use Rattle.ce_model.specs.Cube.{Cube, opening, state, hoststore, HostCall, Solo,
 use Rattle.ce_model.specs.Owners.{IsOwned}
 use Rattle.ce_model.specs.Order.{IsInOrder}
 use Rattle.ce_model.specs.Machine.{IsLawful, after}
-use Rattle.ce_model.proofs.Rows.UsedAgain.{row_is_lawful}
+use Rattle.ce_model.proofs.Rows.UsedAgain.{first_sends, row_is_lawful}
 use Rattle.ce_script.specs.Rounds.{serial}
 use Rattle.ce_script.specs.Moments.{moments, holding}
 use Rattle.ce_host.specs.declared.command.Command.TheVariants.{Getcube}
@@ -25,7 +25,7 @@ use Rattle.ce_script.specs.Doings.{IsRefusedExactly, Doing, AreRefusedExactly}
 use Rattle.ce_script.specs.Legal.{EachCube, IsLegal, script_images, machine_of}
 use Rattle.ce_script.specs.Serial.{IsSerial}
 use Rattle.ce_script.proofs.Rows.{first_bytes, second_bytes, third_bytes, doing_in, entry_of, place}
-use Rattle.ce_script.proofs.RowUsedAgain.{the_script, the_record, alice_sends}
+use Rattle.ce_script.proofs.RowUsedAgain.{the_script, the_record}
 use Rattle.ce_script.proofs.UsedAgainDone.{HasSaidRow, alice_doings, bob_doings, bob_cube, bob_trace, is_kept, alice_did, bob_did}
 
 -- ---- refusals
@@ -45,7 +45,7 @@ abbrev alice_cube : ImageParts → Cube
 alice_cube image = record { user = 0; dim = 0; images = image ∷ [] }
 
 abbrev alice_trace : List Entry
-alice_trace = alice_sends 0 first_bytes ∷ alice_sends 1 second_bytes ∷ alice_sends 2 third_bytes ∷ []
+alice_trace = first_sends 0 first_bytes ∷ first_sends 1 second_bytes ∷ first_sends 2 third_bytes ∷ []
 
 alice_alone : (image : ImageParts) → IsAlone (alice_cube image) alice_trace
 unfolding solo continued_solo next_entry hoststore answer waiting_items sent_items taken_results spawned_ids killed_ids mark allowed_dispatches made_dispatches parcels process_count home_blocks host_home

@@ -7,6 +7,7 @@ use Rattle.std.specs.Prelude.{IfSome, find, is_none, unwrap_or, option_map, opti
 use Rattle.std.specs.Option.{option_map_or}
 use Rattle.std.specs.Str.Parse.{digits_value}
 use Rattle.std.specs.List.{AllByRecursion, list_any, last_or}
+use Rattle.ce_script.specs.declared.spelling.TheConstants.{NUMBER_DIGITS}
 use Rattle.ce_model.specs.Limits.{greatest_dim, greatest_count, greatest_users, greatest_images, block_room}
 use Rattle.ce_host.specs.declared.command.Command.{Command}
 use Rattle.ce_script.specs.declared.grammar.Verb.{Verb}
@@ -16,10 +17,10 @@ use Rattle.ce_script.specs.declared.script.Script.{Script}
 use Rattle.ce_script.specs.declared.script.ScriptKind.TheVariants.{BadNumber, UnknownImage}
 use Rattle.ce_script.specs.Lines.{Spot, spots, later_spots, words}
 use Rattle.ce_text.specs.Number.{are_digits, number_of_digits}
-use Rattle.ce_script.specs.Spellings.{are_byte_digits, digit_bytes, number_digits, greatest_number, bounded_number, written_bytes, data_in}
+use Rattle.ce_script.specs.Spellings.{are_byte_digits, digit_bytes, greatest_number, bounded_number, written_bytes, data_in}
 use Rattle.ce_script.specs.Verbs.{verb_of, is_machine, is_image, is_user, is_command, Number, OldImage}
-use Rattle.ce_script.specs.Statements.{Statement, operand, has_verb_kind, statements}
-use Rattle.ce_script.specs.Sayings.{of_kind, stated_names, name_number, operand_number, image_said, without_repeats, dimension, images, image_names, users, command_of_verb, command_of_statement, last_user, numbered_command, commands}
+use Rattle.ce_script.specs.Statements.{ScriptStatement, operand, has_verb_kind, statements}
+use Rattle.ce_script.specs.Sayings.{of_kind, stated_names, name_number, operand_number, stated_image, without_repeats, dimension, images, image_names, users, command_of_verb, command_of_statement, last_user, numbered_command, commands}
 use Rattle.ce_script.specs.Faults.{is_one_name_of, operand_fault, statement_fault, first_fault}
 use Rattle.ce_script.specs.Scripts.{IsScript}
 use Rattle.ce_script.specs.Bounds.{AreNames, IsCommandWithin, IsOwnCommandWithin, IsWithinLimits}
@@ -45,7 +46,7 @@ number_within false few n most e = absurd cc
 at_most : (most : ℕ) (names : List (List ℕ)) (word : List ℕ) → operand_fault names (Number most) word ≡ None → unwrap_or (bounded_number greatest_number word) 0 ≤ most
 unfolding bounded_number number_of_digits
 at_most most names word e =
-    number_within (nat_le (length word) number_digits) (are_digits 10 word) (digits_value 10 word) most (refused_none (is_none (bounded_number most word)) BadNumber e)
+    number_within (nat_le (length word) NUMBER_DIGITS) (are_digits 10 word) (digits_value 10 word) most (refused_none (is_none (bounded_number most word)) BadNumber e)
 
 -- the image of a name that was not refused is one of those
 old_image : (before more : List (List ℕ)) (word : List ℕ) → operand_fault before OldImage word ≡ None → name_number word (before ++ more) < length (before ++ more)
@@ -83,7 +84,7 @@ none : {A : Type 0} (one : A) → None ≡ Some one → ⊥
 none one e = cc
 
 -- the command of a statement keeps the limits, where these images stand before it and these more behind
-command_within : (spot : Spot Statement) (verb : Verb) (more : List (List ℕ)) (command : Command) → IsRight spot → verb_of (words spot.here.line) ≡ Some verb
+command_within : (spot : Spot ScriptStatement) (verb : Verb) (more : List (List ℕ)) (command : Command) → IsRight spot → verb_of (words spot.here.line) ≡ Some verb
     → command_of_verb verb (image_names spot.before ++ more) spot.here ≡ Some command → IsCommandWithin (length (image_names spot.before ++ more)) command
 command_within spot Machine more command is v e = absurd (none command e)
 command_within spot Image more command is v e = absurd (none command e)
@@ -110,23 +111,23 @@ command_within spot Trace more command is v e = subst (IsCommandWithin (length (
 
 -- ---- users
 
-there_is : (kind : Verb → Bool) (all : List Statement) → list_any (has_verb_kind kind) all ≡ true
-    → (one : Statement) × (others : List Statement) × (of_kind kind all ≡ one ∷ others)
+there_is : (kind : Verb → Bool) (all : List ScriptStatement) → list_any (has_verb_kind kind) all ≡ true
+    → (one : ScriptStatement) × (others : List ScriptStatement) × (of_kind kind all ≡ one ∷ others)
 there_is kind [] e = absurd cc
 there_is kind (one ∷ others) e =
-    elim (has_verb_kind kind one) as (λ b. b || list_any (has_verb_kind kind) others ≡ true → (first : Statement) × (rest : List Statement) × (cond b (one ∷ of_kind kind others) (of_kind kind others) ≡ first ∷ rest)) [
+    elim (has_verb_kind kind one) as (λ b. b || list_any (has_verb_kind kind) others ≡ true → (first : ScriptStatement) × (rest : List ScriptStatement) × (cond b (one ∷ of_kind kind others) (of_kind kind others) ≡ first ∷ rest)) [
       | true ↦ λ _. (one, of_kind kind others, refl)
       | false ↦ λ later. there_is kind others later
     ] e
 
 -- the last user is among the users, where there is one
-pub last_user_among : (before : List Statement) → list_any (has_verb_kind is_user) before ≡ true → is_one_name_of (stated_names (of_kind is_user before)) (last_user before) ≡ true
+pub last_user_among : (before : List ScriptStatement) → list_any (has_verb_kind is_user) before ≡ true → is_one_name_of (stated_names (of_kind is_user before)) (last_user before) ≡ true
 last_user_among before e =
     let found = there_is is_user before e in
-    let P : List Statement → Type 0 = λ those. is_one_name_of (stated_names those) (unwrap_or (last_or None (stated_names those)) []) ≡ true in
+    let P : List ScriptStatement → Type 0 = λ those. is_one_name_of (stated_names those) (unwrap_or (last_or None (stated_names those)) []) ≡ true in
     subst P (sym found.2) (last_among (operand 1 found.0) (stated_names found.1))
 
-is_said : (verb : Verb) (images : List (List ℕ)) (statement : Statement) (command : Command) → command_of_verb verb images statement ≡ Some command → is_command verb ≡ true
+is_said : (verb : Verb) (images : List (List ℕ)) (statement : ScriptStatement) (command : Command) → command_of_verb verb images statement ≡ Some command → is_command verb ≡ true
 is_said Machine images statement command e = absurd (none command e)
 is_said Image images statement command e = absurd (none command e)
 is_said User images statement command e = absurd (none command e)
@@ -138,7 +139,7 @@ both_false true false e h = absurd cc
 both_false false b e h = absurd cc
 
 -- the user of a command is one of the users
-user_within : (spot : Spot Statement) (verb : Verb) → IsRight spot → verb_of (words spot.here.line) ≡ Some verb → is_command verb ≡ true
+user_within : (spot : Spot ScriptStatement) (verb : Verb) → IsRight spot → verb_of (words spot.here.line) ≡ Some verb → is_command verb ≡ true
     → name_number (last_user spot.before) (users (spot.before ++ spot.here ∷ spot.behind)) < length (users (spot.before ++ spot.here ∷ spot.behind))
 unfolding users
 user_within spot verb is v says =
@@ -150,7 +151,7 @@ user_within spot verb is v says =
     subst P (sym (names_append is_user spot.before (spot.here ∷ spot.behind)))
     (number_below (without_repeats (stated_names (of_kind is_user spot.before) ++ more)) (last_user spot.before) (among_distinct (stated_names (of_kind is_user spot.before) ++ more) (last_user spot.before) among))
 
-pub images_append : (before more : List Statement) → image_names (before ++ more) ≡ image_names before ++ image_names more
+pub images_append : (before more : List ScriptStatement) → image_names (before ++ more) ≡ image_names before ++ image_names more
 unfolding image_names
 images_append before more = names_append is_image before more
 
@@ -163,7 +164,7 @@ chained f None made e = absurd (none made e)
 chained f (Some one) made e = (one, refl, e)
 
 -- a command among all statements is one of the users', and keeps the limits
-own_within : (spot : Spot Statement) → IsRight spot → (own : ℕ × Command) → numbered_command (spot.before ++ spot.here ∷ spot.behind) spot ≡ Some own
+own_within : (spot : Spot ScriptStatement) → IsRight spot → (own : ℕ × Command) → numbered_command (spot.before ++ spot.here ∷ spot.behind) spot ≡ Some own
     → IsOwnCommandWithin (length (users (spot.before ++ spot.here ∷ spot.behind))) (length (image_names (spot.before ++ spot.here ∷ spot.behind))) own
 unfolding command_of_statement
 own_within spot is own e =
@@ -176,16 +177,16 @@ own_within spot is own e =
     subst (IsOwnCommandWithin (length (users all)) (length (image_names all))) made.2
     (user_within spot found.0 is found.1 (is_said found.0 (image_names all) spot.here made.0 found.2), within)
 
-each_own_within : (all : List Statement) → AllByRecursion IsRight (spots all) → AllByRecursion (IsOwnCommandWithin (length (users all)) (length (image_names all))) (commands all)
+each_own_within : (all : List ScriptStatement) → AllByRecursion IsRight (spots all) → AllByRecursion (IsOwnCommandWithin (length (users all)) (length (image_names all))) (commands all)
 unfolding commands
 each_own_within all each =
-    let IsWhole : Spot Statement → Type 0 = λ spot. spot.before ++ spot.here ∷ spot.behind ≡ all in
+    let IsWhole : Spot ScriptStatement → Type 0 = λ spot. spot.before ++ spot.here ∷ spot.behind ≡ all in
     let IsWithin : ℕ × Command → Type 0 = IsOwnCommandWithin (length (users all)) (length (image_names all)) in
-    let IsKnown : Spot Statement → Type 0 = λ spot. IsRight spot × IsWhole spot in
-    let IsMadeWithin : Spot Statement → Type 0 = λ spot. (own : ℕ × Command) → numbered_command all spot ≡ Some own → IsWithin own in
+    let IsKnown : Spot ScriptStatement → Type 0 = λ spot. IsRight spot × IsWhole spot in
+    let IsMadeWithin : Spot ScriptStatement → Type 0 = λ spot. (own : ℕ × Command) → numbered_command all spot ≡ Some own → IsWithin own in
     each_made (numbered_command all) IsWithin (spots all)
     (each_of IsKnown IsMadeWithin (spots all)
-    (λ spot known own e. subst (λ (every : List Statement). numbered_command every spot ≡ Some own → IsOwnCommandWithin (length (users every)) (length (image_names every)) own) known.1 (own_within spot known.0 own) e)
+    (λ spot known own e. subst (λ (every : List ScriptStatement). numbered_command every spot ≡ Some own → IsOwnCommandWithin (length (users every)) (length (image_names every)) own) known.1 (own_within spot known.0 own) e)
     (each_both IsRight IsWhole (spots all) each (each_whole [] all)))
 
 -- ---- how many users and images
@@ -193,12 +194,12 @@ each_own_within all each =
 not_more : (n most : ℕ) → nat_lt most n ≡ false → n ≤ most
 not_more n most e = grind (arith, nat_tests)
 
-few : (all : List Statement) → AllByRecursion IsRight (spots all) → (length (users all) ≤ greatest_users) × (length (image_names all) ≤ greatest_images)
+few : (all : List ScriptStatement) → AllByRecursion IsRight (spots all) → (length (users all) ≤ greatest_users) × (length (image_names all) ≤ greatest_images)
 unfolding users image_names
 few [] each = (omega arith, omega arith)
 few (first ∷ others) each =
     let last = last_spot IsRight [] first others each in
-    let P : List Statement → Type 0 = λ all. nat_lt greatest_users (length (users all)) || nat_lt greatest_images (length (image_names all)) ≡ false in
+    let P : List ScriptStatement → Type 0 = λ all. nat_lt greatest_users (length (users all)) || nat_lt greatest_images (length (image_names all)) ≡ false in
     let both = or_parts (nat_lt greatest_users (length (users (first ∷ others)))) (nat_lt greatest_images (length (image_names (first ∷ others)))) (subst P last.2 last.1.many) in
     (not_more _ greatest_users both.0, not_more _ greatest_images both.1)
 
@@ -213,15 +214,15 @@ found_spot {A} P test before (here ∷ behind) each =
       | false ↦ λ _. found_spot P test (before ++ here ∷ []) behind each.1
     ] refl
 
-dim_of : (found : Option Statement) → IfSome found (λ one. (spot : Spot Statement) × IsRight spot × (spot.here ≡ one) × (has_verb_kind is_machine one ≡ true))
+dim_of : (found : Option ScriptStatement) → IfSome found (λ one. (spot : Spot ScriptStatement) × IsRight spot × (spot.here ≡ one) × (has_verb_kind is_machine one ≡ true))
     → IfSome (option_map (operand_number 1) found) (λ dim. dim ≤ greatest_dim)
 dim_of None known = tt
 dim_of (Some one) known =
     let here = the_verb is_machine Machine machine_alone (verb_of (words known.0.here.line)) (ap (has_verb_kind is_machine) known.2 ∙ known.3) in
-    subst (λ (statement : Statement). operand_number 1 statement ≤ greatest_dim) known.2
+    subst (λ (statement : ScriptStatement). operand_number 1 statement ≤ greatest_dim) known.2
     (at_most greatest_dim (image_names known.0.before) (operand 1 known.0.here) (operands_right known.0 Machine here known.1).0)
 
-dim_within : (all : List Statement) → AllByRecursion IsRight (spots all) → IfSome (dimension all) (λ dim. dim ≤ greatest_dim)
+dim_within : (all : List ScriptStatement) → AllByRecursion IsRight (spots all) → IfSome (dimension all) (λ dim. dim ≤ greatest_dim)
 unfolding dimension
 dim_within all each = dim_of (find (has_verb_kind is_machine) all) (found_spot IsRight (has_verb_kind is_machine) [] all each)
 
@@ -229,7 +230,7 @@ first_is_machine : (is : Bool) → not is && not false ≡ false → is ≡ true
 first_is_machine true e = refl
 first_is_machine false e = absurd cc
 
-no_machine : (all : List Statement) → AllByRecursion IsRight (spots all) → dimension all ≡ None → all ≡ []
+no_machine : (all : List ScriptStatement) → AllByRecursion IsRight (spots all) → dimension all ≡ None → all ≡ []
 unfolding dimension
 no_machine [] each e = refl
 no_machine (first ∷ others) each e =
@@ -239,19 +240,19 @@ no_machine (first ∷ others) each e =
 
 -- ---- the script
 
-none_at_all : (all : List Statement) → all ≡ [] → (images all ≡ []) × (users all ≡ []) × (commands all ≡ [])
+none_at_all : (all : List ScriptStatement) → all ≡ [] → (images all ≡ []) × (users all ≡ []) × (commands all ≡ [])
 unfolding images users commands
 none_at_all all e = (ap images e, ap users e, ap commands e)
 
-named_alike : (all : List Statement) → map (λ (named : NamedImage). named.name) (map (λ (one : Statement). record { name = operand 1 one; image = image_said one }) all) ≡ stated_names all
+named_alike : (all : List ScriptStatement) → map (λ (named : NamedImage). named.name) (map (λ (one : ScriptStatement). record { name = operand 1 one; image = stated_image one }) all) ≡ stated_names all
 named_alike [] = refl
 named_alike (one ∷ others) = ap (λ names. operand 1 one ∷ names) (named_alike others)
 
-same_count : (all : List Statement) → length (images all) ≡ length (image_names all)
+same_count : (all : List ScriptStatement) → length (images all) ≡ length (image_names all)
 unfolding images image_names
 same_count all = length-map (of_kind is_image all) _ ∙ sym (length-map (of_kind is_image all) (operand 1))
 
-same_names : (all : List Statement) → map (λ (named : NamedImage). named.name) (images all) ≡ image_names all
+same_names : (all : List ScriptStatement) → map (λ (named : NamedImage). named.name) (images all) ≡ image_names all
 unfolding images image_names
 same_names all = named_alike (of_kind is_image all)
 

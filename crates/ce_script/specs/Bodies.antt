@@ -2,7 +2,9 @@
 use Rattle.std.specs.Prelude.{ℕ, ◌+◌, Bool, List, [], ◌∷◌, ◌++◌, flat_map, find, Option, Some, None, is_none, option_map, unwrap_or, Result, Ok, Err}
 use Rattle.std.specs.List.{list_any}
 use Rattle.std.specs.Option.{option_or}
-use Rattle.rv_model.specs.Image.{ImageParts, image_parts, image_start}
+use Rattle.rv_model.specs.declared.limits.TheConstants.{PRIVATE_START}
+use Rattle.ce_text.specs.Bytes.{line_feed}
+use Rattle.rv_model.specs.Image.{ImageParts, image_parts}
 use Rattle.rv_image.specs.Fault.{parts_fault}
 use Rattle.rv_image.specs.Rki1.{fields_of, fault_of}
 use Rattle.rv_asm.specs.declared.fault.AsmFault.{AsmFault}
@@ -40,16 +42,16 @@ body_bytes read body =
 
 -- the text of a body, each line with its line feed
 unfoldable pub text_of : List Line → List ℕ
-text_of body = flat_map (λ line. line.text ++ 10 ∷ []) body
+text_of body = flat_map (λ line. line.text ++ line_feed ∷ []) body
 
 -- what stands for the image of a body that describes none
-abbrev pub nothing_loaded : ImageParts
-nothing_loaded = image_parts image_start [] 0
+abbrev pub empty_image : ImageParts
+empty_image = image_parts PRIVATE_START [] 0
 
 -- the image of an assembly text without fault
 abbrev pub image_or_nothing : Result ImageParts AsmFault → ImageParts
 image_or_nothing (Ok image) = image
-image_or_nothing (Err fault) = nothing_loaded
+image_or_nothing (Err fault) = empty_image
 
 -- the fault of an assembly text, as one of the script in which the text stands behind the line `at`
 abbrev pub assembly_fault : ℕ → Result ImageParts AsmFault → Option ScriptFault
@@ -61,7 +63,7 @@ assembly_fault at (Err fault) = Some (located_fault (at + fault.line) (Assembly 
 -- The image that a body without fault describes. `hex`: the instruction words lie from the start of the image on, and the first one
 -- runs first; `asm`: the body is an assembly text; `rki`: the words are the image's bytes in RKI1.
 unfoldable pub form_image : ImageForm → List Line → ImageParts
-form_image Hex body = image_parts image_start (body_bytes instruction_in body) 0
+form_image Hex body = image_parts PRIVATE_START (body_bytes instruction_in body) 0
 form_image Asm body = image_or_nothing (assembly_image (text_of body))
 form_image Rki body = fields_of (body_bytes written_bytes body)
 

@@ -11,9 +11,11 @@ use Rattle.ce_host.specs.declared.command.Command.{Command}
 use Rattle.ce_host.specs.declared.command.Command.TheVariants.{Getcube, Peek, Freecube, Spawn, Kill, Send, Run, Recv, Dump, Trace}
 use Rattle.ce_host.specs.declared.answer.Answer.{Answer}
 use Rattle.ce_host.specs.declared.answer.Answer.TheVariants as answers
+use Rattle.ce_script.specs.declared.grammar.Verb.TheVariants as verb
 use Rattle.ce_script.specs.declared.record.Record.{Record}
 use Rattle.ce_script.specs.declared.script.Script.{Script}
-use Rattle.ce_script.specs.TextParts.{words, image_name, user_name, word_text, bytes_text, place_text, subcube_words}
+use Rattle.ce_script.specs.Verbs.{verb_word}
+use Rattle.ce_script.specs.TextParts.{joined_words, image_name, user_name, word_text, bytes_text, place_text, subcube_words}
 
 -- ---- commands
 
@@ -22,16 +24,16 @@ abbrev pub place_words : Place → List (List ℕ)
 place_words place = decimal place.node ∷ decimal place.pid ∷ []
 
 abbrev pub command_words : Script → Command → List (List ℕ)
-command_words script (Getcube dim) = codes "getcube" ∷ decimal dim ∷ []
-command_words script Peek = codes "peek" ∷ []
-command_words script Freecube = codes "freecube" ∷ []
-command_words script (Spawn image to) = codes "spawn" ∷ image_name script image ∷ place_words to
-command_words script (Kill to) = codes "kill" ∷ place_words to
-command_words script (Send to bytes) = codes "send" ∷ (place_words to ++ bytes_text bytes ∷ [])
-command_words script (Run count) = codes "run" ∷ decimal count ∷ []
-command_words script (Recv count) = codes "recv" ∷ decimal count ∷ []
-command_words script (Dump at) = codes "dump" ∷ place_words at
-command_words script Trace = codes "trace" ∷ []
+command_words script (Getcube dim) = verb_word verb.Getcube ∷ decimal dim ∷ []
+command_words script Peek = verb_word verb.Peek ∷ []
+command_words script Freecube = verb_word verb.Freecube ∷ []
+command_words script (Spawn image to) = verb_word verb.Spawn ∷ image_name script image ∷ place_words to
+command_words script (Kill to) = verb_word verb.Kill ∷ place_words to
+command_words script (Send to bytes) = verb_word verb.Send ∷ (place_words to ++ bytes_text bytes ∷ [])
+command_words script (Run count) = verb_word verb.Run ∷ decimal count ∷ []
+command_words script (Recv count) = verb_word verb.Recv ∷ decimal count ∷ []
+command_words script (Dump at) = verb_word verb.Dump ∷ place_words at
+command_words script Trace = verb_word verb.Trace ∷ []
 
 -- ---- replies
 
@@ -62,30 +64,30 @@ status_words (Stopped cause) = codes "stopped" ∷ stop_words cause
 
 -- a cube that is held, behind what stands before it
 abbrev pub grant_text : Record → Grant → List ℕ
-grant_text kept grant =
+grant_text run_record grant =
     codes ", "
-    ++ words (user_name kept grant.user ∷ codes "dim" ∷ decimal grant.dim ∷ subcube_words grant.sub)
+    ++ joined_words (user_name run_record grant.user ∷ codes "dim" ∷ decimal grant.dim ∷ subcube_words grant.sub)
 
 abbrev pub peeked_text : Record → PeekResult → List ℕ
-peeked_text kept found =
-    words (codes "free" ∷ decimal found.free ∷ []) ++ flat_map (grant_text kept) found.grants
+peeked_text run_record found =
+    joined_words (codes "free" ∷ decimal found.free ∷ []) ++ flat_map (grant_text run_record) found.grants
 
 abbrev pub reply_text : Record → Answer → List ℕ
-reply_text kept answers.NoCube = codes "no cube"
-reply_text kept answers.Held = codes "held"
-reply_text kept answers.None = codes "none"
-reply_text kept (answers.Granted sub) = words (codes "granted" ∷ subcube_words sub)
-reply_text kept (answers.Peeked found) = peeked_text kept found
-reply_text kept answers.Freed = codes "freed"
-reply_text kept answers.Ok = codes "ok"
-reply_text kept answers.NoPlace = codes "no place"
-reply_text kept answers.Used = codes "used"
-reply_text kept answers.Unused = codes "unused"
-reply_text kept answers.Already = codes "already"
-reply_text kept answers.NoStore = codes "no store"
-reply_text kept answers.Quiet = codes "quiet"
-reply_text kept answers.Spent = codes "spent"
-reply_text kept (answers.Message from bytes) =
-    words (codes "message" ∷ place_text from ∷ bytes_text bytes ∷ [])
-reply_text kept (answers.State status) = words (status_words status)
-reply_text kept (answers.Entries count) = words (codes "entries" ∷ decimal count ∷ [])
+reply_text run_record answers.NoCube = codes "no cube"
+reply_text run_record answers.Held = codes "held"
+reply_text run_record answers.None = codes "none"
+reply_text run_record (answers.Granted sub) = joined_words (codes "granted" ∷ subcube_words sub)
+reply_text run_record (answers.Peeked found) = peeked_text run_record found
+reply_text run_record answers.Freed = codes "freed"
+reply_text run_record answers.Ok = codes "ok"
+reply_text run_record answers.NoPlace = codes "no place"
+reply_text run_record answers.Used = codes "used"
+reply_text run_record answers.Unused = codes "unused"
+reply_text run_record answers.Already = codes "already"
+reply_text run_record answers.NoStore = codes "no store"
+reply_text run_record answers.Quiet = codes "quiet"
+reply_text run_record answers.Spent = codes "spent"
+reply_text run_record (answers.Message from bytes) =
+    joined_words (codes "message" ∷ place_text from ∷ bytes_text bytes ∷ [])
+reply_text run_record (answers.State status) = joined_words (status_words status)
+reply_text run_record (answers.Entries count) = joined_words (codes "entries" ∷ decimal count ∷ [])

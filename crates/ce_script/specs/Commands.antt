@@ -6,7 +6,6 @@ use Rattle.ce_model.specs.declared.topology.Place.{Place}
 use Rattle.ce_model.specs.declared.topology.BlockId.{BlockId}
 use Rattle.ce_model.specs.declared.topology.Subcube.{Subcube}
 use Rattle.ce_model.specs.declared.entry.Entry.{Entry}
-use Rattle.ce_model.specs.declared.entry.What.{What}
 use Rattle.ce_model.specs.declared.entry.What.TheVariants as whats
 use Rattle.ce_model.specs.declared.entry.LookResult.{LookResult}
 use Rattle.ce_model.specs.declared.entry.LookResult.TheVariants as look_result
@@ -18,17 +17,14 @@ use Rattle.ce_model.specs.Renaming.{entry_inward}
 use Rattle.ce_model.specs.Trace.{sent_items}
 use Rattle.ce_model.specs.Cube.{Cube, CubeState, opening, hoststore, parcel_numbered, rest}
 use Rattle.ce_model.specs.Machine.{MachineParts, after, cube_of}
+use Rattle.ce_model.specs.Literals.{of_host}
 use Rattle.ce_daemon.specs.Peeks.{peek_result}
 use Rattle.ce_host.specs.declared.command.Command.{Command}
 use Rattle.ce_host.specs.declared.command.Command.TheVariants.{Getcube, Peek, Freecube, Spawn, Kill, Send, Run, Recv, Dump, Trace}
 use Rattle.ce_host.specs.declared.answer.Answer.{Answer}
 use Rattle.ce_host.specs.declared.answer.Answer.TheVariants as answers
 use Rattle.ce_script.specs.Rounds.{RoundKind, joined_lists, IsRoundWithWork, IsRoundWithoutWork, AreTurnsOver}
-use Rattle.ce_script.specs.Moments.{Moment, entries_of, Holding}
-
--- an entry of a user's host
-abbrev pub by_host : ℕ → What → Entry
-by_host user what = record { user = user; actor = HOST; what = what }
+use Rattle.ce_script.specs.Moments.{Moment, moment_entries, Holding}
 
 -- a command makes no entry, and is answered so
 abbrev pub IsAtOnce : Answer → Answer → List Entry → Type 0
@@ -44,7 +40,7 @@ getcube_reply (Some sub) = answers.Granted sub
 -- `getcube`: the cube that its entry grants, or none; where one is held already it makes no entry
 abbrev pub IsGetcube : ℕ → Option Holding → ℕ → Answer → List Entry → Type 0
 IsGetcube user None dim answer entries =
-    (sub : Option Subcube) × (entries ≡ by_host user (whats.Getcube dim sub) ∷ [])
+    (sub : Option Subcube) × (entries ≡ of_host user (whats.Getcube dim sub) ∷ [])
     × (answer ≡ getcube_reply sub)
 IsGetcube user (Some held) dim answer entries = IsAtOnce answers.Held answer entries
 
@@ -52,7 +48,7 @@ IsGetcube user (Some held) dim answer entries = IsAtOnce answers.Held answer ent
 abbrev pub IsPeek : MachineParts → ℕ → Answer → List Moment → Type 0
 IsPeek machine user answer moments =
     (before : List Entry)
-    × (moments ≡ record { before = before; entry = by_host user whats.Peek } ∷ [])
+    × (moments ≡ record { before = before; entry = of_host user whats.Peek } ∷ [])
     × (answer ≡ answers.Peeked (peek_result machine (after before)))
 
 -- ---- at a place
@@ -65,7 +61,7 @@ IsAtPlace false answer segment P = IsAtOnce answers.NoPlace answer segment
 -- `spawn`, by whether the id was fresh
 abbrev pub IsSpawn : ℕ → ℕ → Place → Answer → List Entry → Type 0
 IsSpawn user image to answer segment =
-    (fresh : Bool) × (segment ≡ by_host user (whats.Spawn 0 image to fresh) ∷ [])
+    (fresh : Bool) × (segment ≡ of_host user (whats.Spawn 0 image to fresh) ∷ [])
     × (answer ≡ (if fresh then answers.Ok else answers.Used))
 
 -- `kill`, by what it found
@@ -76,14 +72,14 @@ kill_reply kill_found.Already = answers.Already
 
 abbrev pub IsKill : ℕ → Place → Answer → List Entry → Type 0
 IsKill user to answer segment =
-    (found : KillFound) × (segment ≡ by_host user (whats.Kill 0 to found) ∷ [])
+    (found : KillFound) × (segment ≡ of_host user (whats.Kill 0 to found) ∷ [])
     × (answer ≡ kill_reply found)
 
 -- `send`, by the blocks in the host's store before it
 abbrev pub IsSend : ℕ → List BlockId → Place → List ℕ → Answer → List Entry → Type 0
 IsSend user [] to bytes answer segment = IsAtOnce answers.NoStore answer segment
 IsSend user (id ∷ others) to bytes answer segment =
-    (first : ℕ) × (segment ≡ by_host user (whats.Send 0 first ((to, id) ∷ []) bytes) ∷ [])
+    (first : ℕ) × (segment ≡ of_host user (whats.Send 0 first ((to, id) ∷ []) bytes) ∷ [])
     × (answer ≡ answers.Ok)
 
 -- ---- with rounds
@@ -103,8 +99,8 @@ pub record IsRun (kind : RoundKind) (cube : Cube) (count : ℕ) (answer : Answer
   pub with_work : AllByRecursion (IsRoundWithWork kind cube.dim) rounds
   pub without_work : IsRoundWithoutWork kind cube.dim last
   pub entries : segment
-      ≡ by_host cube.user (whats.Arm count)
-      ∷ (joined_lists rounds ++ (last ++ by_host cube.user (whats.Look found) ∷ []))
+      ≡ of_host cube.user (whats.Arm count)
+      ∷ (joined_lists rounds ++ (last ++ of_host cube.user (whats.Look found) ∷ []))
   pub reply : run_reply found ≡ Some answer
 
 -- how `recv` ends
@@ -118,7 +114,7 @@ pub data RecvEnd : Type 0 where
 
 -- the host looks for a message: the one of this number is there, or none
 abbrev pub host_take : ℕ → Option ℕ → Entry
-host_take user number = by_host user (whats.HostTake number)
+host_take user number = of_host user (whats.HostTake number)
 
 -- the entries of an end
 abbrev pub end_entries : ℕ → RecvEnd → List Entry
@@ -126,7 +122,7 @@ end_entries user (message_next number) = host_take user (Some number) ∷ []
 end_entries user (message_behind_rest round number) =
     host_take user None ∷ (round ++ host_take user (Some number) ∷ [])
 end_entries user (no_message round found) =
-    host_take user None ∷ (round ++ host_take user None ∷ by_host user (whats.Look found) ∷ [])
+    host_take user None ∷ (round ++ host_take user None ∷ of_host user (whats.Look found) ∷ [])
 
 -- the rounds without work at an end: one, or none where a message comes before one
 abbrev pub end_rounds : RecvEnd → List (List Entry)
@@ -157,7 +153,7 @@ pub record IsRecv (kind : RoundKind) (cube : Cube) (items : List Item) (count : 
   pub with_work : AllByRecursion (IsRoundWithWork kind cube.dim) rounds
   pub without_work : AllByRecursion (IsRoundWithoutWork kind cube.dim) (end_rounds end)
   pub entries : segment
-      ≡ by_host cube.user (whats.Arm count)
+      ≡ of_host cube.user (whats.Arm count)
       ∷ (flat_map (λ round. host_take cube.user None ∷ round) rounds ++ end_entries cube.user end)
   pub reply : recv_reply items end ≡ Some answer
 
@@ -188,7 +184,7 @@ IsCubeCommand kind cube o t other answer segment = ⊥
 -- `freecube`: what waits is taken away, and then the cube is given back
 abbrev pub IsFreecube : ℕ → Answer → List Entry → Type 0
 IsFreecube user answer entries =
-    (answer ≡ answers.Freed) × (entries ≡ by_host user whats.Drain ∷ by_host user whats.Freecube ∷ [])
+    (answer ≡ answers.Freed) × (entries ≡ of_host user whats.Drain ∷ of_host user whats.Freecube ∷ [])
 
 -- a command of who holds this cube
 abbrev pub IsHolderCommand : RoundKind → Cube → Holding → Command → Answer → List Entry → Type 0
@@ -208,7 +204,7 @@ IsWithCube kind machine (Some held) command answer entries =
 abbrev pub IsCommand : RoundKind → MachineParts → ℕ → Option Holding → Command → Answer
     → List Moment → Type 0
 IsCommand kind machine user held (Getcube dim) answer moments =
-    IsGetcube user held dim answer (entries_of moments)
+    IsGetcube user held dim answer (moment_entries moments)
 IsCommand kind machine user held Peek answer moments = IsPeek machine user answer moments
 IsCommand kind machine user held other answer moments =
-    IsWithCube kind machine held other answer (entries_of moments)
+    IsWithCube kind machine held other answer (moment_entries moments)

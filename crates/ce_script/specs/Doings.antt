@@ -9,7 +9,7 @@ use Rattle.ce_host.specs.declared.command.Command.TheVariants.{Getcube}
 use Rattle.ce_host.specs.declared.answer.Answer.{Answer}
 use Rattle.ce_host.specs.declared.answer.Answer.TheVariants as answers
 use Rattle.ce_script.specs.Rounds.{RoundKind}
-use Rattle.ce_script.specs.Moments.{Moment, user_moments, entries_of, Holding, holding}
+use Rattle.ce_script.specs.Moments.{Moment, user_moments, moment_entries, Holding, holding}
 use Rattle.ce_script.specs.Commands.{IsCommand}
 
 -- a command of a user: what it was answered, and the moments of its entries
@@ -19,13 +19,13 @@ pub record Doing : Type 0 where
   pub moments : List Moment
 
 -- the cube that a user holds once it has done this
-abbrev pub held_after : List Doing → Option Holding
-held_after doings = holding (flat_map (λ doing. entries_of doing.moments) doings)
+abbrev pub holding_behind : List Doing → Option Holding
+holding_behind doings = holding (flat_map (λ doing. moment_entries doing.moments) doings)
 
 -- a command has the entries and the reply that it must have behind those before it
 abbrev pub IsDone : RoundKind → MachineParts → ℕ → List Doing → Doing → Type 0
 IsDone kind machine user before doing =
-    IsCommand kind machine user (held_after before) doing.command doing.answer doing.moments
+    IsCommand kind machine user (holding_behind before) doing.command doing.answer doing.moments
 
 -- this is what a user did: its commands with their replies, whose entries are all of the user's, one command behind the other
 pub record AreDoings (kind : RoundKind) (machine : MachineParts) (history : List Entry) (user : ℕ)
@@ -49,7 +49,7 @@ pub record IsRefusedExactly (machine : MachineParts) (holds : Option Holding) (d
 -- the command is no getcube, or is refused exactly where it must be
 abbrev pub IsRefusedIfGetcube : MachineParts → List Doing → Doing → Type 0
 IsRefusedIfGetcube machine before doing = elim doing.command [
-  | Getcube dim ↦ IsRefusedExactly machine (held_after before) dim doing
+  | Getcube dim ↦ IsRefusedExactly machine (holding_behind before) dim doing
   | other ↦ Unit {0}
 ]
 

@@ -32,13 +32,13 @@ user_commands script user = map (λ own. own.1) (filter (λ own. own.0 == user) 
 
 -- this holds of each user of a record, by number
 abbrev pub EachUser : (ℕ → UserRecord → Type 0) → Record → Type 0
-EachUser P kept = AllByRecursion (λ numbered. P numbered.0 numbered.1) (enumerate_from 0 kept.users)
+EachUser P run_record = AllByRecursion (λ numbered. P numbered.0 numbered.1) (enumerate_from 0 run_record.users)
 
 -- the record has the script's users, by number, each with all its commands, in the script's order
-pub record IsRecordOfScript (script : Script) (kept : Record) : Type 0 where
-  pub users : map (λ user. user.name) kept.users ≡ script.users
+pub record IsRecordOfScript (script : Script) (run_record : Record) : Type 0 where
+  pub users : map (λ user. user.name) run_record.users ≡ script.users
   pub commands : EachUser
-      (λ number user. map (λ done. done.0) user.done ≡ user_commands script number) kept
+      (λ number user. map (λ done. done.0) user.done ≡ user_commands script number) run_record
 
 -- ---- the record
 
@@ -52,15 +52,15 @@ EachCube P images history =
 -- history, which is empty where there are no users; each user's replies and entries are those of its commands; each cube's trace is
 -- the one that it gives alone, each of its blocks always has one owner, and messages arrive in order; and a getcube is refused exactly
 -- where it must be.
-pub record IsLegal (kind : RoundKind) (script : Script) (kept : Record) : Type 0 where
+pub record IsLegal (kind : RoundKind) (script : Script) (run_record : Record) : Type 0 where
   pub doings : ℕ → List Doing
-  pub keeps : IsRecordOfScript script kept
-  pub lawful : IsLawful (machine_of script) kept.history
+  pub keeps : IsRecordOfScript script run_record
+  pub lawful : IsLawful (machine_of script) run_record.history
   pub does : EachUser
       (λ number user.
-      AreDoings kind (machine_of script) kept.history number user.done (doings number)) kept
-  pub alone : EachCube IsAlone (script_images script) kept.history
-  pub owned : EachCube (λ cube t. IsOwned cube (opening cube) t) (script_images script) kept.history
+      AreDoings kind (machine_of script) run_record.history number user.done (doings number)) run_record
+  pub alone : EachCube IsAlone (script_images script) run_record.history
+  pub owned : EachCube (λ cube t. IsOwned cube (opening cube) t) (script_images script) run_record.history
   pub in_order : EachCube (λ cube t. IsInOrder (opening cube).standing t) (script_images script)
-      kept.history
-  pub refused : EachUser (λ number user. AreRefusedExactly (machine_of script) (doings number)) kept
+      run_record.history
+  pub refused : EachUser (λ number user. AreRefusedExactly (machine_of script) (doings number)) run_record

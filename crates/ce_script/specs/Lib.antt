@@ -8,6 +8,7 @@ pub mod EntryText
 pub mod FaultTexts
 pub mod Faults
 pub mod Legal
+pub mod Limited
 pub mod Lines
 pub mod Load
 pub mod Moments

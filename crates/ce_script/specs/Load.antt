@@ -1,9 +1,10 @@
 -- The script of the load: four users, each with a ring of four processes that hand one message round.
 use Rattle.std.specs.Prelude.{ℕ, zero, suc, ◌+◌, ◌*◌, ◌%◌, ◌^◌, List, [], ◌∷◌, ◌++◌, map, flat_map, Some, codes}
 use Rattle.std.specs.Int.{w32, to_le_bytes}
+use Rattle.ce_text.specs.Bytes.{line_feed}
 use Rattle.rv_model.specs.Image.{ImageParts}
 use Rattle.ce_model.specs.declared.limits.TheConstants.{GREATEST_COUNT}
-use Rattle.ce_model.specs.declared.topology.Place.{Place}
+use Rattle.ce_model.specs.Literals.{place}
 use Rattle.ce_host.specs.declared.command.Command.{Command}
 use Rattle.ce_host.specs.declared.command.Command.TheVariants.{Getcube, Freecube, Spawn, Send, Recv}
 use Rattle.ce_script.specs.declared.load.TheConstants.{CUBE_DIMENSION, HAND_OVERS, MACHINE_DIMENSION, NUMBER_FACTOR, NUMBER_STEP}
@@ -47,7 +48,7 @@ ring_lines =
 
 -- the program's text
 abbrev pub ring_text : List ℕ
-ring_text = flat_map (λ line. line ++ 10 ∷ []) ring_lines
+ring_text = flat_map (λ line. line ++ line_feed ∷ []) ring_lines
 
 -- the program's image
 unfoldable pub ring_image : ImageParts
@@ -64,19 +65,11 @@ abbrev pub load_number : ℕ → ℕ → ℕ
 load_number seed zero = next_number seed
 load_number seed (suc k) = next_number (load_number seed k)
 
--- how often a message is handed over
-abbrev pub hand_overs : ℕ
-hand_overs = HAND_OVERS
-
 -- the message of user k: its number, and how often it is handed over
 abbrev pub load_message : ℕ → ℕ → List ℕ
-load_message seed k = to_le_bytes w32 (load_number seed k) ++ to_le_bytes w32 hand_overs
+load_message seed k = to_le_bytes w32 (load_number seed k) ++ to_le_bytes w32 HAND_OVERS
 
 -- ---- its commands
-
--- a process of a node
-abbrev pub place : ℕ → ℕ → Place
-place node pid = record { node = node; pid = pid }
 
 -- the commands of a user, with this message
 abbrev pub load_commands : List ℕ → List Command

@@ -22,8 +22,8 @@ moments history = later_moments [] history
 abbrev pub user_moments : ℕ → List Entry → List Moment
 user_moments user history = filter (λ moment. moment.entry.user == user) (moments history)
 
-abbrev pub entries_of : List Moment → List Entry
-entries_of moments = map (λ moment. moment.entry) moments
+abbrev pub moment_entries : List Moment → List Entry
+moment_entries moments = map (λ moment. moment.entry) moments
 
 -- the entries that they make among these
 abbrev pub own_entries : ℕ → List Entry → List Entry

@@ -2,12 +2,12 @@
 use Rattle.std.specs.Prelude.{◌≡◌, ℕ, ◌+◌, ◌<◌, ◌≤◌, ◌==◌, Bool, true, false, ◌||◌, if◌then◌else◌, List, [], ◌∷◌, ◌++◌, Option, Some, None, map, length, option_map, IfSome}
 use Rattle.std.specs.List.{enumerate_from, slice_split}
 use Rattle.ce_text.specs.Bytes.{is_line_feed}
-use Rattle.ce_text.specs.Line.{cut}
+use Rattle.ce_text.specs.Line.{cut_parts}
 use Rattle.ce_script.specs.declared.reader.line.WordedLine.{WordedLine}
 use Rattle.ce_script.specs.declared.reader.rest.Rest.{Rest}
 use Rattle.ce_script.specs.declared.reader.rest.Body.{Body}
 use Rattle.ce_script.specs.Lines.{Line, words, size_of}
-use Rattle.ce_script.specs.Statements.{Statement, is_end, begins_image, found_body}
+use Rattle.ce_script.specs.Statements.{ScriptStatement, is_end, begins_image, found_body}
 use Rattle.ce_script.specs.Bodies.{text_of}
 
 -- the line
@@ -15,8 +15,8 @@ abbrev pub plain_line : WordedLine → Line
 plain_line line = record { number = line.number; text = line.text.now }
 
 -- the statement of the line, but for the body of an image
-abbrev pub here_of : WordedLine → Statement
-here_of line = record { line = plain_line line; body = None }
+abbrev pub statement_of_line : WordedLine → ScriptStatement
+statement_of_line line = record { line = plain_line line; body = None }
 
 -- the texts of the lines of what is left of a text
 abbrev pub texts_left : Option (List ℕ) → List (List ℕ)
@@ -46,32 +46,32 @@ pub record IsLater (rest next : Rest) : Type 0 where
   pub reach : reach_of next ≤ reach_of rest
 
 -- the first line that is left has this text, and behind it these lines are left
-pub record IsNext (here : Rest) (line : List ℕ) (next : Rest) : Type 0 where
+pub record IsFirstLine (here : Rest) (line : List ℕ) (next : Rest) : Type 0 where
   pub bytes : List ℕ
   pub is : left_of here ≡ Some bytes
-  pub parts : (line, left_of next) ≡ cut is_line_feed bytes
+  pub parts : (line, left_of next) ≡ cut_parts is_line_feed bytes
   pub before : next.line_count ≡ here.line_count + 1
   pub shorter : IfSome next.text (λ behind. length behind.now < length bytes)
 
 -- ---- statements, line by line
 
 -- whether what follows a line stands inside an image, where the line does or does not
-abbrev pub inside_behind : Bool → Line → Bool
-inside_behind inside line = if is_end line then false else (inside || begins_image line)
+abbrev pub is_inside_behind : Bool → Line → Bool
+is_inside_behind inside line = if is_end line then false else (inside || begins_image line)
 
 -- the statements on lines, where the first stands inside an image or not
-unfoldable pub remaining_statements : Bool → List Line → List Statement
+unfoldable pub remaining_statements : Bool → List Line → List ScriptStatement
 remaining_statements inside [] = []
 remaining_statements inside (line ∷ lines) =
-    let others = remaining_statements (inside_behind inside line) lines in
+    let others = remaining_statements (is_inside_behind inside line) lines in
     if (length (words line) == 0) || inside then others
     else record { line = line; body = if begins_image line then found_body lines else None } ∷ others
 
 -- ---- bodies
 
 -- the lines of a body, and an empty one behind its last line feed
-abbrev pub lines_shown : Body → List Line
-lines_shown body = numbered_lines (body.line + 1) (slice_split is_line_feed body.text.now)
+abbrev pub body_lines : Body → List Line
+body_lines body = numbered_lines (body.line + 1) (slice_split is_line_feed body.text.now)
 
 -- an empty line behind others
 abbrev pub with_empty : List Line → ℕ → List Line
@@ -81,7 +81,7 @@ with_empty lines number = lines ++ record { number = number; text = [] } ∷ []
 pub record IsBody (body : Body) (lines : List Line) : Type 0 where
   pub text : text_of lines ≡ body.text.now
   pub last : ℕ
-  pub shown : lines_shown body ≡ with_empty lines last
+  pub shown : body_lines body ≡ with_empty lines last
 
 -- the body of the image whose line stands before what is left, and what is left behind its `end`
 pub record IsBodyIn (rest : Rest) (body : Body) (after : Rest) : Type 0 where

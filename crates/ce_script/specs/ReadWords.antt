@@ -5,6 +5,6 @@ use Rattle.ce_script.specs.declared.reader.body.WordKind.TheVariants.{Instructio
 use Rattle.ce_script.specs.Spellings.{written_bytes, instruction_in}
 
 -- what a word of this kind writes
-abbrev pub read_as : WordKind → List ℕ → Option (List ℕ)
-read_as Instruction word = instruction_in word
-read_as Plain word = written_bytes word
+abbrev pub word_bytes : WordKind → List ℕ → Option (List ℕ)
+word_bytes Instruction word = instruction_in word
+word_bytes Plain word = written_bytes word

@@ -11,31 +11,31 @@ use Rattle.ce_script.specs.declared.script.ScriptKind.TheVariants.{BadByte, Unkn
 use Rattle.ce_script.specs.Lines.{has_bad_byte}
 use Rattle.ce_script.specs.Names.{is_name}
 use Rattle.ce_script.specs.Verbs.{is_machine, is_command, operands_of}
-use Rattle.ce_script.specs.Statements.{Statement, operand}
+use Rattle.ce_script.specs.Statements.{ScriptStatement, operand}
 use Rattle.ce_script.specs.Faults.{first_some, kind_where, is_unknown, has_wrong_count, is_one_name_of, operand_fault}
 
 -- ---- judgments
 
 -- what is known of a fault: nothing where memory ran out; and the assembler tells nothing of memory
-abbrev pub Unless : ScriptKind → Type 0 → Type 0
-Unless (Memory want) known = Unit {0}
-Unless (Assembly (kinds.Memory want)) known = ⊥
-Unless kind known = known
+abbrev pub ScriptUnless : ScriptKind → Type 0 → Type 0
+ScriptUnless (Memory want) known = Unit {0}
+ScriptUnless (Assembly (kinds.Memory want)) known = ⊥
+ScriptUnless kind known = known
 
 -- a call answered this value where there is no fault, and else the fault, unless memory ran out
 abbrev pub HasJudged : {A : Type 0} → Result A ScriptKind → Option ScriptKind → Option A → Type 0
 HasJudged (Ok x) fault value = (fault ≡ None) × (value ≡ Some x)
-HasJudged (Err kind) fault value = Unless kind (fault ≡ Some kind)
+HasJudged (Err kind) fault value = ScriptUnless kind (fault ≡ Some kind)
 
 -- the same of a call whose fault has a line
 abbrev pub HasFound : {A : Type 0} → Result A ScriptFault → Option ScriptFault → Option A → Type 0
 HasFound (Ok x) fault value = (fault ≡ None) × (value ≡ Some x)
-HasFound (Err it) fault value = Unless it.kind (fault ≡ Some it)
+HasFound (Err it) fault value = ScriptUnless it.kind (fault ≡ Some it)
 
 -- ---- what is wrong with a line, in the parts in which it is judged
 
 -- with its bytes and words alone
-unfoldable pub word_fault : Statement → Option ScriptKind
+unfoldable pub word_fault : ScriptStatement → Option ScriptKind
 word_fault here =
     option_or (kind_where (has_bad_byte here.line) BadByte)
     (option_or (kind_where (is_unknown here) UnknownWord) (kind_where (has_wrong_count here) WordCount))
@@ -48,8 +48,8 @@ place_fault machine user verb =
     (kind_where (is_command verb && not user) NoUser))
 
 -- with its operands, where the earlier images have these names
-unfoldable pub operands_judged : List (List ℕ) → Verb → Statement → Option ScriptKind
-operands_judged names verb here =
+unfoldable pub operands_judgment : List (List ℕ) → Verb → ScriptStatement → Option ScriptKind
+operands_judgment names verb here =
     first_some
     (map (λ placed. operand_fault names placed.1 (operand placed.0 here))
     (enumerate_from 1 (operands_of verb)))

@@ -17,15 +17,15 @@ pub data RoundKind : Type 0 where
 -- ---- turns
 
 -- what a node is given, where the entry is a Take
-abbrev pub given_in : Entry → Option TakeResult
-given_in entry = elim entry.what [ Take asking dead poller given ↦ Some given | other ↦ None ]
+abbrev pub take_result_of : Entry → Option TakeResult
+take_result_of entry = elim entry.what [ Take asking dead poller given ↦ Some given | other ↦ None ]
 
 abbrev pub is_take : Entry → Bool
-is_take entry = is_some (given_in entry)
+is_take entry = is_some (take_result_of entry)
 
 -- the entry is a Take that gives work
 abbrev pub is_dispatch : Entry → Bool
-is_dispatch entry = option_map_or is_work (given_in entry) false
+is_dispatch entry = option_map_or is_work (take_result_of entry) false
 
 -- a Take of node r, and the entries of the turn behind it
 abbrev pub IsTurn : ℕ → List Entry → Type 0

@@ -11,17 +11,17 @@ use Rattle.ce_script.specs.declared.script.NamedImage.{NamedImage}
 use Rattle.ce_script.specs.Lines.{Spot, spots, words}
 use Rattle.ce_script.specs.Spellings.{greatest_number, bounded_number, data_in}
 use Rattle.ce_script.specs.Verbs.{verb_of, is_machine, is_image, is_user, form_of}
-use Rattle.ce_script.specs.Statements.{Statement, operand, has_verb_kind}
-use Rattle.ce_script.specs.Bodies.{nothing_loaded, form_image}
+use Rattle.ce_script.specs.Statements.{ScriptStatement, operand, has_verb_kind}
+use Rattle.ce_script.specs.Bodies.{empty_image, form_image}
 
 -- ---- statements of one kind
 
 -- the statements that begin with a verb of this kind
-abbrev pub of_kind : (Verb → Bool) → List Statement → List Statement
+abbrev pub of_kind : (Verb → Bool) → List ScriptStatement → List ScriptStatement
 of_kind kind all = filter (has_verb_kind kind) all
 
 -- the first words behind the verbs of these statements
-abbrev pub stated_names : List Statement → List (List ℕ)
+abbrev pub stated_names : List ScriptStatement → List (List ℕ)
 stated_names all = map (operand 1) all
 
 -- the number of a name: its place among names
@@ -36,45 +36,45 @@ without_repeats (name ∷ names) = name ∷ filter (λ other. not (bytes_eq name
 -- ---- operands
 
 -- the number that an operand writes
-abbrev pub operand_number : ℕ → Statement → ℕ
+abbrev pub operand_number : ℕ → ScriptStatement → ℕ
 operand_number place statement = unwrap_or (bounded_number greatest_number (operand place statement)) 0
 
 -- the node and the process id that two operands write, the first of them this one
-abbrev pub operand_place : ℕ → Statement → Place
+abbrev pub operand_place : ℕ → ScriptStatement → Place
 operand_place place statement =
     record { node = operand_number place statement; pid = operand_number (place + 1) statement }
 
 -- ---- the machine, the images and the users
 
 -- the dimension of the machine: none in a script without statements
-unfoldable pub dimension : List Statement → Option ℕ
+unfoldable pub dimension : List ScriptStatement → Option ℕ
 dimension all = option_map (operand_number 1) (find (has_verb_kind is_machine) all)
 
 -- the image that a statement begins
-abbrev pub image_said : Statement → ImageParts
-image_said statement =
+abbrev pub stated_image : ScriptStatement → ImageParts
+stated_image statement =
     unwrap_or
     (option_and_then (λ form. option_map (form_image form) statement.body)
-    (form_of (operand 2 statement))) nothing_loaded
+    (form_of (operand 2 statement))) empty_image
 
 -- the images, by number, in the order of their statements
-unfoldable pub images : List Statement → List NamedImage
+unfoldable pub images : List ScriptStatement → List NamedImage
 images all =
-    map (λ statement. record { name = operand 1 statement; image = image_said statement })
+    map (λ statement. record { name = operand 1 statement; image = stated_image statement })
     (of_kind is_image all)
 
 -- the names of the images, by number
-unfoldable pub image_names : List Statement → List (List ℕ)
+unfoldable pub image_names : List ScriptStatement → List (List ℕ)
 image_names all = stated_names (of_kind is_image all)
 
 -- the names of the users, by number, in order of first appearance
-unfoldable pub users : List Statement → List (List ℕ)
+unfoldable pub users : List ScriptStatement → List (List ℕ)
 users all = without_repeats (stated_names (of_kind is_user all))
 
 -- ---- commands
 
 -- the command of a statement with this verb, where the images have these names
-abbrev pub command_of_verb : Verb → List (List ℕ) → Statement → Option Command
+abbrev pub command_of_verb : Verb → List (List ℕ) → ScriptStatement → Option Command
 command_of_verb Machine images statement = None
 command_of_verb Image images statement = None
 command_of_verb User images statement = None
@@ -92,20 +92,20 @@ command_of_verb Dump images statement = Some (command.Dump (operand_place 1 stat
 command_of_verb Trace images statement = Some command.Trace
 
 -- the command of a statement, where it is one and the images have these names
-unfoldable pub command_of_statement : List (List ℕ) → Statement → Option Command
+unfoldable pub command_of_statement : List (List ℕ) → ScriptStatement → Option Command
 command_of_statement images statement =
     option_and_then (λ verb. command_of_verb verb images statement) (verb_of (words statement.line))
 
 -- the name in the last `user` statement
-abbrev pub last_user : List Statement → List ℕ
+abbrev pub last_user : List ScriptStatement → List ℕ
 last_user before = unwrap_or (last_or None (stated_names (of_kind is_user before))) []
 
 -- the command of a statement among all, with the number of the user whose `user` statement comes last before it
-abbrev pub numbered_command : List Statement → Spot Statement → Option (ℕ × Command)
+abbrev pub numbered_command : List ScriptStatement → Spot ScriptStatement → Option (ℕ × Command)
 numbered_command all spot =
     option_map (λ command. (name_number (last_user spot.before) (users all), command))
     (command_of_statement (image_names all) spot.here)
 
 -- the commands, each with its user's number
-unfoldable pub commands : List Statement → List (ℕ × Command)
+unfoldable pub commands : List ScriptStatement → List (ℕ × Command)
 commands all = filter_map (numbered_command all) (spots all)

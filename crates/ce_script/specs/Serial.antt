@@ -13,11 +13,11 @@ doings_of user all = map (λ own. own.1) (filter (λ own. own.0 == user) all)
 
 -- the entries of each command stand together in the history, the commands of all users go in the script's order, and every round
 -- is a serial one
-pub record IsSerial (script : Script) (kept : Record) : Type 0 where
+pub record IsSerial (script : Script) (run_record : Record) : Type 0 where
   pub doings : List (ℕ × Doing)
   pub commands : map (λ own. (own.0, own.1.command)) doings ≡ script.commands
-  pub together : flat_map (λ own. own.1.moments) doings ≡ moments kept.history
+  pub together : flat_map (λ own. own.1.moments) doings ≡ moments run_record.history
   pub each : EachUser
       (λ number user.
-      AreDoings serial (machine_of script) kept.history number user.done (doings_of number doings))
-      kept
+      AreDoings serial (machine_of script) run_record.history number user.done (doings_of number doings))
+      run_record

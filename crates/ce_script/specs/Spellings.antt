@@ -8,10 +8,6 @@ use Rattle.ce_script.specs.declared.spelling.TheConstants.{INSTRUCTION_DIGITS, N
 
 -- ---- numbers
 
--- how many digits a number can have
-abbrev pub number_digits : ℕ
-number_digits = NUMBER_DIGITS
-
 -- the greatest number
 abbrev pub greatest_number : ℕ
 greatest_number = 2 ^ 32 - 1
@@ -19,7 +15,7 @@ greatest_number = 2 ^ 32 - 1
 -- the number that a word writes in decimal digits, where it writes one that is at most this
 unfoldable pub bounded_number : ℕ → List ℕ → Option ℕ
 bounded_number most word =
-    if nat_le (length word) number_digits then number_of_digits 10 most word else None
+    if nat_le (length word) NUMBER_DIGITS then number_of_digits 10 most word else None
 
 -- ---- bytes
 

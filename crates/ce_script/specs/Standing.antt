@@ -17,12 +17,12 @@ use Rattle.ce_script.specs.declared.script.ScriptKind.{ScriptKind}
 use Rattle.ce_script.specs.declared.script.ScriptKind.TheVariants.{TooMany, NoEnd}
 use Rattle.ce_script.specs.Lines.{spots, later_spots, words}
 use Rattle.ce_script.specs.Verbs.{verb_of, is_machine, is_user, NewImage}
-use Rattle.ce_script.specs.Statements.{Statement, operand, has_verb_kind, begins_image, found_body}
+use Rattle.ce_script.specs.Statements.{ScriptStatement, operand, has_verb_kind, begins_image, found_body}
 use Rattle.ce_script.specs.Bodies.{located_fault}
-use Rattle.ce_script.specs.Sayings.{operand_number, name_number, image_said, dimension, images, users, last_user, command_of_verb, numbered_command, commands}
+use Rattle.ce_script.specs.Sayings.{operand_number, name_number, stated_image, dimension, images, users, last_user, command_of_verb, numbered_command, commands}
 use Rattle.ce_script.specs.Faults.{first_some, kind_where, operand_fault, image_fault, statement_fault}
 use Rattle.ce_script.specs.ReadLines.{plain_line, lines_left, remaining_statements}
-use Rattle.ce_script.specs.Reading.{word_fault, place_fault, operands_judged, with_name, user_fault}
+use Rattle.ce_script.specs.Reading.{word_fault, place_fault, operands_judgment, with_name, user_fault}
 
 -- ---- the script so far
 
@@ -97,9 +97,9 @@ with_command so_far command =
     })
 
 -- what is known behind a statement with this verb
-abbrev pub with_statement : ScriptSoFar → Verb → Statement → ScriptSoFar
+abbrev pub with_statement : ScriptSoFar → Verb → ScriptStatement → ScriptSoFar
 with_statement so_far Machine here = with_dim so_far (operand_number 1 here)
-with_statement so_far Image here = with_image so_far (operand 1 here) (image_said here)
+with_statement so_far Image here = with_image so_far (operand 1 here) (stated_image here)
 with_statement so_far User here = with_user so_far (operand 1 here)
 with_statement so_far verb here = with_command so_far (command_of_verb verb (names_so_far so_far) here)
 
@@ -112,32 +112,32 @@ new_image_fault names name =
     (kind_where (nat_lt greatest_images (length (names ++ name ∷ []))) TooMany)
 
 -- with what stands behind its verb
-abbrev pub rest_fault : ScriptSoFar → Verb → Statement → Option ScriptKind
+abbrev pub rest_fault : ScriptSoFar → Verb → ScriptStatement → Option ScriptKind
 rest_fault so_far User here = user_fault so_far.script.users (operand 1 here)
 rest_fault so_far Image here =
     option_or (new_image_fault (names_so_far so_far) (operand 1 here))
     (kind_where (is_none here.body) NoEnd)
-rest_fault so_far verb here = operands_judged (names_so_far so_far) verb here
+rest_fault so_far verb here = operands_judgment (names_so_far so_far) verb here
 
 -- with the place and what stands behind the verb
-abbrev pub verb_fault : ScriptSoFar → Verb → Statement → Option ScriptKind
+abbrev pub verb_fault : ScriptSoFar → Verb → ScriptStatement → Option ScriptKind
 verb_fault so_far verb here =
     option_or (place_fault (is_some so_far.script.dim) (is_some so_far.user) verb)
     (rest_fault so_far verb here)
 
 -- with its line
-abbrev pub line_judged : ScriptSoFar → Statement → Option ScriptKind
-line_judged so_far here =
+abbrev pub line_judgment : ScriptSoFar → ScriptStatement → Option ScriptKind
+line_judgment so_far here =
     option_or (word_fault here)
     (option_and_then (λ verb. verb_fault so_far verb here) (verb_of (words here.line)))
 
 -- with its line and its body
-abbrev pub statement_judged : ScriptSoFar → Statement → Option ScriptFault
-statement_judged so_far here =
-    option_or (option_map (located_fault here.line.number) (line_judged so_far here)) (image_fault here)
+abbrev pub statement_judgment : ScriptSoFar → ScriptStatement → Option ScriptFault
+statement_judgment so_far here =
+    option_or (option_map (located_fault here.line.number) (line_judgment so_far here)) (image_fault here)
 
 -- what is wrong with its words or with its place
-abbrev pub begin_fault : ScriptSoFar → Statement → Option ScriptKind
+abbrev pub begin_fault : ScriptSoFar → ScriptStatement → Option ScriptKind
 begin_fault so_far here =
     option_or (word_fault here)
     (option_and_then (place_fault (is_some so_far.script.dim) (is_some so_far.user))
@@ -146,11 +146,11 @@ begin_fault so_far here =
 -- ---- the statement on a line
 
 -- a line, and the body that may follow it
-abbrev pub with_body : WordedLine → Rest → Statement
+abbrev pub with_body : WordedLine → Rest → ScriptStatement
 with_body line rest = record { line = plain_line line; body = found_body (lines_left rest) }
 
 -- the statement of the line
-abbrev pub on_line : WordedLine → Rest → Statement
+abbrev pub on_line : WordedLine → Rest → ScriptStatement
 on_line line rest = record {
   line = plain_line line;
   body = if begins_image (plain_line line) then found_body (lines_left rest) else None;
@@ -160,20 +160,20 @@ on_line line rest = record {
 pub record IsPast (old new : ScriptSoFar) (line : WordedLine) (rest next : Rest) : Type 0 where
   pub verb : Verb
   pub is : verb_of (words (plain_line line)) ≡ Some verb
-  pub none : statement_judged old (on_line line rest) ≡ None
+  pub none : statement_judgment old (on_line line rest) ≡ None
   pub state : new ≡ with_statement old verb (on_line line rest)
   pub past : remaining_statements (begins_image (plain_line line)) (lines_left rest)
       ≡ remaining_statements false (lines_left next)
 
 -- nothing is said
-abbrev pub nothing_said : ScriptSoFar
-nothing_said =
+abbrev pub blank_script : ScriptSoFar
+blank_script =
     record { script = record { dim = None; images = []; users = []; commands = [] }; user = None }
 
 -- ---- the whole
 
 -- the reader knows what these statements say
-pub record IsBehind (so_far : ScriptSoFar) (front : List Statement) : Type 0 where
+pub record IsBehind (so_far : ScriptSoFar) (front : List ScriptStatement) : Type 0 where
   pub dim : so_far.script.dim ≡ dimension front
   pub machine : is_some so_far.script.dim ≡ list_any (has_verb_kind is_machine) front
   pub has_user : is_some so_far.user ≡ list_any (has_verb_kind is_user) front
@@ -182,12 +182,12 @@ pub record IsBehind (so_far : ScriptSoFar) (front : List Statement) : Type 0 whe
   pub users : so_far.script.users ≡ users front
 
 -- the first fault of statements
-abbrev pub first_statement_fault : List Statement → Option ScriptFault
+abbrev pub first_statement_fault : List ScriptStatement → Option ScriptFault
 first_statement_fault all = first_some (map statement_fault (spots all))
 
 -- The reader knows what all statements but these last say, and none of those has a fault.
-pub record HasReadUpTo (all : List Statement) (so_far : ScriptSoFar) (rest : List Statement) : Type 0 where
-  pub front : List Statement
+pub record HasReadUpTo (all : List ScriptStatement) (so_far : ScriptSoFar) (rest : List ScriptStatement) : Type 0 where
+  pub front : List ScriptStatement
   pub whole : all ≡ front ++ rest
   pub behind : IsBehind so_far front
   pub faults : first_statement_fault all ≡ first_some (map statement_fault (later_spots front rest))

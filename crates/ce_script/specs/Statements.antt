@@ -6,16 +6,16 @@ use Rattle.ce_script.specs.declared.grammar.Verb.{Verb}
 use Rattle.ce_script.specs.Verbs.{has_verb, is_image}
 
 -- a statement: its line, and for an image the lines of its body, where an `end` follows them
-pub record Statement : Type 0 where
+pub record ScriptStatement : Type 0 where
   pub line : Line
   pub body : Option (List Line)
 
 -- the word at this place behind the first of a statement
-abbrev pub operand : ℕ → Statement → List ℕ
+abbrev pub operand : ℕ → ScriptStatement → List ℕ
 operand place statement = get_or (words statement.line) place []
 
 -- the statement begins with a verb of this kind
-abbrev pub has_verb_kind : (Verb → Bool) → Statement → Bool
+abbrev pub has_verb_kind : (Verb → Bool) → ScriptStatement → Bool
 has_verb_kind kind statement = has_verb kind (words statement.line)
 
 -- ---- bodies of images
@@ -45,16 +45,16 @@ found_body behind = if list_any is_end behind then Some (before_first is_end beh
 -- ---- statements
 
 -- the statement of a line
-abbrev pub line_statement : Spot Line → Statement
+abbrev pub line_statement : Spot Line → ScriptStatement
 line_statement spot =
     record { line = spot.here; body = if begins_image spot.here then found_body spot.behind else None }
 
 -- a statement stands on each line that has words and is not inside an image
-unfoldable pub standing_statement : Spot Line → Option Statement
+unfoldable pub standing_statement : Spot Line → Option ScriptStatement
 standing_statement spot =
     if (length (words spot.here) == 0) || is_inside spot.before then None
     else Some (line_statement spot)
 
 -- the statements of a text, in order
-unfoldable pub statements : List ℕ → List Statement
+unfoldable pub statements : List ℕ → List ScriptStatement
 statements text = filter_map standing_statement (spots (lines text))

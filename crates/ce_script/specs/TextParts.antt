@@ -2,6 +2,7 @@
 use Rattle.std.specs.Prelude.{ℕ, List, [], ◌∷◌, ◌++◌, codes, decimal, ◌==◌, if◌then◌else◌, option_map, unwrap_or, slice_get}
 use Rattle.std.specs.List.{join_with_byte}
 use Rattle.std.specs.Int.{bytes_high_first}
+use Rattle.ce_text.specs.Bytes.{line_feed}
 use Rattle.hex.specs.Hex.{encode_lower}
 use Rattle.ce_model.specs.declared.topology.TheConstants.{HOST}
 use Rattle.ce_model.specs.declared.topology.Place.{Place}
@@ -12,12 +13,12 @@ use Rattle.ce_script.specs.declared.record.Record.{Record}
 use Rattle.ce_script.specs.declared.script.Script.{Script}
 
 -- words, with one space between each two
-abbrev pub words : List (List ℕ) → List ℕ
-words pieces = join_with_byte 32 pieces
+abbrev pub joined_words : List (List ℕ) → List ℕ
+joined_words pieces = join_with_byte 32 pieces
 
 -- a line of words
 abbrev pub line : List (List ℕ) → List ℕ
-line pieces = words pieces ++ 10 ∷ []
+line pieces = joined_words pieces ++ line_feed ∷ []
 
 -- the name of an image, by number
 abbrev pub image_name : Script → ℕ → List ℕ
@@ -26,7 +27,7 @@ image_name script image =
 
 -- the name of a user, by number
 abbrev pub user_name : Record → ℕ → List ℕ
-user_name kept user = unwrap_or (option_map (λ of. of.name) (slice_get kept.users user)) []
+user_name run_record user = unwrap_or (option_map (λ of. of.name) (slice_get run_record.users user)) []
 
 -- an address, or an instruction word: 32 bits as eight hexadecimal digits
 abbrev pub word_text : ℕ → List ℕ

@@ -17,33 +17,33 @@ use Rattle.ce_script.specs.EntryText.{entry_line}
 
 -- a command and its reply, a line each
 abbrev pub done_text : Script → Record → Command × Answer → List ℕ
-done_text script kept done =
-    line (command_words script done.0) ++ line (codes "=" ∷ reply_text kept done.1 ∷ [])
+done_text script run_record done =
+    line (command_words script done.0) ++ line (codes "=" ∷ reply_text run_record done.1 ∷ [])
 
 -- a user, and what it did
 abbrev pub user_text : Script → Record → UserRecord → List ℕ
-user_text script kept user =
-    line (codes "user" ∷ user.name ∷ []) ++ flat_map (done_text script kept) user.done
+user_text script run_record user =
+    line (codes "user" ∷ user.name ∷ []) ++ flat_map (done_text script run_record) user.done
 
 -- the head of a cube's section
 abbrev pub cube_line : Record → ℕ → CubeGrant → List ℕ
-cube_line kept number grant =
-    line (codes "cube" ∷ decimal number ∷ codes "user" ∷ user_name kept grant.user ∷ codes "dim"
+cube_line run_record number grant =
+    line (codes "cube" ∷ decimal number ∷ codes "user" ∷ user_name run_record grant.user ∷ codes "dim"
     ∷ decimal grant.dim ∷ subcube_words grant.sub)
 
 -- the section of a cube: whose it is and which nodes it is, and its trace
 abbrev pub cube_text : Script → Record → ℕ × CubeGrant → List ℕ
-cube_text script kept numbered =
-    cube_line kept numbered.0 numbered.1
-    ++ flat_map (entry_line script) (view kept.history numbered.0)
+cube_text script run_record numbered =
+    cube_line run_record numbered.0 numbered.1
+    ++ flat_map (entry_line script) (view run_record.history numbered.0)
 
 -- the report; of a script without statements nothing is written
 unfoldable pub report : Script → Record → List ℕ
-report script kept = elim script.dim [
+report script run_record = elim script.dim [
   | None ↦ []
   | Some dim ↦ line (codes "machine" ∷ decimal dim ∷ [])
-      ++ flat_map (user_text script kept) kept.users
-      ++ flat_map (cube_text script kept) (enumerate_from 0 (grants_of kept.history))
+      ++ flat_map (user_text script run_record) run_record.users
+      ++ flat_map (cube_text script run_record) (enumerate_from 0 (grants_of run_record.history))
       ++ line (codes "end" ∷ [])
 ]
 
@@ -55,12 +55,12 @@ is_recv other = false
 
 -- what a user's `recv` was answered
 abbrev pub received_text : Record → UserRecord → List ℕ
-received_text kept user =
+received_text run_record user =
     unwrap_or
-    (option_map (λ done. reply_text kept done.1) (find (λ done. is_recv done.0) user.done)) []
+    (option_map (λ done. reply_text run_record done.1) (find (λ done. is_recv done.0) user.done)) []
 
 -- the summary of the load of this seed
 unfoldable pub summary : ℕ → Record → List ℕ
-summary seed kept =
+summary seed run_record =
     line (codes "load" ∷ decimal seed ∷ [])
-    ++ flat_map (λ user. line (user.name ∷ received_text kept user ∷ [])) kept.users
+    ++ flat_map (λ user. line (user.name ∷ received_text run_record user ∷ [])) run_record.users

@@ -1,5 +1,5 @@
 -- What statements begin with, and what belongs behind it.
-use Rattle.std.specs.Prelude.{ℕ, Bool, true, false, List, [], ◌∷◌, Option, None, codes}
+use Rattle.std.specs.Prelude.{ℕ, Bool, true, false, List, [], ◌∷◌, Option, None, codes, map}
 use Rattle.std.specs.Option.{option_map_or}
 use Rattle.ce_text.specs.Table.{look_up}
 use Rattle.ce_model.specs.Limits.{greatest_dim, greatest_count}
@@ -9,23 +9,43 @@ use Rattle.ce_script.specs.declared.grammar.ImageForm.{ImageForm}
 use Rattle.ce_script.specs.declared.grammar.ImageForm.TheVariants.{Hex, Asm, Rki}
 use Rattle.ce_script.specs.Spellings.{greatest_number}
 
+-- all verbs
+abbrev pub all_verbs : List Verb
+all_verbs =
+    Machine
+    ∷ Image
+    ∷ User
+    ∷ Getcube
+    ∷ Peek
+    ∷ Freecube
+    ∷ Spawn
+    ∷ Kill
+    ∷ Send
+    ∷ Run
+    ∷ Recv
+    ∷ Dump
+    ∷ Trace
+    ∷ []
+
+-- the word of a verb
+abbrev pub verb_word : Verb → List ℕ
+verb_word Machine = codes "machine"
+verb_word Image = codes "image"
+verb_word User = codes "user"
+verb_word Getcube = codes "getcube"
+verb_word Peek = codes "peek"
+verb_word Freecube = codes "freecube"
+verb_word Spawn = codes "spawn"
+verb_word Kill = codes "kill"
+verb_word Send = codes "send"
+verb_word Run = codes "run"
+verb_word Recv = codes "recv"
+verb_word Dump = codes "dump"
+verb_word Trace = codes "trace"
+
 -- the words that begin statements
 unfoldable pub verbs : List (List ℕ × Verb)
-verbs =
-    (codes "machine", Machine)
-    ∷ (codes "image", Image)
-    ∷ (codes "user", User)
-    ∷ (codes "getcube", Getcube)
-    ∷ (codes "peek", Peek)
-    ∷ (codes "freecube", Freecube)
-    ∷ (codes "spawn", Spawn)
-    ∷ (codes "kill", Kill)
-    ∷ (codes "send", Send)
-    ∷ (codes "run", Run)
-    ∷ (codes "recv", Recv)
-    ∷ (codes "dump", Dump)
-    ∷ (codes "trace", Trace)
-    ∷ []
+verbs = map (λ verb. (verb_word verb, verb)) all_verbs
 
 -- what these words begin with, where it begins a statement
 unfoldable pub verb_of : List (List ℕ) → Option Verb

@@ -1,7 +1,7 @@
 //! The words of the language of scripts.
-ghost use Rattle.std.specs.Prelude.{◌≡◌, length};
+ghost use Rattle.std.specs.Prelude.{◌≡◌, bytes_eq, find, length};
 ghost use Rattle.ce_text.specs.Table.{look_up};
-ghost use Rattle.ce_script.specs.Verbs.{verbs, form_of};
+ghost use Rattle.ce_script.specs.Verbs.{verbs, verb_word, form_of};
 
 use ce_text::look_up;
 
@@ -34,21 +34,21 @@ pub enum ImageForm {
     Rki,
 }
 
-/// The words that begin statements.
-const VERBS: [(&str, Verb); 13] = [
-    ("machine", Verb::Machine),
-    ("image", Verb::Image),
-    ("user", Verb::User),
-    ("getcube", Verb::Getcube),
-    ("peek", Verb::Peek),
-    ("freecube", Verb::Freecube),
-    ("spawn", Verb::Spawn),
-    ("kill", Verb::Kill),
-    ("send", Verb::Send),
-    ("run", Verb::Run),
-    ("recv", Verb::Recv),
-    ("dump", Verb::Dump),
-    ("trace", Verb::Trace),
+/// All verbs.
+const VERBS: [Verb; 13] = [
+    Verb::Machine,
+    Verb::Image,
+    Verb::User,
+    Verb::Getcube,
+    Verb::Peek,
+    Verb::Freecube,
+    Verb::Spawn,
+    Verb::Kill,
+    Verb::Send,
+    Verb::Run,
+    Verb::Recv,
+    Verb::Dump,
+    Verb::Trace,
 ];
 
 /// The words that name the forms of images.
@@ -59,11 +59,21 @@ const FORMS: [(&str, ImageForm); 3] = [
 ];
 
 /// What a statement with this first word is.
-#[tactic(auto, unfolding(crate::specs::Verbs::verbs))]
+#[tactic(auto, using(crate::proofs::VerbWords::found_by_word), unfolding(crate::specs::Verbs::verbs))]
 pub fn verb_of(word: &[u8]) -> Option<Verb>
     ensures { result ≡ look_up verbs word.now }
 {
-    look_up(&VERBS, word)
+    verb_in(&VERBS, word)
+}
+
+/// The verb among these that has the word.
+fn verb_in(verbs: &[Verb], word: &[u8]) -> Option<Verb>
+    ensures { result ≡ find (λ verb. bytes_eq (verb_word verb) word.now) verbs.now }
+{
+    verbs
+        .iter()
+        .find(|verb| verb.word().as_bytes() == word)
+        .copied()
 }
 
 /// The form that a word names.
@@ -76,6 +86,27 @@ pub fn form_of(word: &[u8]) -> Option<ImageForm>
 
 impl Verb {
     ghost use Rattle.ce_script.specs.Verbs.{is_image, is_command, operands_of};
+
+    /// Its word.
+    pub fn word(self) -> &'static str
+        ensures { result.now ≡ verb_word self }
+    {
+        match self {
+            Verb::Machine => "machine",
+            Verb::Image => "image",
+            Verb::User => "user",
+            Verb::Getcube => "getcube",
+            Verb::Peek => "peek",
+            Verb::Freecube => "freecube",
+            Verb::Spawn => "spawn",
+            Verb::Kill => "kill",
+            Verb::Send => "send",
+            Verb::Run => "run",
+            Verb::Recv => "recv",
+            Verb::Dump => "dump",
+            Verb::Trace => "trace",
+        }
+    }
 
     /// How many words belong behind it.
     pub fn operand_count(self) -> usize

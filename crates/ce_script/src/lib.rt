@@ -3,6 +3,7 @@
 
 mod grammar;
 mod laws;
+mod limited_script;
 mod load;
 mod name;
 mod reader;
@@ -13,7 +14,9 @@ mod spelling;
 mod tests;
 mod texts;
 
+pub use grammar::Verb;
 pub use laws::{grammar_law, limits_law};
+pub use limited_script::LimitedScript;
 pub use load::make;
 pub use name::Name;
 pub use reader::read_script;

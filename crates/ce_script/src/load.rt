@@ -1,11 +1,13 @@
 //! The script of the load: four users, each with a ring of four processes that hand one message round.
-ghost use Rattle.std.specs.Prelude.{◌≡◌, ◌<◌, ◌^◌, ◌∷◌, [], ◌++◌, IfOk, OnOk, IsTrue, length, map, flat_map, codes};
+ghost use Rattle.std.specs.Prelude.{◌≡◌, ◌<◌, ◌∷◌, [], ◌++◌, IfOk, OnOk, IsTrue, length, map, flat_map, codes};
 ghost use Rattle.std.specs.Int.{w32, to_le_bytes};
 ghost use Rattle.std.specs.String.{string_bytes};
-ghost use Rattle.ce_script.specs.Bounds.{IsWithinLimits};
+ghost use Rattle.ce_script.specs.declared.load.TheConstants.{HAND_OVERS};
+ghost use Rattle.ce_text.specs.declared.limits.TheConstants.{TEXT_LIMIT};
 ghost use Rattle.ce_script.specs.Names.{is_name};
-ghost use Rattle.ce_script.specs.Load.{numbered_commands, hand_overs, load, load_commands, load_user_numbers, load_users, next_number, place, ring_image, ring_text};
+ghost use Rattle.ce_script.specs.Load.{numbered_commands, load, load_commands, load_user_numbers, load_users, next_number, ring_image, ring_text};
 
+use crate::limited_script::LimitedScript;
 use crate::name::Name;
 use crate::script::{NamedImage, Script};
 use ce_host::Command;
@@ -62,18 +64,18 @@ const NUMBER_FACTOR: u32 = 1_664_525;
 
 const NUMBER_STEP: u32 = 1_013_904_223;
 
-/// The script of the load of a seed, which keeps the limits of a script. `NoMemory` may come at any time.
+/// The script of the load of a seed. `NoMemory` may come at any time.
 #[tactic(auto, using(crate::proofs::LoadWithin::load_within), unfolding(crate::specs::Load::load))]
-pub fn make(alloc: Global, seed: u32) -> Result<Script, NoMemory>
-    ensures load { IfOk result (λ script. script ≡ load seed) }
-    ensures within { IsWithinLimits (load seed) }
+pub fn make(alloc: Global, seed: u32) -> Result<LimitedScript, NoMemory>
+    ensures { IfOk result (λ limited. limited.script ≡ load seed) }
 {
-    Ok(Script {
+    let script = Script {
         dim: Some(MACHINE_DIMENSION),
         images: load_images(alloc)?,
         users: load_users(alloc)?,
         commands: load_commands(alloc, seed)?,
-    })
+    };
+    Ok(LimitedScript { script })
 }
 
 /// The program, with its name.
@@ -106,7 +108,7 @@ fn ring_image(alloc: Global) -> Result<Image, NoMemory>
 /// The text of the program.
 fn ring_text() -> &'static [u8]
     ensures text { result.now ≡ ring_text }
-    ensures short { length result.now < 2 ^ 31 }
+    ensures short { length result.now < TEXT_LIMIT }
 {
     RING.as_bytes()
 }
@@ -169,7 +171,7 @@ fn push_commands(
 /// A message: its number, and how often it is handed over.
 #[tactic(auto, using(ce_model::specs::Limits::block_room_lem))]
 fn message(alloc: Global, number: u32) -> Result<Bytes, NoMemory>
-    ensures { IfOk result (λ bytes. bytes ≡ to_le_bytes w32 number ++ to_le_bytes w32 hand_overs) }
+    ensures { IfOk result (λ bytes. bytes ≡ to_le_bytes w32 number ++ to_le_bytes w32 HAND_OVERS) }
 {
     let mut bytes = Vec::from_slice(alloc, &number.to_le_bytes())?;
     bytes.extend_from_slice(&HAND_OVERS.to_le_bytes())?;

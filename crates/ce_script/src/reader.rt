@@ -1,9 +1,9 @@
 //! The reader of scripts.
-ghost use Rattle.std.specs.Prelude.{◌≡◌, ◌≢◌, ◌<◌, ◌^◌, length, IfOk, IfErr, Some};
+ghost use Rattle.std.specs.Prelude.{◌≡◌, ◌≢◌, ◌<◌, length, IfOk, IfErr, Some};
+ghost use Rattle.ce_text.specs.declared.limits.TheConstants.{TEXT_LIMIT};
 ghost use Rattle.rv_model.specs.declared.memory.NoMemory.{NoMemory};
 ghost use Rattle.rv_asm.specs.declared.fault.AsmKind.TheVariants as kinds;
 ghost use Rattle.ce_script.specs.declared.script.ScriptKind.TheVariants.{Assembly};
-ghost use Rattle.ce_script.specs.Bounds.{IsWithinLimits};
 ghost use Rattle.ce_script.specs.Faults.{first_fault};
 ghost use Rattle.ce_script.specs.Scripts.{IsScript, IsNoMemory};
 
@@ -15,17 +15,17 @@ mod rest;
 mod so_far;
 mod state;
 
-use crate::script::{Script, ScriptFault};
+use crate::limited_script::LimitedScript;
+use crate::script::ScriptFault;
 use rest::Rest;
 use state::Reader;
 use std::alloc::Global;
 
 /// The script that a text says, or its first fault: statements are judged in order, each by its own line before its body.
-/// `Memory` may come at any line. There are fewer than 2^31 bytes.
-pub fn read_script(alloc: Global, bytes: &[u8]) -> Result<Script, ScriptFault>
-    requires { length bytes.now < 2 ^ 31 }
-    ensures script { IfOk result (λ script. IsScript bytes.now script) }
-    ensures within { IfOk result IsWithinLimits }
+/// `Memory` may come at any line. There are fewer than `TEXT_LIMIT` bytes.
+pub fn read_script(alloc: Global, bytes: &[u8]) -> Result<LimitedScript, ScriptFault>
+    requires { length bytes.now < TEXT_LIMIT }
+    ensures script { IfOk result (λ limited. IsScript bytes.now limited.script) }
     ensures fault { IfErr result (λ fault. ¬ IsNoMemory fault.kind
         → first_fault bytes.now ≡ Some fault) }
     ensures told { IfErr result (λ fault. (want : NoMemory)
@@ -36,7 +36,9 @@ pub fn read_script(alloc: Global, bytes: &[u8]) -> Result<Script, ScriptFault>
     while let Some((line, next)) = rest.first_line() {
         (reader, rest) = reader.line(line, next)?;
     }
-    Ok(reader.so_far.script)
+    Ok(LimitedScript {
+        script: reader.so_far.script,
+    })
 }
 
 #[cfg(test)]

@@ -23,11 +23,12 @@ pub struct NamedImage {
 /// What a script says: the machine, and what its users do with it.
 #[derive(Debug, Drop)]
 pub struct Script {
-    /// The machine's dimension, 0 to 6; none where the script has no statements.
+    /// The machine's dimension, `GREATEST_DIMENSION` at most; none where the script has no statements.
     pub dim: Option<u32>,
-    /// The images, by number, in the script's order; 64 at most, each of another name.
+    /// The images, by number, in the script's order; `GREATEST_IMAGES` at most, each of another name.
     pub images: Items<NamedImage>,
-    /// The users' names, by number, in the order in which the script first names them; 8 at most, all different.
+    /// The users' names, by number, in the order in which the script first names them; `GREATEST_USERS` at most, all
+    /// different.
     pub users: Items<Name>,
     /// Each command with its user's number, in the script's order.
     pub commands: Items<(u32, Command)>,
@@ -49,15 +50,16 @@ pub enum ScriptKind {
     SecondMachine,
     /// A command comes before any `user`.
     NoUser,
-    /// A word is no number, or the number is too large where it stands: a dimension over 6, a count over 1,000,000.
+    /// A word is no number, or the number is too large where it stands: a dimension over `GREATEST_DIMENSION`, a count
+    /// over `GREATEST_COUNT`.
     BadNumber,
     /// A word is no name.
     BadName,
-    /// The data of `send` is neither `-` nor an even number of hexadecimal digits, 8,192 at most.
+    /// The data of `send` is neither `-` nor pairs of hexadecimal digits, `BLOCK_ROOM` pairs at most.
     BadHex,
     /// An earlier image has the name.
     NameTaken,
-    /// A ninth user, or a 65th image.
+    /// More users than `GREATEST_USERS`, or more images than `GREATEST_IMAGES`.
     TooMany,
     /// No earlier image has the name.
     UnknownImage,

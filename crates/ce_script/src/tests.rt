@@ -22,9 +22,9 @@ fn a_record_keeps_replies_and_history(rt: HostRuntime) -> Result<(), Fail> {
         actor: HOST,
         what: What::Peek,
     })?;
-    let kept = Record { users, history };
+    let run_record = Record { users, history };
     assert_eq!(rt; copied.as_str(), "alice");
-    assert_eq!(rt; kept.users.len(), 1);
-    assert_eq!(rt; kept.history.len(), 1);
+    assert_eq!(rt; run_record.users.len(), 1);
+    assert_eq!(rt; run_record.history.len(), 1);
     Ok(())
 }

@@ -1,6 +1,6 @@
 ghost use Rattle.std.specs.Prelude.{◌≡◌, ℕ, ◌+◌, ◌/◌, ◌%◌, ◌^◌, ◌<◌, ◌≤◌, ◌==◌, ◌&&◌, find, IsTrue};
 ghost use Rattle.ce_model.specs.Limits.{greatest_dim};
-ghost use Rattle.ce_model.specs.Subcubes.{node_of, is_inside, is_base, has_node, ones_of, first_free, all_nodes, masked_subcube, with_mask};
+ghost use Rattle.ce_model.specs.Subcubes.{node_of, is_inside, is_base, has_node, ones_of, first_free, are_all_nodes, subcube, with_mask};
 ghost use Rattle.ce_set.specs.Words.{has_bit};
 
 use crate::deposit;
@@ -56,7 +56,7 @@ pub fn first_free(free: NodeSet, dim: u32, d: u32) -> Option<Subcube>
 fn first_with(free: NodeSet, mask: u32) -> Option<Subcube>
     requires { mask < 2 ^ greatest_dim }
     ensures { (dim : ℕ) → free.0 < 2 ^ 2 ^ dim → result
-        ≡ find (all_nodes (has_node free) (ones_of greatest_dim mask)) (with_mask (2 ^ dim) mask) }
+        ≡ find (are_all_nodes (has_node free) (ones_of greatest_dim mask)) (with_mask (2 ^ dim) mask) }
 {
     let bases = bases_within(free.0, mask);
     if bases == 0 {
@@ -70,8 +70,8 @@ fn first_with(free: NodeSet, mask: u32) -> Option<Subcube>
 fn bases_within(set: u64, mask: u32) -> u64
     requires { mask < 2 ^ greatest_dim }
     ensures { (n : ℕ) → has_bit result n
-        ≡ (is_base mask n && all_nodes (has_bit set) (ones_of greatest_dim mask)
-        (masked_subcube mask n)) }
+        ≡ (is_base mask n && are_all_nodes (has_bit set) (ones_of greatest_dim mask)
+        (subcube mask n)) }
 {
     let mut bases = set;
     for place in (0..GREATEST_DIMENSION).rev() {

@@ -8,12 +8,12 @@ use Rattle.ce_model.specs.declared.entry.What.{What}
 use Rattle.ce_model.specs.Node.{Node}
 use Rattle.ce_model.specs.Trace.{NodeRecord, sent_parcels, allowed_dispatches_after, made_dispatches_after}
 use Rattle.ce_model.specs.Cube.{Cube, CubeState, IsCube, store_after}
-use Rattle.ce_model.specs.Sound.{IsSoundNode, IsSoundHost, IsRising, IsSound}
+use Rattle.ce_model.specs.Sound.{IsSoundNode, IsSoundHost, AreInOrder, IsSound}
 use Rattle.ce_solo.proofs.Counting.{count, count-nil, sum_run, sum_run-zero}
 use Rattle.ce_solo.proofs.Items.{parcel_ids}
 use Rattle.ce_solo.proofs.Records.{HasStayedSound}
 use Rattle.ce_solo.proofs.Sending.{not_host}
-use Rattle.ce_solo.proofs.Steps.{record_by, node_by, state_after, sound_node-same, IsNodeStep, sound-goes}
+use Rattle.ce_solo.proofs.Entries.{record_by, node_by, state_after, sound_node-same, IsNodeStep, sound-goes}
 
 -- a node that does nothing, and for which blocks come
 pub idle-goes : (cube : Cube) (sent' r : ℕ) (kept kept' : NodeRecord) (node : Node) (come : List BlockId) (gone : BlockId → ℕ) → IsSoundNode cube kept r node
@@ -57,7 +57,7 @@ node-acts cube s r what come gone of below sound acts =
             (acts.others q within (eqb-false r q f))
       ];
       host = subst (λ b. IsSoundHost (sent_by s r what) (record_by b HOST entry (s.standing.node_record HOST)).waiting_items) (sym no_host) acts.host;
-      hoststore = subst (λ b. IsRising (if b then store_after (s.standing.node_record HOST).waiting_items s.hoststore what else s.hoststore)) (sym no_host) sound.hoststore;
+      hoststore = subst (λ b. AreInOrder (if b then store_after (s.standing.node_record HOST).waiting_items s.hoststore what else s.hoststore)) (sym no_host) sound.hoststore;
       balance = subst (λ b. (id : BlockId)
           → sum_run (come id) 0 (2 ^ cube.dim) + count id (parcel_ids (record_by b HOST entry (s.standing.node_record HOST)).waiting_items)
           + count id (if b then store_after (s.standing.node_record HOST).waiting_items s.hoststore what else s.hoststore)
@@ -72,7 +72,7 @@ pub record IsHostAct (cube : Cube) (s : CubeState) (what : What) (come : BlockId
       → IsNodeStep cube (sent_by s HOST what) q (s.standing.node_record q) (record_by false q (record { user = cube.user; actor = HOST; what = what }) (s.standing.node_record q))
       (s.node q) (s.node q) (λ id. come id q) (λ id. 0)
   pub host : IsSoundHost (sent_by s HOST what) (record_by true HOST (record { user = cube.user; actor = HOST; what = what }) (s.standing.node_record HOST)).waiting_items
-  pub store : IsRising (store_after (s.standing.node_record HOST).waiting_items s.hoststore what)
+  pub store : AreInOrder (store_after (s.standing.node_record HOST).waiting_items s.hoststore what)
   pub balance : (id : BlockId)
       → sum_run (come id) 0 (2 ^ cube.dim)
       + count id (parcel_ids (record_by true HOST (record { user = cube.user; actor = HOST; what = what }) (s.standing.node_record HOST)).waiting_items)

@@ -4,8 +4,8 @@ use Rattle.std.specs.List.{AllByRecursion, range_with_len}
 use Rattle.std.proofs.lemmas.Bool.{cases_lt, cases_order, eq-eqb, eqb-true, ltb-true, lt-ltb, and_parts, and_from, or_cases, or_left, or_right, cases_Bool, both_ways, cond_both}
 use Rattle.std.proofs.lemmas.List.Sums.{sum_by-cons}
 use Rattle.ce_model.specs.declared.topology.BlockId.{BlockId}
-use Rattle.ce_model.specs.Blocks.{is_lower, put, put_all, is_same_id}
-use Rattle.ce_model.specs.Sound.{IsRising}
+use Rattle.ce_model.specs.Blocks.{is_lower, with_id, with_ids, is_same_id}
+use Rattle.ce_model.specs.Sound.{AreInOrder}
 
 -- ---- names
 
@@ -70,17 +70,17 @@ unfolding count
 count-append id [] ys = omega arith
 count-append id (x ∷ xs) ys = omega (arith, count-append id xs ys)
 
-pub count-put : (id x : BlockId) (xs : List BlockId) → count id (put x xs) ≡ hit id x + count id xs
+pub count-put : (id x : BlockId) (xs : List BlockId) → count id (with_id x xs) ≡ hit id x + count id xs
 unfolding count
 count-put id x [] = refl
 count-put id x (y ∷ ys) =
-    cond_both (is_lower x y) (x ∷ y ∷ ys) (y ∷ put x ys) (λ zs. count id zs ≡ hit id x + (hit id y + count id ys))
+    cond_both (is_lower x y) (x ∷ y ∷ ys) (y ∷ with_id x ys) (λ zs. count id zs ≡ hit id x + (hit id y + count id ys))
     (λ t. refl) (λ f. omega (arith, count-put id x ys))
 
-pub count-put_all : (id : BlockId) (ids store : List BlockId) → count id (put_all ids store) ≡ count id ids + count id store
+pub count-put_all : (id : BlockId) (ids store : List BlockId) → count id (with_ids ids store) ≡ count id ids + count id store
 unfolding count
 count-put_all id [] store = omega arith
-count-put_all id (x ∷ ids) store = omega (arith, count-put_all id ids (put x store), count-put id x store)
+count-put_all id (x ∷ ids) store = omega (arith, count-put_all id ids (with_id x store), count-put id x store)
 
 pub count-take-drop : (id : BlockId) (k : ℕ) (xs : List BlockId) → count id (take k xs) + count id (drop k xs) ≡ count id xs
 unfolding count
@@ -161,32 +161,32 @@ precedes-other a b not_before differ =
           elim order [ inl less ↦ absurd (both_ways _ not_before (precedes-home a b less)) | inr more ↦ precedes-home b a more ]
     ]
 
-all-put : (P : BlockId → Type 0) (x : BlockId) (xs : List BlockId) → P x → AllByRecursion P xs → AllByRecursion P (put x xs)
+all-put : (P : BlockId → Type 0) (x : BlockId) (xs : List BlockId) → P x → AllByRecursion P xs → AllByRecursion P (with_id x xs)
 all-put P x [] p all = (p, tt)
 all-put P x (y ∷ ys) p all =
-    cond_both (is_lower x y) (x ∷ y ∷ ys) (y ∷ put x ys) (AllByRecursion P) (λ t. (p, all)) (λ f. (all.0, all-put P x ys p all.1))
+    cond_both (is_lower x y) (x ∷ y ∷ ys) (y ∷ with_id x ys) (AllByRecursion P) (λ t. (p, all)) (λ f. (all.0, all-put P x ys p all.1))
 
 all_behind : (x y : BlockId) (ys : List BlockId) → is_lower x y ≡ true → AllByRecursion (λ z. is_lower y z ≡ true) ys → AllByRecursion (λ z. is_lower x z ≡ true) ys
 all_behind x y [] h all = tt
 all_behind x y (z ∷ zs) h all = (precedes-trans x y z h all.0, all_behind x y zs h all.1)
 
 -- a name that a rising store doesn't have is put in its place
-pub rising-put : (x : BlockId) (xs : List BlockId) → IsRising xs → count x xs ≡ 0 → IsRising (put x xs)
+pub rising-put : (x : BlockId) (xs : List BlockId) → AreInOrder xs → count x xs ≡ 0 → AreInOrder (with_id x xs)
 unfolding count
 rising-put x [] rising new = (tt, tt)
 rising-put x (y ∷ ys) rising new =
-    cond_both (is_lower x y) (x ∷ y ∷ ys) (y ∷ put x ys) IsRising
+    cond_both (is_lower x y) (x ∷ y ∷ ys) (y ∷ with_id x ys) AreInOrder
     (λ h. ((h, all_behind x y ys h rising.0), rising))
     (λ h. (all-put (λ z. is_lower y z ≡ true) x ys (precedes-other x y h (omega arith)) rising.0, rising-put x ys rising.1 (omega arith)))
 
-pub rising-put_all : (ids store : List BlockId) → IsRising store → ((id : BlockId) → count id ids + count id store ≤ 1) → IsRising (put_all ids store)
+pub rising-put_all : (ids store : List BlockId) → AreInOrder store → ((id : BlockId) → count id ids + count id store ≤ 1) → AreInOrder (with_ids ids store)
 unfolding count
 rising-put_all [] store rising once = rising
 rising-put_all (x ∷ ids) store rising once =
-    rising-put_all ids (put x store) (rising-put x store rising (omega (arith, once x, hit-self x)))
+    rising-put_all ids (with_id x store) (rising-put x store rising (omega (arith, once x, hit-self x)))
     (λ id. omega (arith, once id, count-put id x store))
 
-pub rising-drop : (k : ℕ) (xs : List BlockId) → IsRising xs → IsRising (drop k xs)
+pub rising-drop : (k : ℕ) (xs : List BlockId) → AreInOrder xs → AreInOrder (drop k xs)
 rising-drop zero xs rising = rising
 rising-drop (suc k) [] rising = tt
 rising-drop (suc k) (x ∷ xs) rising = rising-drop k xs rising.1

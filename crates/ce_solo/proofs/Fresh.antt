@@ -3,19 +3,20 @@ use Rattle.std.proofs.Common.{◌≡◌, ◌⊎◌, ℕ, zero, suc, ◌+◌, ◌
 use Rattle.std.specs.List.{AllByRecursion, range_with_len}
 use Rattle.std.proofs.lemmas.Bool.{cases_lt, cases_eq, both_ways, eq-eqb, ne_eqb, lt-ltb, and_from, and_left, and_right, or_right}
 use Rattle.std.proofs.lemmas.List.{length-replicate, get_or-replicate, get_or_past}
+use Rattle.rv_model.specs.declared.limits.TheConstants.{REGISTER_COUNT}
 use Rattle.ce_model.specs.declared.topology.BlockId.{BlockId}
 use Rattle.ce_model.specs.Limits.{process_count, home_blocks, host_home, host_home_lem, greatest_dim_lem}
 use Rattle.ce_model.specs.Blocks.{is_lower, is_same_id, blocks_of_home}
 use Rattle.ce_model.specs.Space.{mapped_ids}
-use Rattle.ce_model.specs.Process.{Process, unborn_process, register_count}
+use Rattle.ce_model.specs.Process.{Process, unborn_process}
 use Rattle.ce_model.specs.Node.{opening_node, process_at, blocks_of}
 use Rattle.ce_model.specs.Trace.{blank_record}
 use Rattle.ce_model.specs.Cube.{Cube, IsCube, opening}
 use Rattle.ce_model.specs.Owners.{IsBlockOf, holdings}
-use Rattle.ce_model.specs.Sound.{is_polling, IsSoundProcess, IsSoundNode, IsRising, IsSound}
+use Rattle.ce_model.specs.Sound.{is_polling, IsSoundProcess, IsSoundNode, AreInOrder, IsSound}
 use Rattle.ce_solo.proofs.Counting.{hit, count, count-nil, count-cons, sum_run, sum_run-same, sum_run-zero, sum_run-at, all-from_names}
 use Rattle.ce_solo.proofs.Lists.{all-of_map}
-use Rattle.ce_solo.proofs.Totals.{Held, names, names-total, holders-total, at_node, at_node-is, total, total-is}
+use Rattle.ce_solo.proofs.Totals.{HeldName, names, names-total, holders-total, at_node, at_node-is, total, total-is}
 
 -- ---- the blocks of a home
 
@@ -32,11 +33,11 @@ all_later : (home i from n : ℕ) → i < from → AllByRecursion (λ other. is_
 all_later home i from zero h = tt
 all_later home i from (suc n) h = (precedes-next home i from h, all_later home i (from + 1) n (omega arith))
 
-rising-from : (home from n : ℕ) → IsRising (blocks_from home from n)
+rising-from : (home from n : ℕ) → AreInOrder (blocks_from home from n)
 rising-from home from zero = tt
 rising-from home from (suc n) = (all_later home from (from + 1) n (omega arith), rising-from home (from + 1) n)
 
-rising-home : (home : ℕ) → IsRising (blocks_of_home home)
+rising-home : (home : ℕ) → AreInOrder (blocks_of_home home)
 rising-home home = rising-from home 0 home_blocks
 
 not_hit : (id : BlockId) (home index : ℕ) → is_same_id id (block_of home index) ≡ false → hit id (block_of home index) ≡ 0
@@ -84,7 +85,7 @@ fresh_process r dim images pid =
 
 sound_unborn : (pid : ℕ) → IsSoundProcess blank_record (opening_node 0 0 0).turn pid unborn_process
 sound_unborn pid = record {
-  registers = length-replicate {A = ℕ} register_count 0;
+  registers = length-replicate {A = ℕ} REGISTER_COUNT 0;
   windows = omega arith;
   unborn = refl;
   unborn_used = λ h. refl;
@@ -190,7 +191,7 @@ fresh_sound cube of = record {
   host = record { numbered = record { rising = tt; below = tt }; own = tt };
   hoststore = rising-home host_home;
   owners = λ id block. holders-total id cube.dim (opening cube) ∙ opening_owner cube of id block;
-  blocks = all-of_map (IsBlockOf cube.dim) (λ (holding : Held). holding.1) (holdings cube.dim (opening cube))
+  blocks = all-of_map (IsBlockOf cube.dim) (λ (holding : HeldName). holding.1) (holdings cube.dim (opening cube))
       (all-from_names (IsBlockOf cube.dim) (names (holdings cube.dim (opening cube)))
       (λ id some. opening_block cube of id (omega (arith, some, names-total id cube.dim (opening cube)))));
   dispatches = omega arith;

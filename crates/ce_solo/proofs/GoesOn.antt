@@ -6,17 +6,17 @@ use Rattle.ce_model.specs.Cube.{Cube, CubeState, IsCube, HostCall, state_after_t
 use Rattle.ce_model.specs.Sound.{IsSound}
 use Rattle.ce_model.proofs.Walked.{kept_by_each, each_joined}
 use Rattle.ce_model.proofs.AloneByEntries.{alone_by_entries, entries_of_alone}
-use Rattle.ce_solo.proofs.Steps.{state_after, entry_in}
+use Rattle.ce_solo.proofs.Entries.{state_after, entry_in}
 use Rattle.ce_solo.proofs.Made.{call_in}
 use Rattle.ce_solo.proofs.Stands.{IsSoundTrace, entry_of-next, left-made, stands-made, stands-nil, stands-each, state_after_trace-nil}
 
 -- the entry that an actor makes next in a state
 abbrev next_in : Cube → CubeState → ℕ → Option HostCall → Option Entry
-next_in cube s actor asked = option_map (entry_in cube s actor) (call_in cube s actor asked)
+next_in cube s actor wish = option_map (entry_in cube s actor) (call_in cube s actor wish)
 
-next-is : (cube : Cube) (o : CubeState) (t : List Entry) (actor : ℕ) (asked : Option HostCall) → next_entry cube o t actor asked ≡ next_in cube (state_after_trace cube o t) actor asked
+next-is : (cube : Cube) (o : CubeState) (t : List Entry) (actor : ℕ) (wish : Option HostCall) → next_entry cube o t actor wish ≡ next_in cube (state_after_trace cube o t) actor wish
 unfolding next_entry
-next-is cube o t actor asked = refl
+next-is cube o t actor wish = refl
 
 -- the next entry hangs on what the trace leaves alone
 pub next-same : (cube : Cube) (o o' : CubeState) (t t' : List Entry) (entry : Entry) → state_after_trace cube o t ≡ state_after_trace cube o' t' → IsNext cube o t entry → IsNext cube o' t' entry

@@ -8,7 +8,7 @@ use Rattle.ce_model.specs.declared.entry.What.TheVariants.{Take}
 use Rattle.ce_model.specs.declared.entry.TakeResult.TheVariants.{Mail}
 use Rattle.ce_model.specs.Parcels.{Parcel, Item, start, mail, kill, is_member, is_eligible}
 use Rattle.ce_model.specs.Process.{Process, unborn_process, is_stopped}
-use Rattle.ce_model.specs.Node.{Node, process_at, Call, take_call, send_call, spawn_call, kill_call, note_call, arm_call, look_call, mail_call, ids_of, take_of}
+use Rattle.ce_model.specs.Node.{Node, process_at, Call, take_call, send_call, spawn_call, kill_call, note_call, arm_call, look_call, mail_call, process_set, take_of}
 use Rattle.ce_model.specs.Answers.{offer_of, is_used_up, answer}
 use Rattle.ce_model.specs.Saying.{says}
 use Rattle.ce_model.specs.Cube.{Cube, CubeState, IsCube, node_numbers, HostCall}
@@ -29,13 +29,13 @@ bits_behind : (b : Bool) (rest : ℕ) → ((if b then 1 else 0) + 2 * rest) / 2 
 bits_behind true rest = omega arith
 bits_behind false rest = omega arith
 
-pub member-of : (test : Status → Bool) (ps : List Process) (pid : ℕ) → is_member pid (ids_of test ps) ≡ true → test (slice_index_or ps pid unborn_process).status ≡ true
+pub member-of : (test : Status → Bool) (ps : List Process) (pid : ℕ) → is_member pid (process_set test ps) ≡ true → test (slice_index_or ps pid unborn_process).status ≡ true
 member-of test [] pid h = absurd (omega (arith, eqb-true _ 1 h, bit_at-zero pid))
 member-of test (p ∷ ps) zero h =
-    sym (bit_first (test p.status) (ids_of test ps)) ∙ ap (λ n. n == 1) (sym (bit_at_lowest (ids_of test (p ∷ ps)))) ∙ h
+    sym (bit_first (test p.status) (process_set test ps)) ∙ ap (λ n. n == 1) (sym (bit_at_lowest (process_set test (p ∷ ps)))) ∙ h
 member-of test (p ∷ ps) (suc pid) h =
     member-of test ps pid
-    (ap (λ n. is_member pid n) (sym (bits_behind (test p.status) (ids_of test ps))) ∙ ap (λ n. n == 1) (sym (bit_at-suc (ids_of test (p ∷ ps)) pid)) ∙ h)
+    (ap (λ n. is_member pid n) (sym (bits_behind (test p.status) (process_set test ps))) ∙ ap (λ n. n == 1) (sym (bit_at-suc (process_set test (p ∷ ps)) pid)) ∙ h)
 
 -- ---- what a Take is answered
 
@@ -94,21 +94,21 @@ module _ (cube : Cube) (s : CubeState) (of : IsCube cube) (sound : IsSound cube 
   taken-by look_call says e = absurd (cc)
   taken-by mail_call says e = absurd (cc)
 
-  made-taken : (actor : ℕ) (asked : Option HostCall) (call : Call) → actor ≡ r → IsMadeCall cube s actor asked call
+  made-taken : (actor : ℕ) (wish : Option HostCall) (call : Call) → actor ≡ r → IsMadeCall cube s actor wish call
       → answer (node_numbers cube.dim) s.standing r call ≡ Take asking dead poller (Mail pid number) → IsMailTaken cube s r asking dead pid number
-  made-taken actor asked call same (by_host is e) what = absurd (omega (arith, not_host cube r of below))
-  made-taken actor asked call same (by_node low e) what = taken-by call (ap (λ q. (says (s.node q)).call) (sym same) ∙ e) what
+  made-taken actor wish call same (by_host is e) what = absurd (omega (arith, not_host cube r of below))
+  made-taken actor wish call same (by_node low e) what = taken-by call (ap (λ q. (says (s.node q)).call) (sym same) ∙ e) what
 
   pub entry-taken : (user : ℕ) → IsEntryOf cube s (record { user = user; actor = r; what = Take asking dead poller (Mail pid number) }) → IsMailTaken cube s r asking dead pid number
   entry-taken user e =
       let actor : e.actor ≡ r = ap (λ (entry : Entry). entry.actor) (sym e.is) in
-      made-taken e.actor e.asked e.call actor e.by
+      made-taken e.actor e.wish e.call actor e.by
       (ap (λ q. answer (node_numbers cube.dim) s.standing q e.call) (sym actor) ∙ ap (λ (entry : Entry). entry.what) (sym e.is))
 
 -- the masks of a Take are of its node
 pub dead-of : (node : Node) (asking dead pid : ℕ) (poller : Option ℕ) → take_call asking dead poller ≡ take_of node → is_member pid dead ≡ true → is_stopped (process_at node pid).status ≡ true
 dead-of node asking dead pid poller same h =
-    let is : dead ≡ ids_of is_stopped node.processes = cc in
+    let is : dead ≡ process_set is_stopped node.processes = cc in
     member-of is_stopped node.processes pid (ap (is_member pid) (sym is) ∙ h)
 
 -- a parcel that is taken is for a process that asks, or that has stopped by now

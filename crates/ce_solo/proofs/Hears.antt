@@ -4,15 +4,15 @@ use Rattle.std.proofs.lemmas.Bool.{cond_both, eq-eqb, ne_eqb, ltb-true, both_way
 use Rattle.std.proofs.lemmas.List.{get_or-set_same, get_or-set_other}
 use Rattle.rv_model.specs.declared.stop.Stop.TheVariants.{Killed, WindowsSpent}
 use Rattle.rv_model.specs.Image.{ImageParts}
-use Rattle.rv_model.specs.declared.limits.TheConstants.{PRIVATE_END}
+use Rattle.rv_model.specs.declared.limits.TheConstants.{PRIVATE_END, REGISTER_COUNT}
 use Rattle.ce_model.specs.declared.topology.BlockId.{BlockId}
 use Rattle.ce_model.specs.declared.process.Status.TheVariants.{Unborn, Running, Asking, Polling, Stopped}
 use Rattle.ce_model.specs.declared.process.Status.{Status}
 use Rattle.ce_model.specs.Limits.{process_count, window_count, turn_instructions}
-use Rattle.ce_model.specs.Blocks.{put}
+use Rattle.ce_model.specs.Blocks.{with_id}
 use Rattle.ce_model.specs.Parcels.{Parcel}
 use Rattle.ce_model.specs.Space.{window_start, has_unused_window, mapped_space, mapped_ids}
-use Rattle.ce_model.specs.Process.{Process, started_process, with_answer, register_count, unborn_process, is_receiving, is_stopped}
+use Rattle.ce_model.specs.Process.{Process, started_process, with_answer, unborn_process, is_receiving, is_stopped}
 use Rattle.ce_model.specs.Node.{Turn, Node, process_at, with_process, without_poller, with_stopped, blocks_of}
 use Rattle.ce_model.specs.Hearing.{start_of, mail_of, kill_of, poll_of, answer_of, nothing, image_at, with_turn, with_answered_turn, with_stored, with_received, with_answered_call, node_after_hearing}
 use Rattle.ce_model.specs.Sound.{is_unborn, IsSoundTurn}
@@ -47,7 +47,7 @@ pub new_turn-sound : (pid : ℕ) → pid < process_count → IsSoundTurn (new_tu
 new_turn-sound pid within = record { pid = within; instructions_left = omega arith; calls = omega arith }
 
 -- a turn begins in a node without one
-begins-change : (node : Node) (pid : ℕ) (p : Process) (come : List BlockId) → IsWell None node → pid < process_count → length p.regs ≡ register_count
+begins-change : (node : Node) (pid : ℕ) (p : Process) (come : List BlockId) → IsWell None node → pid < process_count → length p.regs ≡ REGISTER_COUNT
     → length p.space.windows ≤ window_count
     → ((id : BlockId) → count id (mapped_ids p.space) ≡ count id (mapped_ids (process_at node pid).space) + count id come)
     → ((id : BlockId) → count id (blocks_of node) + count id come ≤ 1)
@@ -70,7 +70,7 @@ begins-change node pid p come well within registers windows blocks once = record
   once = once;
 }
 
-begins-hears : (node : Node) (pid : ℕ) (p : Process) (come : List BlockId) → IsWell None node → pid < process_count → length p.regs ≡ register_count
+begins-hears : (node : Node) (pid : ℕ) (p : Process) (come : List BlockId) → IsWell None node → pid < process_count → length p.regs ≡ REGISTER_COUNT
     → length p.space.windows ≤ window_count → is_unborn (process_at node pid).status ≡ false → is_stopped (process_at node pid).status ≡ false
     → ((id : BlockId) → count id (mapped_ids p.space) ≡ count id (mapped_ids (process_at node pid).space) + count id come)
     → ((id : BlockId) → count id (blocks_of node) + count id come ≤ 1)
@@ -97,7 +97,7 @@ stored-hears : (node : Node) (parcel : Parcel) → IsWell None node → node.tur
 stored-hears node parcel well none once =
     let others = flat_map (λ (q : Process). mapped_ids q.space) node.processes in
     let blocks : (id : BlockId) → count id (blocks_of (with_stored node parcel)) ≡ count id (blocks_of node) + count id (parcel.block.id ∷ []) =
-    λ id. omega (arith, count-append id (put parcel.block.id node.store) others, count-append id node.store others, count-put id parcel.block.id node.store, count-one id parcel.block.id) in
+    λ id. omega (arith, count-append id (with_id parcel.block.id node.store) others, count-append id node.store others, count-put id parcel.block.id node.store, count-one id parcel.block.id) in
     record {
       number = refl;
       dim = refl;
@@ -207,7 +207,7 @@ unfolding node_after_hearing
 start-begins images node pid image well within unborn =
     let p = started_process (image_at images image) in
     let none = (well.processes pid within).unborn_used unborn in
-    let change = begins-change node pid p [] well within (length-set (replicate register_count 0) 2 PRIVATE_END) (omega arith)
+    let change = begins-change node pid p [] well within (length-set (replicate REGISTER_COUNT 0) 2 PRIVATE_END) (omega arith)
     (λ id. omega (arith, ap (λ windows. count id (mapped_ids (record { private = (process_at node pid).space.private; windows = windows }))) none, count-nil id))
     (λ id. omega (arith, well.once id, count-nil id)) in
     record {

@@ -10,8 +10,8 @@ use Rattle.ce_model.specs.Trace.{Standing, items_to, sent_items, waiting_items}
 use Rattle.ce_model.specs.Cube.{Cube, CubeState, IsCube, state_after_trace}
 use Rattle.ce_model.specs.Order.{bytes_between, bytes_handed, messages_sent, messages_got}
 use Rattle.ce_model.proofs.OneMore.{taken_for, sent-more, got-more}
-use Rattle.ce_solo.proofs.Lists.{joined-is}
-use Rattle.ce_solo.proofs.Steps.{waiting_after, state_after, entry_in}
+use Rattle.ce_solo.proofs.Lists.{appended-is}
+use Rattle.ce_solo.proofs.Entries.{waiting_after, state_after, entry_in}
 use Rattle.ce_solo.proofs.Made.{taking-sends_none}
 use Rattle.ce_solo.proofs.Stands.{IsSoundTrace, IsEntryOf, left-made, waits-made, waiting-nil}
 use Rattle.ce_solo.proofs.Stopped.{gone}
@@ -91,23 +91,23 @@ module _ (cube : Cube) (o : CubeState) (from to : Place) (t : List Entry) (of : 
   }
 
   -- an entry with which the receiver's node takes nothing, and one with which it takes an item
-  pub order-step : (actor : ℕ) (call : Call) (e : IsEntryOf cube s (entry_in cube s actor call)) (taken : Option TakeResult)
+  pub order-entry : (actor : ℕ) (call : Call) (e : IsEntryOf cube s (entry_in cube s actor call)) (taken : Option TakeResult)
       → taken_for to.node (entry_in cube s actor call) ≡ taken
       → ((given : TakeResult) → taken ≡ Some given
       → HasPassed (bytes_handed from to items (entry_in cube s actor call)) (bytes_between from to items) (bytes_between from to (filter (λ item. not (is_named_by given item)) items))
       (gone cube s to) (gone cube (state_after cube s (entry_in cube s actor call)) to))
       → (gone cube s to ≡ true → gone cube (state_after cube s (entry_in cube s actor call)) to ≡ true)
       → AreInOrder cube o from to t → AreInOrder cube o from to (t ++ entry_in cube s actor call ∷ [])
-  order-step actor call e None none passed stays is =
+  order-entry actor call e None none passed stays is =
       let entry = entry_in cube s actor call in
       let new = items_to to.node entry in
       order-by entry (gone cube (state_after cube s entry) to) (messages_sent o.standing from to t ++ bytes_between from to new) (messages_got o.standing from to t ++ []) (bytes_between from to items ++ bytes_between from to new)
       (ap (λ s. gone cube s to) (left-made cube o t entry stands e))
       (sent-more o.standing from to t entry ∙ between-append from to (sent_items o.standing to.node t) new ∙ ap (λ xs. xs ++ bytes_between from to new) (sent-is o.standing from to t))
       (got-more o.standing from to t entry ∙ ap (λ xs. messages_got o.standing from to t ++ xs) (handed-none from to items entry none))
-      (ap (bytes_between from to) (waits-made cube o t actor call stands to.node ∙ ap (λ taken. waiting_after taken new items) none ∙ sym (joined-is items new)) ∙ between-append from to items new)
+      (ap (bytes_between from to) (waits-made cube o t actor call stands to.node ∙ ap (λ taken. waiting_after taken new items) none ∙ sym (appended-is items new)) ∙ between-append from to items new)
       (more-sent (gone cube s to) (gone cube (state_after cube s entry) to) (messages_sent o.standing from to t) (messages_got o.standing from to t) (bytes_between from to items) (bytes_between from to new) stays (ordered is))
-  order-step actor call e (Some given) one passed stays is =
+  order-entry actor call e (Some given) one passed stays is =
       let entry = entry_in cube s actor call in
       let new = items_to to.node entry in
       let left = filter (λ (item : Item). not (is_named_by given item)) items in

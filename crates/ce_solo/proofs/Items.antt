@@ -7,7 +7,7 @@ use Rattle.std.proofs.lemmas.List.Elements.{filter_map-append}
 use Rattle.ce_model.specs.declared.topology.BlockId.{BlockId}
 use Rattle.ce_model.specs.declared.entry.TakeResult.TheVariants.{Start, Mail, Kill}
 use Rattle.ce_model.specs.Lists.{ArePairwise}
-use Rattle.ce_model.specs.Parcels.{Parcel, Item, start, mail, kill, is_eligible, given_as, is_named_by, parcel_in, item_parcels}
+use Rattle.ce_model.specs.Parcels.{Parcel, Item, start, mail, kill, is_eligible, take_result_of, is_named_by, parcel_in, item_parcels}
 use Rattle.ce_model.specs.Trace.{NodeRecord}
 use Rattle.ce_model.specs.Answers.{is_among}
 use Rattle.ce_model.specs.Cube.{Cube}
@@ -153,7 +153,7 @@ own-more cube r kept kept' (kill pid ∷ items) spawned killed own = (killed pid
 
 -- ---- the name of an item
 
-pub named-itself : (item : Item) → is_named_by (given_as item) item ≡ true
+pub named-itself : (item : Item) → is_named_by (take_result_of item) item ≡ true
 named-itself (start pid image) = eq-eqb pid pid refl
 named-itself (mail parcel) = eq-eqb parcel.number parcel.number refl
 named-itself (kill pid) = eq-eqb pid pid refl

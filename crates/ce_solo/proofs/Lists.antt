@@ -193,12 +193,12 @@ find-out e named (y ∷ ys) x f name once =
           out-later e named x y ys fails name once (find-out e named ys x later name (omega (arith, once, count_by-cons named y ys)))
     ]
 
--- ---- joined lists: with none behind, a list is as it was
+-- ---- lists with another behind: with none behind, a list is as it was
 
-abbrev pub joined : {X : Type 0} → List X → List X → List X
-joined xs [] = xs
-joined xs (y ∷ ys) = xs ++ y ∷ ys
+abbrev pub appended : {X : Type 0} → List X → List X → List X
+appended xs [] = xs
+appended xs (y ∷ ys) = xs ++ y ∷ ys
 
-pub joined-is : {X : Type 0} (xs ys : List X) → xs ++ ys ≡ joined xs ys
-joined-is xs [] = append-nil xs
-joined-is xs (y ∷ ys) = refl
+pub appended-is : {X : Type 0} (xs ys : List X) → xs ++ ys ≡ appended xs ys
+appended-is xs [] = append-nil xs
+appended-is xs (y ∷ ys) = refl

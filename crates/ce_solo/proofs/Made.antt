@@ -11,7 +11,7 @@ use Rattle.ce_model.specs.declared.entry.KillFound.{KillFound}
 use Rattle.ce_model.specs.declared.entry.KillFound.TheVariants.{Killed, Unused, Already}
 use Rattle.ce_model.specs.declared.entry.TakeResult.{TakeResult}
 use Rattle.ce_model.specs.declared.entry.TakeResult.TheVariants.{Start, Mail, Kill, Poll, Idle, Spent}
-use Rattle.ce_model.specs.Parcels.{Parcel, Item, start, mail, kill, given_as, is_item, is_named_by, message_parcels}
+use Rattle.ce_model.specs.Parcels.{Parcel, Item, start, mail, kill, take_result_of, is_item, is_named_by, message_parcels}
 use Rattle.ce_model.specs.Node.{Call, take_call, send_call, spawn_call, kill_call, note_call, arm_call, look_call, mail_call, is_place}
 use Rattle.ce_model.specs.Trace.{NodeRecord, Standing, items_to}
 use Rattle.ce_model.specs.Answers.{is_among, kill_found, offer_of, first_number, answer}
@@ -22,73 +22,73 @@ use Rattle.ce_model.proofs.OneMore.{taken_for, is_untaken}
 use Rattle.ce_solo.proofs.Lists.{all-weaker, all-filter}
 use Rattle.ce_solo.proofs.Words.{HasMadeCall}
 use Rattle.ce_solo.proofs.Sending.{to_node, from-count}
-use Rattle.ce_solo.proofs.Steps.{entry_in, state_after}
-use Rattle.ce_solo.proofs.NodeSteps.{node-said, notes-acts, spawned-acts, killed-acts, kill_accepted}
+use Rattle.ce_solo.proofs.Entries.{entry_in, state_after}
+use Rattle.ce_solo.proofs.NodeEntries.{node-said, notes-acts, spawned-acts, killed-acts, kill_accepted}
 use Rattle.ce_solo.proofs.NodeSends.{sends-acts}
 use Rattle.ce_solo.proofs.NodeTakes.{takes-acts}
-use Rattle.ce_solo.proofs.HostSteps.{host-step}
+use Rattle.ce_solo.proofs.HostEntries.{host-entry}
 
 -- ---- the cube stays sound
 
-pub node-step : (cube : Cube) (s : CubeState) (r : ℕ) (call : Call) → IsCube cube → r < 2 ^ cube.dim → IsSound cube s → HasMadeCall (s.node r) (says (s.node r)).node call
+pub node-entry : (cube : Cube) (s : CubeState) (r : ℕ) (call : Call) → IsCube cube → r < 2 ^ cube.dim → IsSound cube s → HasMadeCall (s.node r) (says (s.node r)).node call
     → IsSound cube (state_after cube s (entry_in cube s r call))
 unfolding answer
-node-step cube s r (take_call asking dead poller) of below sound said = takes-acts cube s r of below sound asking dead poller said
-node-step cube s r (send_call pid to bytes) of below sound said = sends-acts cube s r of below sound pid to bytes said
-node-step cube s r (spawn_call pid image to) of below sound said =
+node-entry cube s r (take_call asking dead poller) of below sound said = takes-acts cube s r of below sound asking dead poller said
+node-entry cube s r (send_call pid to bytes) of below sound said = sends-acts cube s r of below sound pid to bytes said
+node-entry cube s r (spawn_call pid image to) of below sound said =
     spawned-acts cube s r of below sound pid image to (not (is_among to.pid (s.standing.node_record to.node).spawned_ids)) refl
     (subst (λ dim. is_place dim to ≡ true) (said.became.dim ∙ (sound.nodes r below).dim) said.of_node.1)
     (subst (λ images. image < images) (said.became.images ∙ (sound.nodes r below).images) said.of_node.0) said
-node-step cube s r (kill_call pid to) of below sound said =
+node-entry cube s r (kill_call pid to) of below sound said =
     killed-acts cube s r of below sound pid to (kill_found (s.standing.node_record to.node) to.pid) refl
     (subst (λ dim. is_place dim to ≡ true) (said.became.dim ∙ (sound.nodes r below).dim) said.of_node) said
-node-step cube s r (note_call pid word) of below sound said = notes-acts cube s r of below sound pid word said
-node-step cube s r (arm_call count) of below sound said = absurd said.of_node
-node-step cube s r look_call of below sound said = absurd said.of_node
-node-step cube s r mail_call of below sound said = absurd said.of_node
+node-entry cube s r (note_call pid word) of below sound said = notes-acts cube s r of below sound pid word said
+node-entry cube s r (arm_call count) of below sound said = absurd said.of_node
+node-entry cube s r look_call of below sound said = absurd said.of_node
+node-entry cube s r mail_call of below sound said = absurd said.of_node
 
 -- the call that an actor of a cube in this state makes
 abbrev pub call_in : Cube → CubeState → ℕ → Option HostCall → Option Call
-call_in cube s actor asked =
-    if actor == HOST then option_and_then (host_call cube s.hoststore) asked
+call_in cube s actor wish =
+    if actor == HOST then option_and_then (host_call cube s.hoststore) wish
     else (if is_node cube actor then Some (says (s.node actor)).call else None)
 
-asked-step : (cube : Cube) (s : CubeState) (asked : Option HostCall) (call : Call) → IsCube cube → IsSound cube s
-    → option_and_then (host_call cube s.hoststore) asked ≡ Some call → IsSound cube (state_after cube s (entry_in cube s HOST call))
-asked-step cube s None call of sound e = cc
-asked-step cube s (Some asked) call of sound e = host-step cube s of sound asked call e
+request-entry : (cube : Cube) (s : CubeState) (wish : Option HostCall) (call : Call) → IsCube cube → IsSound cube s
+    → option_and_then (host_call cube s.hoststore) wish ≡ Some call → IsSound cube (state_after cube s (entry_in cube s HOST call))
+request-entry cube s None call of sound e = cc
+request-entry cube s (Some wish) call of sound e = host-entry cube s of sound wish call e
 
 -- who makes an entry: the host, or a node that says its call
-pub data IsMadeCall (cube : Cube) (s : CubeState) (actor : ℕ) (asked : Option HostCall) (call : Call) : Type 0 where
-  by_host : actor ≡ HOST → option_and_then (host_call cube s.hoststore) asked ≡ Some call → IsMadeCall cube s actor asked call
-  by_node : actor < 2 ^ cube.dim → (says (s.node actor)).call ≡ call → IsMadeCall cube s actor asked call
+pub data IsMadeCall (cube : Cube) (s : CubeState) (actor : ℕ) (wish : Option HostCall) (call : Call) : Type 0 where
+  by_host : actor ≡ HOST → option_and_then (host_call cube s.hoststore) wish ≡ Some call → IsMadeCall cube s actor wish call
+  by_node : actor < 2 ^ cube.dim → (says (s.node actor)).call ≡ call → IsMadeCall cube s actor wish call
 
 some_same : (x y : Call) → Some x ≡ Some y → x ≡ y
 some_same x y e = cc
 
-made-by_node : (cube : Cube) (s : CubeState) (actor : ℕ) (asked : Option HostCall) (call : Call) (b : Bool) → is_node cube actor ≡ b
-    → (if b then Some (says (s.node actor)).call else None) ≡ Some call → IsMadeCall cube s actor asked call
-made-by_node cube s actor asked call true is e = by_node (ltb-true _ _ is) (some_same (says (s.node actor)).call call e)
-made-by_node cube s actor asked call false is e = absurd (cc)
+made-by_node : (cube : Cube) (s : CubeState) (actor : ℕ) (wish : Option HostCall) (call : Call) (b : Bool) → is_node cube actor ≡ b
+    → (if b then Some (says (s.node actor)).call else None) ≡ Some call → IsMadeCall cube s actor wish call
+made-by_node cube s actor wish call true is e = by_node (ltb-true _ _ is) (some_same (says (s.node actor)).call call e)
+made-by_node cube s actor wish call false is e = absurd (cc)
 
-made-by : (cube : Cube) (s : CubeState) (actor : ℕ) (asked : Option HostCall) (call : Call) (b : Bool) → (actor == HOST) ≡ b
-    → (if b then option_and_then (host_call cube s.hoststore) asked else (if is_node cube actor then Some (says (s.node actor)).call else None)) ≡ Some call
-    → IsMadeCall cube s actor asked call
-made-by cube s actor asked call true is e = by_host (eqb-true actor HOST is) e
-made-by cube s actor asked call false is e = made-by_node cube s actor asked call (is_node cube actor) refl e
+made-by : (cube : Cube) (s : CubeState) (actor : ℕ) (wish : Option HostCall) (call : Call) (b : Bool) → (actor == HOST) ≡ b
+    → (if b then option_and_then (host_call cube s.hoststore) wish else (if is_node cube actor then Some (says (s.node actor)).call else None)) ≡ Some call
+    → IsMadeCall cube s actor wish call
+made-by cube s actor wish call true is e = by_host (eqb-true actor HOST is) e
+made-by cube s actor wish call false is e = made-by_node cube s actor wish call (is_node cube actor) refl e
 
-pub made : (cube : Cube) (s : CubeState) (actor : ℕ) (asked : Option HostCall) (call : Call) → call_in cube s actor asked ≡ Some call → IsMadeCall cube s actor asked call
-made cube s actor asked call e = made-by cube s actor asked call (actor == HOST) refl e
+pub made : (cube : Cube) (s : CubeState) (actor : ℕ) (wish : Option HostCall) (call : Call) → call_in cube s actor wish ≡ Some call → IsMadeCall cube s actor wish call
+made cube s actor wish call e = made-by cube s actor wish call (actor == HOST) refl e
 
 pub made-leaves : (cube : Cube) (s : CubeState) (r : ℕ) (call : Call) → IsCube cube → r < 2 ^ cube.dim → IsSound cube s → (says (s.node r)).call ≡ call
     → HasMadeCall (s.node r) (says (s.node r)).node call
 made-leaves cube s r call of below sound e = subst (HasMadeCall (s.node r) (says (s.node r)).node) e (node-said cube s r of below sound).leaves
 
-pub made-sound : (cube : Cube) (s : CubeState) (actor : ℕ) (asked : Option HostCall) (call : Call) → IsCube cube → IsSound cube s
-    → IsMadeCall cube s actor asked call → IsSound cube (state_after cube s (entry_in cube s actor call))
-made-sound cube s actor asked call of sound (by_host is e) =
-    subst (λ actor. IsSound cube (state_after cube s (entry_in cube s actor call))) (sym is) (asked-step cube s asked call of sound e)
-made-sound cube s actor asked call of sound (by_node below e) = node-step cube s actor call of below sound (made-leaves cube s actor call of below sound e)
+pub made-sound : (cube : Cube) (s : CubeState) (actor : ℕ) (wish : Option HostCall) (call : Call) → IsCube cube → IsSound cube s
+    → IsMadeCall cube s actor wish call → IsSound cube (state_after cube s (entry_in cube s actor call))
+made-sound cube s actor wish call of sound (by_host is e) =
+    subst (λ actor. IsSound cube (state_after cube s (entry_in cube s actor call))) (sym is) (request-entry cube s wish call of sound e)
+made-sound cube s actor wish call of sound (by_node below e) = node-entry cube s actor call of below sound (made-leaves cube s actor call of below sound e)
 
 -- ---- what an entry sends is new
 
@@ -197,7 +197,7 @@ taking-sends_none cube s actor r look_call given e = refl
 taking-sends_none cube s actor r mail_call given e = refl
 
 pub known_items : (cube : Cube) (sent r : ℕ) (kept : NodeRecord) (items : List Item) → AllByRecursion (IsItemOf cube r kept) items → AllByRecursion (λ n. n < sent) (numbers_of items)
-    → AllByRecursion (λ item. IsKnown sent kept (given_as item)) items
+    → AllByRecursion (λ item. IsKnown sent kept (take_result_of item)) items
 known_items cube sent r kept [] own below = tt
 known_items cube sent r kept (start pid image ∷ items) own below = (own.0.0, known_items cube sent r kept items own.1 below)
 known_items cube sent r kept (mail parcel ∷ items) own below = (below.0, known_items cube sent r kept items own.1 below.1)
@@ -212,12 +212,12 @@ find-all P test (y ∷ ys) x all e =
     ]
 
 pub known_given : (sent : ℕ) (kept : NodeRecord) (found : Option Item) (poller : Option ℕ) (used : Bool) (given : TakeResult)
-    → ((item : Item) → found ≡ Some item → IsKnown sent kept (given_as item))
+    → ((item : Item) → found ≡ Some item → IsKnown sent kept (take_result_of item))
     → (if is_item (offer_of found poller used) then Some (offer_of found poller used) else None) ≡ Some given → IsKnown sent kept given
 known_given sent kept (Some item) poller true given known e = absurd (cc)
-known_given sent kept (Some (start pid image)) poller false given known e = let same : given_as (start pid image) ≡ given = cc in subst (IsKnown sent kept) same (known (start pid image) refl)
-known_given sent kept (Some (mail parcel)) poller false given known e = let same : given_as (mail parcel) ≡ given = cc in subst (IsKnown sent kept) same (known (mail parcel) refl)
-known_given sent kept (Some (kill pid)) poller false given known e = let same : given_as (kill pid) ≡ given = cc in subst (IsKnown sent kept) same (known (kill pid) refl)
+known_given sent kept (Some (start pid image)) poller false given known e = let same : take_result_of (start pid image) ≡ given = cc in subst (IsKnown sent kept) same (known (start pid image) refl)
+known_given sent kept (Some (mail parcel)) poller false given known e = let same : take_result_of (mail parcel) ≡ given = cc in subst (IsKnown sent kept) same (known (mail parcel) refl)
+known_given sent kept (Some (kill pid)) poller false given known e = let same : take_result_of (kill pid) ≡ given = cc in subst (IsKnown sent kept) same (known (kill pid) refl)
 known_given sent kept None (Some pid) true given known e = absurd (cc)
 known_given sent kept None (Some pid) false given known e = absurd (cc)
 known_given sent kept None None used given known e = absurd (cc)

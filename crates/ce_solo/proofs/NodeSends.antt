@@ -15,14 +15,14 @@ use Rattle.ce_model.specs.Hearing.{answer_of, node_after_hearing}
 use Rattle.ce_model.specs.Cube.{Cube, CubeState, IsCube}
 use Rattle.ce_model.specs.Sound.{IsSound}
 use Rattle.ce_solo.proofs.Counting.{count, count-nil, count-append, sum_run-at}
-use Rattle.ce_solo.proofs.Lists.{all-weaker, joined, joined-is}
+use Rattle.ce_solo.proofs.Lists.{all-weaker, appended, appended-is}
 use Rattle.ce_solo.proofs.Items.{parcel_ids}
 use Rattle.ce_solo.proofs.Nodes.{became-then}
 use Rattle.ce_solo.proofs.Words.{call_ids, HasMadeCall}
 use Rattle.ce_solo.proofs.Hears.{told-hears}
 use Rattle.ce_solo.proofs.Records.{kept_with, HasStayedSound, keeps-mails, mails-ids}
 use Rattle.ce_solo.proofs.Sending.{IsTargetOf, is_host, sent_ids, to_node, from-ids, are_sent, sent-new, sent-host, sent-sum}
-use Rattle.ce_solo.proofs.Steps.{record_by, state_after, sound_node-became}
+use Rattle.ce_solo.proofs.Entries.{record_by, state_after, sound_node-became}
 use Rattle.ce_solo.proofs.Acts.{idle-goes, node-acts}
 
 -- a target of a node's call is one of its cube
@@ -63,7 +63,7 @@ module _ (cube : Cube) (s : CubeState) (r : ℕ) (of : IsCube cube) (below : r <
       (all-weaker (λ (target : Place × BlockId). is_target now target.0 ≡ true) (λ target. IsTargetOf cube target.0) to (λ target h. target_of cube now target.0 same h) said.of_node) in
       let sent' = s.standing.parcel_count + length ps in
       let keeps : (q : ℕ) (mark : Mark) → q < 2 ^ cube.dim
-      → HasStayedSound cube sent' q (s.standing.node_record q) (kept_with (joined (s.standing.node_record q).waiting_items (map mail (to_node q ps))) (s.standing.node_record q).spawned_ids (s.standing.node_record q).killed_ids mark) (sent_ids (to_node q ps)) [] =
+      → HasStayedSound cube sent' q (s.standing.node_record q) (kept_with (appended (s.standing.node_record q).waiting_items (map mail (to_node q ps))) (s.standing.node_record q).spawned_ids (s.standing.node_record q).killed_ids mark) (sent_ids (to_node q ps)) [] =
       λ q mark within. keeps-mails cube s.standing.parcel_count sent' q (s.standing.node_record q) mark (to_node q ps) are.more (sound.records q within) (sent-new cube s.standing.parcel_count sent' ps of are q within) in
       let heard = told-hears cube.images now 0 said.became.well said.turn in
       let node = node_after_hearing cube.images now (answer_of 0) in
@@ -88,7 +88,7 @@ module _ (cube : Cube) (s : CubeState) (r : ℕ) (of : IsCube cube) (below : r <
               left,
               sends-own (r == r) (eq-eqb r r refl) (count id (call_ids (send_call pid to bytes))),
               ap (count id) (from-ids (record { node = r; pid = pid }) bytes s.standing.parcel_count to),
-              ap (λ items. count id (parcel_ids items)) (joined-is (s.standing.node_record HOST).waiting_items (map mail (to_node HOST ps))),
+              ap (λ items. count id (parcel_ids items)) (appended-is (s.standing.node_record HOST).waiting_items (map mail (to_node HOST ps))),
               ap (count id) (mails-ids (s.standing.node_record HOST).waiting_items (to_node HOST ps)),
               count-append id (parcel_ids (s.standing.node_record HOST).waiting_items) (sent_ids (to_node HOST ps)),
             );

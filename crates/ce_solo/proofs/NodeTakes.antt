@@ -11,7 +11,7 @@ use Rattle.ce_model.specs.declared.entry.What.TheVariants.{Take}
 use Rattle.ce_model.specs.declared.entry.TakeResult.{TakeResult}
 use Rattle.ce_model.specs.declared.entry.TakeResult.TheVariants.{Start, Kill, Poll, Idle, Spent}
 use Rattle.ce_model.specs.Limits.{process_count}
-use Rattle.ce_model.specs.Parcels.{Parcel, Item, start, mail, kill, is_eligible, given_as, is_named_by, parcel_in}
+use Rattle.ce_model.specs.Parcels.{Parcel, Item, start, mail, kill, is_eligible, take_result_of, is_named_by, parcel_in}
 use Rattle.ce_model.specs.Process.{Process, unborn_process, is_stopped}
 use Rattle.ce_model.specs.Node.{Node, process_at, blocks_of, take_call, take_of}
 use Rattle.ce_model.specs.Trace.{Mark, NodeRecord, mark_after, is_work}
@@ -27,9 +27,9 @@ use Rattle.ce_solo.proofs.Words.{HasMadeCall}
 use Rattle.ce_solo.proofs.Hears.{HasHeardAnswer, HasStarted, nothing-hears, poll-hears, kill-hears, mail-hears, start-begins}
 use Rattle.ce_solo.proofs.Lists.{count_by-cons, one_if-true, one_if-false}
 use Rattle.ce_solo.proofs.Records.{kept_with, births, HasTakenItem, takes-item, start-taken, kill-taken, without_named, among-all}
-use Rattle.ce_solo.proofs.Steps.{record_by, node_by, state_after, sound_node-became, IsNodeStep}
+use Rattle.ce_solo.proofs.Entries.{record_by, node_by, state_after, sound_node-became, IsNodeStep}
 use Rattle.ce_solo.proofs.Acts.{idle-goes, IsNodeAct, node-acts}
-use Rattle.ce_solo.proofs.NodeSteps.{host-more, once_here, quiet-step, plain_keeps}
+use Rattle.ce_solo.proofs.NodeEntries.{host-more, once_here, quiet-entry, plain_keeps}
 
 -- ---- those that poll
 
@@ -83,12 +83,12 @@ module _ (cube : Cube) (s : CubeState) (r : ℕ) (of : IsCube cube) (below : r <
 
   spent-acts : IsSound cube (state_after cube s (entry_of Spent))
   spent-acts =
-      quiet-step cube s r of below sound (Take asking dead poller Spent) (λ q within. plain_keeps cube s r of below sound q _ within) (λ q within. plain_keeps cube s r of below sound q _ within)
+      quiet-entry cube s r of below sound (Take asking dead poller Spent) (λ q within. plain_keeps cube s r of below sound q _ within) (λ q within. plain_keeps cube s r of below sound q _ within)
       refl sound.dispatches said.became (nothing-hears cube.images now said.became.well said.turn)
 
   idle-acts : IsSound cube (state_after cube s (entry_of Idle))
   idle-acts =
-      quiet-step cube s r of below sound (Take asking dead poller Idle) (λ q within. plain_keeps cube s r of below sound q _ within) (λ q within. plain_keeps cube s r of below sound q _ within)
+      quiet-entry cube s r of below sound (Take asking dead poller Idle) (λ q within. plain_keeps cube s r of below sound q _ within) (λ q within. plain_keeps cube s r of below sound q _ within)
       refl sound.dispatches said.became (nothing-hears cube.images now said.became.well said.turn)
 
   -- one dispatch more is allowed
@@ -106,7 +106,7 @@ module _ (cube : Cube) (s : CubeState) (r : ℕ) (of : IsCube cube) (below : r <
       let at : slice_get (now).polling_ids 0 ≡ Some pid = sym (take_poller (now) said.of_node.0) ∙ e in
       let polls = poller-polls now pid now_well at in
       let is = polling_is (process_at now pid).status polls in
-      quiet-step cube s r of below sound (Take asking dead poller (Poll pid)) (λ q within. plain_keeps cube s r of below sound q _ within) (λ q within. plain_keeps cube s r of below sound q _ within)
+      quiet-entry cube s r of below sound (Take asking dead poller (Poll pid)) (λ q within. plain_keeps cube s r of below sound q _ within) (λ q within. plain_keeps cube s r of below sound q _ within)
       refl (one_more room) said.became (poll-hears cube.images now pid now_well (poller-within now pid now_well polls) is.0 is.1)
     where
       take_poller : (node : Node) → take_call asking dead poller ≡ take_of node → poller ≡ slice_get node.polling_ids 0
@@ -158,13 +158,13 @@ module _ (cube : Cube) (s : CubeState) (r : ℕ) (of : IsCube cube) (below : r <
   birth_of pid within = said.became.unborn pid ∙ ((sound.nodes r below).processes pid within).unborn
 
   -- the numbers of the parcels found are their own
-  pub numbered_parcel : (parcel : Parcel) → find (is_named_by (given_as (mail parcel))) kept.waiting_items ≡ Some (mail parcel) → parcel_numbered parcel.number kept.waiting_items ≡ Some parcel
+  pub numbered_parcel : (parcel : Parcel) → find (is_named_by (take_result_of (mail parcel))) kept.waiting_items ≡ Some (mail parcel) → parcel_numbered parcel.number kept.waiting_items ≡ Some parcel
   numbered_parcel parcel found = ap (option_and_then parcel_in) found
 
   mail-acts : (parcel : Parcel) → find (is_eligible asking dead) kept.waiting_items ≡ Some (mail parcel) → is_used_up s.standing ≡ false
-      → IsSound cube (state_after cube s (entry_of (given_as (mail parcel))))
+      → IsSound cube (state_after cube s (entry_of (take_result_of (mail parcel))))
   mail-acts parcel found room =
-      let given = given_as (mail parcel) in
+      let given = take_result_of (mail parcel) in
       let taken = takes-item cube s.standing.parcel_count r asking dead kept (mark_of given) (mail parcel) (sound.records r below) found in
       let once : (id : BlockId) → count id (blocks_of now) + count id (parcel.block.id ∷ []) ≤ 1 =
       λ id. omega (arith, once_here cube s r of below sound id, taken.parcels id, said.became.blocks id, count-nil id) in
@@ -227,7 +227,7 @@ module _ (cube : Cube) (s : CubeState) (r : ℕ) (of : IsCube cube) (below : r <
 
   -- ---- all that a node can be given
 
-  item-acts : (item : Item) → find (is_eligible asking dead) kept.waiting_items ≡ Some item → is_used_up s.standing ≡ false → IsSound cube (state_after cube s (entry_of (given_as item)))
+  item-acts : (item : Item) → find (is_eligible asking dead) kept.waiting_items ≡ Some item → is_used_up s.standing ≡ false → IsSound cube (state_after cube s (entry_of (take_result_of item)))
   item-acts (start pid image) found room = start-acts pid image found room
   item-acts (mail parcel) found room = mail-acts parcel found room
   item-acts (kill pid) found room = kill-acts pid found room

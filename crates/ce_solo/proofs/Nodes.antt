@@ -3,14 +3,15 @@ use Rattle.std.proofs.Common.{◌≡◌, ℕ, ◌+◌, ◌<◌, ◌≤◌, true,
 use Rattle.std.proofs.lemmas.Bool.{cond_both, cases_eq, eqb-true, ne_eqb, cases_Bool, both_ways}
 use Rattle.std.proofs.lemmas.List.{get_or-set_same, get_or-set_other, length-map}
 use Rattle.std.proofs.lemmas.List.Sums.{sum_by-cons, sum_by-append}
+use Rattle.rv_model.specs.declared.limits.TheConstants.{REGISTER_COUNT}
 use Rattle.rv_model.specs.declared.stop.Stop.{Stop}
 use Rattle.ce_model.specs.declared.topology.BlockId.{BlockId}
 use Rattle.ce_model.specs.Limits.{process_count, window_count}
-use Rattle.ce_model.specs.Blocks.{Block, put_all}
+use Rattle.ce_model.specs.Blocks.{Block, with_ids}
 use Rattle.ce_model.specs.Space.{mapped_ids}
-use Rattle.ce_model.specs.Process.{Process, register_count, is_stopped, unborn_process, ended_process}
+use Rattle.ce_model.specs.Process.{Process, is_stopped, unborn_process, ended_process}
 use Rattle.ce_model.specs.Node.{Turn, Node, process_at, without_poller, with_stopped, blocks_of}
-use Rattle.ce_model.specs.Sound.{is_unborn, is_running, is_polling, is_turn_of, IsRising}
+use Rattle.ce_model.specs.Sound.{is_unborn, is_running, is_polling, is_turn_of, AreInOrder}
 use Rattle.ce_solo.proofs.Counting.{count, count-nil, count-append, count-put_all, count-set, count-piece, rising-put_all}
 use Rattle.ce_solo.proofs.Windows.{IsSameHeld, ids-emptied}
 
@@ -47,7 +48,7 @@ polls-more pid q xs =
 
 -- a process of a node whose turn this is
 pub record IsWellProcess (turn : Option Turn) (pid : ℕ) (p : Process) : Type 0 where
-  pub registers : length p.regs ≡ register_count
+  pub registers : length p.regs ≡ REGISTER_COUNT
   pub windows : length p.space.windows ≤ window_count
   pub unborn_used : IsTrue (is_unborn p.status) → p.space.windows ≡ []
   pub stopped_holds : IsTrue (is_stopped p.status) → mapped_ids p.space ≡ []
@@ -58,7 +59,7 @@ pub record IsWell (turn : Option Turn) (node : Node) : Type 0 where
   pub process_ids : length node.processes ≡ process_count
   pub processes : (pid : ℕ) → pid < process_count → IsWellProcess turn pid (process_at node pid)
   pub polling_ids : (pid : ℕ) → polls pid node.polling_ids ≡ (if is_polling (process_at node pid).status then 1 else 0)
-  pub store : IsRising node.store
+  pub store : AreInOrder node.store
   pub once : (id : BlockId) → count id (blocks_of node) ≤ 1
 
 -- a node is as well at another point of its process's turn
@@ -132,7 +133,7 @@ pub record IsChange (turn turn' : Option Turn) (node : Node) (pid : ℕ) (p : Pr
   pub within : pid < process_count
   pub process : IsWellProcess turn' pid p
   pub turns : (q : ℕ) → (q ≡ pid → ⊥) → is_turn_of q turn' ≡ is_turn_of q turn
-  pub rising : IsRising store
+  pub rising : AreInOrder store
   pub poll : polls pid polling ≡ (if is_polling p.status then 1 else 0)
   pub others_poll : (q : ℕ) → (q ≡ pid → ⊥) → polls q polling ≡ polls q node.polling_ids
   pub blocks : (id : BlockId)
@@ -210,9 +211,9 @@ abbrev empty_window : Option Block → Option Block
 empty_window window = None
 
 pub stop-change : (turn : Option Turn) (node : Node) (pid : ℕ) (p : Process) (cause : Stop) → IsWell turn node → pid < process_count
-    → length p.regs ≡ register_count → length p.space.windows ≤ window_count → IsSameHeld (process_at node pid).space p.space
+    → length p.regs ≡ REGISTER_COUNT → length p.space.windows ≤ window_count → IsSameHeld (process_at node pid).space p.space
     → ((q : ℕ) → (q ≡ pid → ⊥) → is_turn_of q turn ≡ false)
-    → IsChange turn None node pid (ended_process cause p) (put_all (mapped_ids p.space) node.store) (without_poller pid node.polling_ids) [] []
+    → IsChange turn None node pid (ended_process cause p) (with_ids (mapped_ids p.space) node.store) (without_poller pid node.polling_ids) [] []
 stop-change turn node pid p cause well within registers windows held turns = record {
   well = well;
   within = within;
@@ -234,9 +235,9 @@ stop-change turn node pid p cause well within registers windows held turns = rec
 
 -- a born process stops: its blocks go to the store
 pub stop-became : (turn : Option Turn) (node : Node) (pid : ℕ) (p : Process) (cause : Stop) → IsWell turn node → pid < process_count
-    → length p.regs ≡ register_count → length p.space.windows ≤ window_count → IsSameHeld (process_at node pid).space p.space
+    → length p.regs ≡ REGISTER_COUNT → length p.space.windows ≤ window_count → IsSameHeld (process_at node pid).space p.space
     → ((q : ℕ) → (q ≡ pid → ⊥) → is_turn_of q turn ≡ false) → is_unborn (process_at node pid).status ≡ false
     → HasBecome None node (with_stopped node pid p cause) [] []
 stop-became turn node pid p cause well within registers windows held turns born =
-    change-became turn None None node pid (ended_process cause p) (put_all (mapped_ids p.space) node.store) (without_poller pid node.polling_ids) [] []
+    change-became turn None None node pid (ended_process cause p) (with_ids (mapped_ids p.space) node.store) (without_poller pid node.polling_ids) [] []
     (stop-change turn node pid p cause well within registers windows held turns) (sym born) (λ h. refl)

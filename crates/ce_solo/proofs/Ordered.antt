@@ -19,11 +19,11 @@ use Rattle.ce_model.proofs.AloneByEntries.{entries_of_alone}
 use Rattle.ce_model.proofs.OneMore.{taken_for}
 use Rattle.ce_solo.proofs.Words.{HasMadeCall}
 use Rattle.ce_solo.proofs.Sending.{host_past}
-use Rattle.ce_solo.proofs.Steps.{node_by, state_after, entry_in}
+use Rattle.ce_solo.proofs.Entries.{node_by, state_after, entry_in}
 use Rattle.ce_solo.proofs.Made.{IsMadeCall, by_host, by_node, made-leaves}
 use Rattle.ce_solo.proofs.Stands.{taken_result-of, no_take, IsSoundTrace, IsEntryOf, entry_of-next, stands-made, stands-nil}
 use Rattle.ce_solo.proofs.Stopped.{gone, own-stays, gone-stays}
-use Rattle.ce_solo.proofs.InOrder.{AreInOrder, HasPassed, order-nil, order-step}
+use Rattle.ce_solo.proofs.InOrder.{AreInOrder, HasPassed, order-nil, order-entry}
 use Rattle.ce_solo.proofs.Passing.{unnamed, host-takes, node-takes}
 
 module _ (cube : Cube) (s : CubeState) (of : IsCube cube) (sound : IsSound cube s) (from to : Place) where
@@ -45,43 +45,43 @@ module _ (cube : Cube) (s : CubeState) (of : IsCube cube) (sound : IsSound cube 
       (subst (λ b. is_stopped (process_at (node_by b cube s to.node (entry_in cube s to.node call)) to.pid).status ≡ true) (sym (eq-eqb to.node to.node refl))
       (own-stays cube s to.node of below sound call said to.pid h))
 
-  passed-own : (asked : Option HostCall) (call : Call) (given : TakeResult) → IsMadeCall cube s to.node asked call → taken_result (answer (node_numbers cube.dim) s.standing to.node call) ≡ Some given → IsPassed call given
+  passed-own : (wish : Option HostCall) (call : Call) (given : TakeResult) → IsMadeCall cube s to.node wish call → taken_result (answer (node_numbers cube.dim) s.standing to.node call) ≡ Some given → IsPassed call given
   unfolding answer
-  passed-own asked (take_call asking dead poller) given (by_host is e) t = absurd (no_take cube s asked (take_call asking dead poller) refl e)
-  passed-own asked (take_call asking dead poller) given (by_node below e) t =
+  passed-own wish (take_call asking dead poller) given (by_host is e) t = absurd (no_take cube s wish (take_call asking dead poller) refl e)
+  passed-own wish (take_call asking dead poller) given (by_node below e) t =
       let said = made-leaves cube s to.node (take_call asking dead poller) of below sound e in
       node-takes cube s of sound from to below asking dead poller said given (gone cube (state_after cube s (entry_in cube s to.node (take_call asking dead poller))) to) t
       (stops-later (take_call asking dead poller) below said)
-  passed-own asked (send_call pid targets bytes) given m t = absurd (cc)
-  passed-own asked (spawn_call pid image place) given m t = absurd (cc)
-  passed-own asked (kill_call pid place) given m t = absurd (cc)
-  passed-own asked (note_call pid word) given m t = absurd (cc)
-  passed-own asked (arm_call count) given m t = absurd (cc)
-  passed-own asked look_call given m t = absurd (cc)
-  passed-own asked mail_call given (by_host is e) t =
+  passed-own wish (send_call pid targets bytes) given m t = absurd (cc)
+  passed-own wish (spawn_call pid image place) given m t = absurd (cc)
+  passed-own wish (kill_call pid place) given m t = absurd (cc)
+  passed-own wish (note_call pid word) given m t = absurd (cc)
+  passed-own wish (arm_call count) given m t = absurd (cc)
+  passed-own wish look_call given m t = absurd (cc)
+  passed-own wish mail_call given (by_host is e) t =
       host-takes cube s from to given sound is t (host_here is) (gone cube (state_after cube s (entry_in cube s to.node mail_call)) to) cube.user
-  passed-own asked mail_call given (by_node below e) t = absurd (made-leaves cube s to.node mail_call of below sound e).of_node
+  passed-own wish mail_call given (by_node below e) t = absurd (made-leaves cube s to.node mail_call of below sound e).of_node
 
-  pub passed-by : (actor : ℕ) (asked : Option HostCall) (call : Call) (given : TakeResult) → IsMadeCall cube s actor asked call → taken_for to.node (entry_in cube s actor call) ≡ Some given
+  pub passed-by : (actor : ℕ) (wish : Option HostCall) (call : Call) (given : TakeResult) → IsMadeCall cube s actor wish call → taken_for to.node (entry_in cube s actor call) ≡ Some given
       → HasPassed (bytes_handed from to (s.standing.node_record to.node).waiting_items (entry_in cube s actor call)) (bytes_between from to (s.standing.node_record to.node).waiting_items)
       (bytes_between from to (unnamed given (s.standing.node_record to.node).waiting_items)) (gone cube s to) (gone cube (state_after cube s (entry_in cube s actor call)) to)
-  passed-by actor asked call given m t =
+  passed-by actor wish call given m t =
       let parts = taken_result-of actor to.node (taken_result (entry_in cube s actor call).what) given t in
       let same = eqb-true actor to.node parts.0 in
-      subst (λ actor. IsMadeCall cube s actor asked call → taken_result (answer (node_numbers cube.dim) s.standing actor call) ≡ Some given
+      subst (λ actor. IsMadeCall cube s actor wish call → taken_result (answer (node_numbers cube.dim) s.standing actor call) ≡ Some given
       → HasPassed (bytes_handed from to (s.standing.node_record to.node).waiting_items (entry_in cube s actor call)) (bytes_between from to (s.standing.node_record to.node).waiting_items)
       (bytes_between from to (unnamed given (s.standing.node_record to.node).waiting_items)) (gone cube s to) (gone cube (state_after cube s (entry_in cube s actor call)) to))
-      (sym same) (passed-own asked call given) m parts.1
+      (sym same) (passed-own wish call given) m parts.1
 
 order-made : (cube : Cube) (o : CubeState) (from to : Place) (t : List Entry) (entry : Entry) → IsCube cube → IsSoundTrace cube o t → IsEntryOf cube (state_after_trace cube o t) entry
     → AreInOrder cube o from to t → AreInOrder cube o from to (t ++ entry ∷ [])
 order-made cube o from to t entry of stands e is =
     let s = state_after_trace cube o t in
-    let made_entry : IsEntryOf cube s (entry_in cube s e.actor e.call) = record { actor = e.actor; asked = e.asked; call = e.call; by = e.by; is = refl } in
+    let made_entry : IsEntryOf cube s (entry_in cube s e.actor e.call) = record { actor = e.actor; wish = e.wish; call = e.call; by = e.by; is = refl } in
     subst (λ entry. AreInOrder cube o from to (t ++ entry ∷ [])) (sym e.is)
-    (order-step cube o from to t of stands e.actor e.call made_entry (taken_for to.node (entry_in cube s e.actor e.call)) refl
-    (λ given one. passed-by cube s of stands.sound from to e.actor e.asked e.call given e.by one)
-    (gone-stays cube s e.actor e.asked e.call to of stands.sound e.by) is)
+    (order-entry cube o from to t of stands e.actor e.call made_entry (taken_for to.node (entry_in cube s e.actor e.call)) refl
+    (λ given one. passed-by cube s of stands.sound from to e.actor e.wish e.call given e.by one)
+    (gone-stays cube s e.actor e.wish e.call to of stands.sound e.by) is)
 
 -- a trace that stands, and is in order between two places
 record IsSoundInOrder (cube : Cube) (o : CubeState) (from to : Place) (t : List Entry) : Type 0 where

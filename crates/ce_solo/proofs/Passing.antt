@@ -8,9 +8,9 @@ use Rattle.ce_model.specs.declared.entry.Entry.{Entry}
 use Rattle.ce_model.specs.declared.entry.What.TheVariants.{HostTake, Take}
 use Rattle.ce_model.specs.declared.entry.TakeResult.{TakeResult}
 use Rattle.ce_model.specs.declared.entry.TakeResult.TheVariants.{Start, Mail, Kill}
-use Rattle.ce_model.specs.Parcels.{Parcel, Item, start, mail, kill, is_member, is_eligible, is_item, given_as, is_named_by, parcel_in}
+use Rattle.ce_model.specs.Parcels.{Parcel, Item, start, mail, kill, is_member, is_eligible, is_item, take_result_of, is_named_by, parcel_in}
 use Rattle.ce_model.specs.Process.{is_receiving, is_stopped}
-use Rattle.ce_model.specs.Node.{Node, process_at, take_call, take_of, ids_of}
+use Rattle.ce_model.specs.Node.{Node, process_at, take_call, take_of, process_set}
 use Rattle.ce_model.specs.Answers.{offer_of, is_used_up, first_number}
 use Rattle.ce_model.specs.Saying.{says}
 use Rattle.ce_model.specs.Cube.{Cube, CubeState, IsCube, parcel_numbered}
@@ -110,9 +110,9 @@ module _ (cube : Cube) (s : CubeState) (of : IsCube cube) (sound : IsSound cube 
   abbrev given_entry : TakeResult → Entry
   given_entry given = record { user = cube.user; actor = to.node; what = Take asking dead poller given }
 
-  out-of : (item : Item) → find (is_eligible asking dead) items ≡ Some item → IsOut (is_eligible asking dead) (is_named_by (given_as item)) items item
+  out-of : (item : Item) → find (is_eligible asking dead) items ≡ Some item → IsOut (is_eligible asking dead) (is_named_by (take_result_of item)) items item
   out-of item found =
-      find-out (is_eligible asking dead) (is_named_by (given_as item)) items item found (named-itself item)
+      find-out (is_eligible asking dead) (is_named_by (take_result_of item)) items item found (named-itself item)
       (named_once cube s.standing.parcel_count to.node (s.standing.node_record to.node) item (sound.records to.node below))
 
   -- who asks has not stopped
@@ -125,16 +125,16 @@ module _ (cube : Cube) (s : CubeState) (of : IsCube cube) (sound : IsSound cube 
     where
       asking-of : (node : Node) → take_call asking dead poller ≡ take_of node → is_receiving (process_at node to.pid).status ≡ true
       asking-of node same =
-          let is : asking ≡ ids_of is_receiving node.processes = cc in
+          let is : asking ≡ process_set is_receiving node.processes = cc in
           member-of is_receiving node.processes to.pid (ap (is_member to.pid) (sym is) ∙ h)
 
   mail-passed : (parcel : Parcel) (g' : Bool) → find (is_eligible asking dead) items ≡ Some (mail parcel)
       → (is_stopped (process_at now to.pid).status ≡ true → g' ≡ true)
-      → HasPassed (bytes_handed from to items (given_entry (given_as (mail parcel)))) (bytes_between from to items) (bytes_between from to (unnamed (given_as (mail parcel)) items)) (gone cube s to) g'
+      → HasPassed (bytes_handed from to items (given_entry (take_result_of (mail parcel)))) (bytes_between from to items) (bytes_between from to (unnamed (take_result_of (mail parcel)) items)) (gone cube s to) g'
   mail-passed parcel g' found stops =
       let out = out-of (mail parcel) found in
-      let entry = given_entry (given_as (mail parcel)) in
-      let named = is_named_by (given_as (mail parcel)) in
+      let entry = given_entry (take_result_of (mail parcel)) in
+      let named = is_named_by (take_result_of (mail parcel)) in
       let handed = bytes_handed from to items entry in
       let taken : parcel_numbered parcel.number items ≡ Some parcel = ap (option_and_then parcel_in) out.found in
       let number = λ (b : Bool). if b then Some parcel.number else None in
@@ -162,7 +162,7 @@ module _ (cube : Cube) (s : CubeState) (of : IsCube cube) (sound : IsSound cube 
       second_of false y f h = h
 
   item-passed : (item : Item) (g' : Bool) → find (is_eligible asking dead) items ≡ Some item → (is_stopped (process_at now to.pid).status ≡ true → g' ≡ true)
-      → HasPassed (bytes_handed from to items (given_entry (given_as item))) (bytes_between from to items) (bytes_between from to (unnamed (given_as item) items)) (gone cube s to) g'
+      → HasPassed (bytes_handed from to items (given_entry (take_result_of item))) (bytes_between from to items) (bytes_between from to (unnamed (take_result_of item) items)) (gone cube s to) g'
   item-passed (start pid image) g' found stops =
       passed-other from to (is_eligible asking dead) (is_named_by (Start pid image)) items (start pid image) (bytes_handed from to items (given_entry (Start pid image))) (gone cube s to) g' (out-of (start pid image) found)
       (handed-own from to items (given_entry (Start pid image)) None (eq-eqb to.node to.node refl) refl) refl
@@ -171,19 +171,19 @@ module _ (cube : Cube) (s : CubeState) (of : IsCube cube) (sound : IsSound cube 
       passed-other from to (is_eligible asking dead) (is_named_by (Kill pid)) items (kill pid) (bytes_handed from to items (given_entry (Kill pid))) (gone cube s to) g' (out-of (kill pid) found)
       (handed-own from to items (given_entry (Kill pid)) None (eq-eqb to.node to.node refl) refl) refl
 
-  given-passed : (item : Item) (given : TakeResult) (g' : Bool) → find (is_eligible asking dead) items ≡ Some item → given_as item ≡ given → (is_stopped (process_at now to.pid).status ≡ true → g' ≡ true)
-      → HasPassed (bytes_handed from to items (given_entry (given_as item))) (bytes_between from to items) (bytes_between from to (unnamed given items)) (gone cube s to) g'
+  given-passed : (item : Item) (given : TakeResult) (g' : Bool) → find (is_eligible asking dead) items ≡ Some item → take_result_of item ≡ given → (is_stopped (process_at now to.pid).status ≡ true → g' ≡ true)
+      → HasPassed (bytes_handed from to items (given_entry (take_result_of item))) (bytes_between from to items) (bytes_between from to (unnamed given items)) (gone cube s to) g'
   given-passed item given g' found same stops =
-      subst (λ given. HasPassed (bytes_handed from to items (given_entry (given_as item))) (bytes_between from to items) (bytes_between from to (unnamed given items)) (gone cube s to) g') same
+      subst (λ given. HasPassed (bytes_handed from to items (given_entry (take_result_of item))) (bytes_between from to items) (bytes_between from to (unnamed given items)) (gone cube s to) g') same
       (item-passed item g' found stops)
 
   offered-passed : (found : Option Item) (p : Option ℕ) (used : Bool) (given : TakeResult) (g' : Bool) → find (is_eligible asking dead) items ≡ found
       → (if is_item (offer_of found p used) then Some (offer_of found p used) else None) ≡ Some given → (is_stopped (process_at now to.pid).status ≡ true → g' ≡ true)
       → HasPassed (bytes_handed from to items (given_entry (offer_of found p used))) (bytes_between from to items) (bytes_between from to (unnamed given items)) (gone cube s to) g'
   offered-passed (Some item) p true given g' f e stops = absurd (cc)
-  offered-passed (Some (start pid image)) p false given g' f e stops = let same : given_as (start pid image) ≡ given = cc in given-passed (start pid image) given g' f same stops
-  offered-passed (Some (mail parcel)) p false given g' f e stops = let same : given_as (mail parcel) ≡ given = cc in given-passed (mail parcel) given g' f same stops
-  offered-passed (Some (kill pid)) p false given g' f e stops = let same : given_as (kill pid) ≡ given = cc in given-passed (kill pid) given g' f same stops
+  offered-passed (Some (start pid image)) p false given g' f e stops = let same : take_result_of (start pid image) ≡ given = cc in given-passed (start pid image) given g' f same stops
+  offered-passed (Some (mail parcel)) p false given g' f e stops = let same : take_result_of (mail parcel) ≡ given = cc in given-passed (mail parcel) given g' f same stops
+  offered-passed (Some (kill pid)) p false given g' f e stops = let same : take_result_of (kill pid) ≡ given = cc in given-passed (kill pid) given g' f same stops
   offered-passed None (Some pid) true given g' f e stops = absurd (cc)
   offered-passed None (Some pid) false given g' f e stops = absurd (cc)
   offered-passed None None used given g' f e stops = absurd (cc)

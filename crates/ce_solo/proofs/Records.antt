@@ -5,13 +5,13 @@ use Rattle.std.proofs.lemmas.Bool.{cases_Bool, cases_eq, both_ways, eq-eqb, ne_e
 use Rattle.std.proofs.lemmas.List.Folds.{list_any-append}
 use Rattle.ce_model.specs.declared.topology.BlockId.{BlockId}
 use Rattle.ce_model.specs.Limits.{process_count}
-use Rattle.ce_model.specs.Parcels.{Parcel, Item, start, mail, kill, is_eligible, given_as, is_named_by}
+use Rattle.ce_model.specs.Parcels.{Parcel, Item, start, mail, kill, is_eligible, take_result_of, is_named_by}
 use Rattle.ce_model.specs.Trace.{Mark, NodeRecord}
 use Rattle.ce_model.specs.Answers.{is_among}
 use Rattle.ce_model.specs.Cube.{Cube}
 use Rattle.ce_model.specs.Sound.{is_start_of, is_kill_of, has_start, IsStartFirst, numbers_of, IsItemOf, AreNumbered, AreDistinct, IsSoundRecord}
 use Rattle.ce_solo.proofs.Counting.{count, count-nil, count-append}
-use Rattle.ce_solo.proofs.Lists.{all-append, all-weaker, all-filter, all-split, pairwise-append, count_by-cons, count_by-append, count_by-filter, count_by-agree, one_if-true, one_if-false, one_if-le, count_by-none, none-from_count, any-none, none-from_any, IsOut, find-out, joined, joined-is}
+use Rattle.ce_solo.proofs.Lists.{all-append, all-weaker, all-filter, all-split, pairwise-append, count_by-cons, count_by-append, count_by-filter, count_by-agree, one_if-true, one_if-false, one_if-le, count_by-none, none-from_count, any-none, none-from_any, IsOut, find-out, appended, appended-is}
 use Rattle.ce_solo.proofs.Items.{parcel_ids, ids-append, numbers-append, among-mails, all_numbers-filter, AreRising, rising-filter, start-mails, kill-mails, start_first-mails, start-append, start_first-append, start_first-after, start_first-filter, start_first-at, own-starts, own-kills, own-more, named-itself, named-start, named-kill, named-mail, start_can_be_given}
 
 abbrev pub kept_with : List Item → List ℕ → List ℕ → Mark → NodeRecord
@@ -107,9 +107,9 @@ keeps-appended cube sent sent' r kept mark ps more sound new = record {
 }
 
 pub keeps-mails : (cube : Cube) (sent sent' r : ℕ) (kept : NodeRecord) (mark : Mark) (ps : List Parcel) → sent ≤ sent' → IsSoundRecord cube sent r kept
-    → AreNew sent sent' r ps → HasStayedSound cube sent' r kept (kept_with (joined kept.waiting_items (map mail ps)) kept.spawned_ids kept.killed_ids mark) (map (λ p. p.block.id) ps) []
+    → AreNew sent sent' r ps → HasStayedSound cube sent' r kept (kept_with (appended kept.waiting_items (map mail ps)) kept.spawned_ids kept.killed_ids mark) (map (λ p. p.block.id) ps) []
 keeps-mails cube sent sent' r kept mark ps more sound new =
-    subst (λ waiting. HasStayedSound cube sent' r kept (kept_with waiting kept.spawned_ids kept.killed_ids mark) (map (λ p. p.block.id) ps) []) (joined-is kept.waiting_items (map mail ps))
+    subst (λ waiting. HasStayedSound cube sent' r kept (kept_with waiting kept.spawned_ids kept.killed_ids mark) (map (λ p. p.block.id) ps) []) (appended-is kept.waiting_items (map mail ps))
     (keeps-appended cube sent sent' r kept mark ps more sound new)
 
 -- ---- a start or a kill comes
@@ -234,23 +234,23 @@ among-all P pid (other ∷ pids) all h =
 -- ---- an item is taken
 
 -- how often an item's name fits those that wait
-pub named_once : (cube : Cube) (sent r : ℕ) (kept : NodeRecord) (item : Item) → IsSoundRecord cube sent r kept → count_by (is_named_by (given_as item)) kept.waiting_items ≤ 1
+pub named_once : (cube : Cube) (sent r : ℕ) (kept : NodeRecord) (item : Item) → IsSoundRecord cube sent r kept → count_by (is_named_by (take_result_of item)) kept.waiting_items ≤ 1
 named_once cube sent r kept (start pid image) sound =
-    omega (arith, sound.one_start pid, count_by-agree (is_named_by (given_as (start pid image))) (is_start_of pid) kept.waiting_items (named-start pid image))
+    omega (arith, sound.one_start pid, count_by-agree (is_named_by (take_result_of (start pid image))) (is_start_of pid) kept.waiting_items (named-start pid image))
 named_once cube sent r kept (mail parcel) sound = named-mail parcel.to.pid parcel.number kept.waiting_items sound.numbered.rising
 named_once cube sent r kept (kill pid) sound =
-    omega (arith, sound.one_kill pid, count_by-agree (is_named_by (given_as (kill pid))) (is_kill_of pid) kept.waiting_items (named-kill pid))
+    omega (arith, sound.one_kill pid, count_by-agree (is_named_by (take_result_of (kill pid))) (is_kill_of pid) kept.waiting_items (named-kill pid))
 
 -- what is left once an item is taken that can be given first
 pub record HasTakenItem (cube : Cube) (sent r asking dead : ℕ) (kept kept' : NodeRecord) (item : Item) : Type 0 where
   pub sound : IsSoundRecord cube sent r kept'
   pub parcels : (id : BlockId) → count id (parcel_ids kept'.waiting_items) + count id (parcel_ids (item ∷ [])) ≡ count id (parcel_ids kept.waiting_items)
   pub births : (pid : ℕ) → is_start_of pid item ≡ false → births kept' pid ≡ births kept pid
-  pub out : IsOut (is_eligible asking dead) (is_named_by (given_as item)) kept.waiting_items item
+  pub out : IsOut (is_eligible asking dead) (is_named_by (take_result_of item)) kept.waiting_items item
   pub of_node : IsItemOf cube r kept item
 
 abbrev pub without_named : Item → List Item → List Item
-without_named item items = filter (λ x. not (is_named_by (given_as item) x)) items
+without_named item items = filter (λ x. not (is_named_by (take_result_of item) x)) items
 
 start-out : (pid : ℕ) (before : List Item) (item : Item) (behind : List Item) → is_start_of pid item ≡ false → has_start pid (before ++ item ∷ behind) ≡ has_start pid (before ++ behind)
 start-out pid [] item behind other = ap (λ b. b || has_start pid behind) other
@@ -260,10 +260,10 @@ pub takes-item : (cube : Cube) (sent r asking dead : ℕ) (kept : NodeRecord) (m
     → find (is_eligible asking dead) kept.waiting_items ≡ Some item
     → HasTakenItem cube sent r asking dead kept (kept_with (without_named item kept.waiting_items) kept.spawned_ids kept.killed_ids mark) item
 takes-item cube sent r asking dead kept mark item sound found =
-    let test = λ (x : Item). not (is_named_by (given_as item) x) in
+    let test = λ (x : Item). not (is_named_by (take_result_of item) x) in
     let left = filter test kept.waiting_items in
     let kept' = kept_with left kept.spawned_ids kept.killed_ids mark in
-    let out = find-out (is_eligible asking dead) (is_named_by (given_as item)) kept.waiting_items item found (named-itself item) (named_once cube sent r kept item sound) in
+    let out = find-out (is_eligible asking dead) (is_named_by (take_result_of item)) kept.waiting_items item found (named-itself item) (named_once cube sent r kept item sound) in
     record {
       sound = record {
         numbered = record {

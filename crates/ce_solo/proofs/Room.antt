@@ -17,7 +17,7 @@ use Rattle.ce_solo.proofs.Lists.{all-map, count_by-cons, one_if, one_if-true, on
 use Rattle.ce_solo.proofs.Items.{parcel_ids}
 use Rattle.ce_solo.proofs.Records.{among-all, killed-spawned}
 use Rattle.ce_solo.proofs.Sending.{host_past}
-use Rattle.ce_solo.proofs.Totals.{Held, names, names-total, at_node-is, total-is, total-le, at_node, total}
+use Rattle.ce_solo.proofs.Totals.{HeldName, names, names-total, at_node-is, total-is, total-le, at_node, total}
 
 -- ---- numbers that differ and are below a limit
 
@@ -202,7 +202,7 @@ pub held_blocks : (cube : Cube) (s : CubeState) (ids : List BlockId) → IsSound
 held_blocks cube s ids sound within =
     all-from_names (IsBlockOf cube.dim) ids
     (λ id some. all-at_name (IsBlockOf cube.dim) (names (holdings cube.dim s)) id
-    (all-map (IsBlockOf cube.dim) (λ (holding : Held). holding.1) (holdings cube.dim s) sound.blocks) (omega (arith, some, within id, names-total id cube.dim s)))
+    (all-map (IsBlockOf cube.dim) (λ (holding : HeldName). holding.1) (holdings cube.dim s) sound.blocks) (omega (arith, some, within id, names-total id cube.dim s)))
 
 -- ---- the room of a queue
 

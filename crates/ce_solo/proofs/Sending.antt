@@ -14,7 +14,7 @@ use Rattle.ce_model.specs.Answers.{is_among}
 use Rattle.ce_model.specs.Cube.{Cube, IsCube}
 use Rattle.ce_model.specs.Sound.{IsHostItem, IsSoundHost, IsSoundRecord}
 use Rattle.ce_solo.proofs.Counting.{hit, count, count-nil, count-cons, sum_run, sum_run-same, sum_run-add, sum_run-zero, sum_run-at}
-use Rattle.ce_solo.proofs.Lists.{all-append, all-weaker, all-filter, all-filtered, all-both, all-map, pairwise-filter, joined, joined-is}
+use Rattle.ce_solo.proofs.Lists.{all-append, all-weaker, all-filter, all-filtered, all-both, all-map, pairwise-filter, appended, appended-is}
 use Rattle.ce_solo.proofs.Items.{AreRising}
 use Rattle.ce_solo.proofs.Records.{kept_with, HasStayedSound, keeps-same, AreNew, numbered-mails, keeps-start, keeps-kill}
 
@@ -144,9 +144,9 @@ module _ (cube : Cube) (number number' : ℕ) (ps : List Parcel) (of : IsCube cu
   host_items [] all = tt
   host_items (q ∷ qs) all = (all.0, host_items qs all.1)
 
-  pub sent-host : (items : List Item) → IsSoundHost number items → IsSoundHost number' (joined items (map mail (to_node HOST ps)))
+  pub sent-host : (items : List Item) → IsSoundHost number items → IsSoundHost number' (appended items (map mail (to_node HOST ps)))
   sent-host items host =
-      subst (IsSoundHost number') (joined-is items (map mail (to_node HOST ps)))
+      subst (IsSoundHost number') (appended-is items (map mail (to_node HOST ps)))
       (record {
         numbered = numbered-mails number number' HOST items (to_node HOST ps) are.more host.numbered
             (rising-numbers (to_node HOST ps) (pairwise-filter (λ (p q : Parcel). p.number < q.number) (λ p. p.to.node == HOST) ps are.rising))
@@ -210,7 +210,7 @@ sent-sum cube id (p ∷ ps) of all =
 pub start-keeps : (cube : Cube) (sent r image : ℕ) (to : Place) (kept : NodeRecord) (mark : Mark) (b : Bool) → IsSoundRecord cube sent r kept
     → (b ≡ true → is_among to.pid kept.spawned_ids ≡ false) → to.pid < process_count → image < length cube.images
     → HasStayedSound cube (sent + 0) r kept
-    (kept_with (joined kept.waiting_items ((if b then start to.pid image ∷ [] else []) ++ [])) (joined kept.spawned_ids (map item_id (if b then start to.pid image ∷ [] else []))) kept.killed_ids mark) [] []
+    (kept_with (appended kept.waiting_items ((if b then start to.pid image ∷ [] else []) ++ [])) (appended kept.spawned_ids (map item_id (if b then start to.pid image ∷ [] else []))) kept.killed_ids mark) [] []
 start-keeps cube sent r image to kept mark true sound fresh within of_cube =
     subst (λ n. HasStayedSound cube n r kept (kept_with (kept.waiting_items ++ start to.pid image ∷ []) (kept.spawned_ids ++ to.pid ∷ []) kept.killed_ids mark) [] []) (omega arith)
     (keeps-start cube sent r to.pid image kept mark sound (fresh refl) within of_cube)
@@ -220,7 +220,7 @@ start-keeps cube sent r image to kept mark false sound fresh within of_cube = ke
 pub kill-keeps : (cube : Cube) (sent r : ℕ) (to : Place) (kept : NodeRecord) (mark : Mark) (b : Bool) → IsSoundRecord cube sent r kept
     → (b ≡ true → is_among to.pid kept.spawned_ids ≡ true) → (b ≡ true → is_among to.pid kept.killed_ids ≡ false)
     → HasStayedSound cube (sent + 0) r kept
-    (kept_with (joined kept.waiting_items ((if b then kill to.pid ∷ [] else []) ++ [])) kept.spawned_ids (joined kept.killed_ids (map item_id (if b then kill to.pid ∷ [] else []))) mark) [] []
+    (kept_with (appended kept.waiting_items ((if b then kill to.pid ∷ [] else []) ++ [])) kept.spawned_ids (appended kept.killed_ids (map item_id (if b then kill to.pid ∷ [] else []))) mark) [] []
 kill-keeps cube sent r to kept mark true sound known fresh =
     subst (λ n. HasStayedSound cube n r kept (kept_with (kept.waiting_items ++ kill to.pid ∷ []) kept.spawned_ids (kept.killed_ids ++ to.pid ∷ []) mark) [] []) (omega arith)
     (keeps-kill cube sent r to.pid kept mark sound (known refl) (fresh refl))

@@ -118,19 +118,19 @@ once-more cube o r pid t entry once e =
     let starts = all-front (IsNewItem s.standing.parcel_count kept) (starts_in r entry.what) (kills_in r entry.what ++ mails_in r entry) new in
     let kills = all-front (IsNewItem s.standing.parcel_count kept) (kills_in r entry.what) (mails_in r entry)
     (all-back (IsNewItem s.standing.parcel_count kept) (starts_in r entry.what) (kills_in r entry.what ++ mails_in r entry) new) in
+    let more : (test : Item → Bool) → count_by test (sent_items o.standing r (t ++ entry ∷ [])) ≡ count_by test (sent_items o.standing r t) + count_by test (items_to r entry) =
+    λ test. ap (count_by test) (sent_items-more o.standing r t entry) ∙ count_by-append test (sent_items o.standing r t) (items_to r entry) in
     record {
       starts = omega (
         arith,
-        ap (count_by (is_start_of pid)) (sent_items-more o.standing r t entry),
-        count_by-append (is_start_of pid) (sent_items o.standing r t) (items_to r entry),
+        more (is_start_of pid),
         starts-to pid r entry,
         ap (λ xs. one_if (is_among pid xs)) (spawned-more o.standing r t entry),
         starts_step s.standing.parcel_count kept r pid (count_by (is_start_of pid) (sent_items o.standing r t)) entry.what starts once.starts,
       );
       kills = omega (
         arith,
-        ap (count_by (is_kill_of pid)) (sent_items-more o.standing r t entry),
-        count_by-append (is_kill_of pid) (sent_items o.standing r t) (items_to r entry),
+        more (is_kill_of pid),
         kills-to pid r entry,
         ap (λ xs. one_if (is_among pid xs)) (killed-more o.standing r t entry),
         kills_step s.standing.parcel_count kept r pid (count_by (is_kill_of pid) (sent_items o.standing r t)) entry.what kills once.kills,

@@ -6,7 +6,7 @@ use Rattle.ce_model.specs.declared.topology.Place.{Place}
 use Rattle.ce_model.specs.declared.process.Status.{Status}
 use Rattle.ce_model.specs.declared.process.Status.TheVariants.{Unborn, Running, Asking, Polling, Stopped}
 use Rattle.ce_model.specs.Limits.{process_count}
-use Rattle.ce_model.specs.Parcels.{Item, start, mail, kill, is_eligible, given_as}
+use Rattle.ce_model.specs.Parcels.{Item, start, mail, kill, is_eligible, take_result_of}
 use Rattle.ce_model.specs.Process.{Process, is_stopped}
 use Rattle.ce_model.specs.Node.{Node, process_at, blocks_of, Call, take_call, send_call, spawn_call, kill_call, note_call, arm_call, look_call, mail_call, take_of}
 use Rattle.ce_model.specs.Trace.{NodeRecord}
@@ -19,9 +19,9 @@ use Rattle.ce_solo.proofs.Counting.{count, count-nil}
 use Rattle.ce_solo.proofs.Words.{HasMadeCall}
 use Rattle.ce_solo.proofs.Hears.{nothing-hears, told-hears, poll-hears, kill-hears, mail-hears, start-begins}
 use Rattle.ce_solo.proofs.Records.{kept_with, takes-item, start-taken, kill-taken, without_named, among-all}
-use Rattle.ce_solo.proofs.NodeSteps.{once_here}
+use Rattle.ce_solo.proofs.NodeEntries.{once_here}
 use Rattle.ce_solo.proofs.NodeTakes.{polling_is, poller-polls, poller-within, now_well, birth_of, numbered_parcel}
-use Rattle.ce_solo.proofs.Steps.{node_by, state_after, entry_in}
+use Rattle.ce_solo.proofs.Entries.{node_by, state_after, entry_in}
 use Rattle.ce_solo.proofs.Made.{IsMadeCall, by_host, by_node, made-leaves}
 use Rattle.ce_model.specs.declared.entry.TakeResult.TheVariants.{Poll}
 use Rattle.ce_solo.proofs.Sending.{not_host}
@@ -45,7 +45,7 @@ module _ (cube : Cube) (s : CubeState) (r : ℕ) (of : IsCube cube) (below : r <
   kept = s.standing.node_record r
 
   module _ (asking dead : ℕ) (poller : Option ℕ) (said : HasMadeCall (s.node r) now (take_call asking dead poller)) where
-    item-stays : (item : Item) → find (is_eligible asking dead) kept.waiting_items ≡ Some item → AreStillStopped now (node_after_hearing cube.images now (hearing_of_result kept.waiting_items (given_as item)))
+    item-stays : (item : Item) → find (is_eligible asking dead) kept.waiting_items ≡ Some item → AreStillStopped now (node_after_hearing cube.images now (hearing_of_result kept.waiting_items (take_result_of item)))
     item-stays (start pid image) found =
         let taken = takes-item cube s.standing.parcel_count r asking dead kept kept.mark (start pid image) (sound.records r below) found in
         let is = start-taken cube s.standing.parcel_count r asking dead pid image kept (kept_with (without_named (start pid image) kept.waiting_items) kept.spawned_ids kept.killed_ids kept.mark) (sound.records r below) refl refl taken in
@@ -106,19 +106,19 @@ module _ (cube : Cube) (s : CubeState) (r : ℕ) (of : IsCube cube) (below : r <
 abbrev pub gone : Cube → CubeState → Place → Bool
 gone cube s to = nat_lt to.node (2 ^ cube.dim) && is_stopped (process_at (s.node to.node) to.pid).status
 
-stays-by : (cube : Cube) (s : CubeState) (actor r : ℕ) (asked : Option HostCall) (call : Call) (b : Bool) → (actor == r) ≡ b → IsCube cube → IsSound cube s → r < 2 ^ cube.dim
-    → IsMadeCall cube s actor asked call → AreStillStopped (s.node r) (node_by b cube s r (entry_in cube s actor call))
-stays-by cube s actor r asked call false is of sound below m = λ pid h. h
-stays-by cube s actor r asked call true is of sound below (by_host e m) = absurd (omega (arith, not_host cube r of below, eqb-true actor r is))
-stays-by cube s actor r asked call true is of sound below (by_node low e) =
+stays-by : (cube : Cube) (s : CubeState) (actor r : ℕ) (wish : Option HostCall) (call : Call) (b : Bool) → (actor == r) ≡ b → IsCube cube → IsSound cube s → r < 2 ^ cube.dim
+    → IsMadeCall cube s actor wish call → AreStillStopped (s.node r) (node_by b cube s r (entry_in cube s actor call))
+stays-by cube s actor r wish call false is of sound below m = λ pid h. h
+stays-by cube s actor r wish call true is of sound below (by_host e m) = absurd (omega (arith, not_host cube r of below, eqb-true actor r is))
+stays-by cube s actor r wish call true is of sound below (by_node low e) =
     let same = eqb-true actor r is in
     let said = made-leaves cube s actor call of low sound e in
     subst (λ r. AreStillStopped (s.node r) (node_by true cube s r (entry_in cube s actor call))) same
     (λ pid h. own-stays cube s actor of low sound call said pid (said.became.stopped pid h))
 
-pub gone-stays : (cube : Cube) (s : CubeState) (actor : ℕ) (asked : Option HostCall) (call : Call) (to : Place) → IsCube cube → IsSound cube s → IsMadeCall cube s actor asked call
+pub gone-stays : (cube : Cube) (s : CubeState) (actor : ℕ) (wish : Option HostCall) (call : Call) (to : Place) → IsCube cube → IsSound cube s → IsMadeCall cube s actor wish call
     → gone cube s to ≡ true → gone cube (state_after cube s (entry_in cube s actor call)) to ≡ true
-gone-stays cube s actor asked call to of sound m h =
+gone-stays cube s actor wish call to of sound m h =
     let parts = and_parts (nat_lt to.node (2 ^ cube.dim)) (is_stopped (process_at (s.node to.node) to.pid).status) h in
     and_from _ _ parts.0
-    (stays-by cube s actor to.node asked call (actor == to.node) refl of sound (ltb-true _ _ parts.0) m to.pid parts.1)
+    (stays-by cube s actor to.node wish call (actor == to.node) refl of sound (ltb-true _ _ parts.0) m to.pid parts.1)

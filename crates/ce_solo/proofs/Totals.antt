@@ -19,15 +19,15 @@ use Rattle.ce_solo.proofs.Lists.{all-map, all-of_map, count_by-cons}
 use Rattle.ce_solo.proofs.Windows.{ids_at}
 use Rattle.ce_solo.proofs.Items.{parcel_ids}
 
-abbrev pub Held : Type 0
-Held = Holder × BlockId
+abbrev pub HeldName : Type 0
+HeldName = Holder × BlockId
 
 -- the names of the blocks that are held
-abbrev pub names : List Held → List BlockId
+abbrev pub names : List HeldName → List BlockId
 names held = map (λ holding. holding.1) held
 
-names-append : (xs ys : List Held) → names (xs ++ ys) ≡ names xs ++ names ys
-names-append xs ys = map-append (λ (holding : Held). holding.1) xs ys
+names-append : (xs ys : List HeldName) → names (xs ++ ys) ≡ names xs ++ names ys
+names-append xs ys = map-append (λ (holding : HeldName). holding.1) xs ys
 
 names-with : {X : Type 0} (holder : X → Holder) (id : X → BlockId) (xs : List X) → names (map (λ x. (holder x, id x)) xs) ≡ map id xs
 names-with holder id [] = refl
@@ -76,12 +76,12 @@ pub total-is : (id : BlockId) (dim : ℕ) (s : CubeState)
 unfolding total
 total-is id dim s = refl
 
-names-flat : (f : ℕ → List Held) (rs : List ℕ) → names (flat_map f rs) ≡ flat_map (λ r. names (f r)) rs
+names-flat : (f : ℕ → List HeldName) (rs : List ℕ) → names (flat_map f rs) ≡ flat_map (λ r. names (f r)) rs
 names-flat f [] = refl
 names-flat f (r ∷ rs) = names-append (f r) (flat_map f rs) ∙ ap (λ ids. names (f r) ++ ids) (names-flat f rs)
 
 -- what a node and the parcels that wait there hold
-abbrev at : CubeState → ℕ → List Held
+abbrev at : CubeState → ℕ → List HeldName
 at s r = held_by_node r (s.node r) ++ held_by_parcels r (s.standing.node_record r).waiting_items
 
 count-at : (id : BlockId) (s : CubeState) (r : ℕ) → count id (names (at s r)) ≡ at_node id s r
@@ -100,7 +100,7 @@ unfolding total holdings
 names-total id dim s =
     let nodes = flat_map (at s) (node_numbers dim) in
     let parcels = held_by_parcels HOST (s.standing.node_record HOST).waiting_items in
-    let store : List Held = map (λ id. (in_hoststore, id)) s.hoststore in
+    let store : List HeldName = map (λ id. (in_hoststore, id)) s.hoststore in
     let of_nodes : count id (names nodes) ≡ sum_run (at_node id s) 0 (2 ^ dim) =
     ap (count id) (names-flat (at s) (node_numbers dim)) ∙ count-run id (λ r. names (at s r)) 0 (2 ^ dim)
     ∙ sum_run-same (λ r. count id (names (at s r))) (at_node id s) 0 (2 ^ dim) (λ r low high. count-at id s r) in
@@ -115,16 +115,16 @@ names-total id dim s =
       ap (count id) (names-with (λ (id : BlockId). in_hoststore) (λ id. id) s.hoststore ∙ map-same s.hoststore),
     )
 
-count_by-names : (id : BlockId) (held : List Held) → count_by (λ holding. is_same_id id holding.1) held ≡ count_by (is_same_id id) (names held)
+count_by-names : (id : BlockId) (held : List HeldName) → count_by (λ holding. is_same_id id holding.1) held ≡ count_by (is_same_id id) (names held)
 count_by-names id [] = refl
 count_by-names id (holding ∷ held) =
-    omega (arith, count_by-cons (λ (h : Held). is_same_id id h.1) holding held, count_by-cons (is_same_id id) holding.1 (names held), count_by-names id held)
+    omega (arith, count_by-cons (λ (h : HeldName). is_same_id id h.1) holding held, count_by-cons (is_same_id id) holding.1 (names held), count_by-names id held)
 
 pub holders-total : (id : BlockId) (dim : ℕ) (s : CubeState) → length (holders dim s id) ≡ total id dim s
 unfolding holders
 holders-total id dim s =
-    length-map (filter (λ (holding : Held). is_same_id id holding.1) (holdings dim s)) (λ holding. holding.0)
-    ∙ length-filter (λ (holding : Held). is_same_id id holding.1) (holdings dim s)
+    length-map (filter (λ (holding : HeldName). is_same_id id holding.1) (holdings dim s)) (λ holding. holding.0)
+    ∙ length-filter (λ (holding : HeldName). is_same_id id holding.1) (holdings dim s)
     ∙ count_by-names id (holdings dim s) ∙ count-is id (names (holdings dim s)) ∙ names-total id dim s
 
 -- ---- one owner
@@ -136,7 +136,7 @@ total-le cube s id sound =
       | inl none ↦ omega arith
       | inr some ↦
           let of_cube = all-at_name (IsBlockOf cube.dim) (names (holdings cube.dim s)) id
-          (all-map (IsBlockOf cube.dim) (λ (holding : Held). holding.1) (holdings cube.dim s) sound.blocks) (omega (arith, some, names-total id cube.dim s)) in
+          (all-map (IsBlockOf cube.dim) (λ (holding : HeldName). holding.1) (holdings cube.dim s) sound.blocks) (omega (arith, some, names-total id cube.dim s)) in
           omega (arith, sound.owners id of_cube, holders-total id cube.dim s)
     ]
 
@@ -152,8 +152,8 @@ owners-kept cube s s' sound same id of_cube =
 pub blocks-kept : (cube : Cube) (s s' : CubeState) → IsSound cube s → ((id : BlockId) → total id cube.dim s' ≡ total id cube.dim s)
     → AllByRecursion (λ holding. IsBlockOf cube.dim holding.1) (holdings cube.dim s')
 blocks-kept cube s s' sound same =
-    all-of_map (IsBlockOf cube.dim) (λ (holding : Held). holding.1) (holdings cube.dim s')
+    all-of_map (IsBlockOf cube.dim) (λ (holding : HeldName). holding.1) (holdings cube.dim s')
     (all-from_names (IsBlockOf cube.dim) (names (holdings cube.dim s'))
     (λ id some. all-at_name (IsBlockOf cube.dim) (names (holdings cube.dim s)) id
-    (all-map (IsBlockOf cube.dim) (λ (holding : Held). holding.1) (holdings cube.dim s) sound.blocks)
+    (all-map (IsBlockOf cube.dim) (λ (holding : HeldName). holding.1) (holdings cube.dim s) sound.blocks)
     (omega (arith, some, names-total id cube.dim s', same id, names-total id cube.dim s))))

@@ -10,7 +10,7 @@ use Rattle.rv_model.specs.declared.stop.Stop.TheVariants.{Misaligned, Unmapped, 
 use Rattle.ce_model.specs.declared.topology.BlockId.{BlockId}
 use Rattle.ce_model.specs.Blocks.{Block}
 use Rattle.ce_model.specs.Limits.{window_base}
-use Rattle.ce_model.specs.Space.{Space, window_of, offset_of, mapped_space, mapped_ids, AccessSite, in_private, in_block, site_in, access_site, with_number_in, result_map, stored_at, named_in, is_window_start, block_named}
+use Rattle.ce_model.specs.Space.{Space, window_of, offset_of, mapped_space, mapped_ids, AccessSite, in_private, in_block, site_in, access_site, with_number_in, result_map, stored_at, block_at_window, is_window_start, block_named}
 use Rattle.ce_solo.proofs.Counting.{hit, count, count-nil, count-cons}
 
 -- the names of the blocks at these windows
@@ -96,7 +96,7 @@ pub stored-held : (space : Space) (a size n : ℕ) → IfOk (stored_at space a s
 stored-held space a size n = map_ok (with_number_in space size n) (access_site space a size) (IsSpotOf space) (IsSameHeld space) (written-held space size n) (spot-of space a size)
 
 named_in-of : (space : Space) (p : ℕ) (at : Option (Option Block)) → slice_get space.windows (window_of p) ≡ at
-    → IfOk (named_in at p) (λ found. slice_get space.windows found.0 ≡ Some (Some found.1))
+    → IfOk (block_at_window at p) (λ found. slice_get space.windows found.0 ≡ Some (Some found.1))
 named_in-of space p None e = tt
 named_in-of space p (Some None) e = tt
 named_in-of space p (Some (Some block)) e = e
@@ -105,6 +105,6 @@ named_in-of space p (Some (Some block)) e = e
 pub named-of : (space : Space) (p : ℕ) → IfOk (block_named space p) (λ found. slice_get space.windows found.0 ≡ Some (Some found.1))
 unfolding block_named
 named-of space p =
-    cond_both (is_window_start p) (named_in (slice_get space.windows (window_of p)) p) (Err (NotABlock p))
+    cond_both (is_window_start p) (block_at_window (slice_get space.windows (window_of p)) p) (Err (NotABlock p))
     (λ r. IfOk r (λ found. slice_get space.windows found.0 ≡ Some (Some found.1)))
     (λ t. named_in-of space p (slice_get space.windows (window_of p)) refl) (λ f. tt)

@@ -2,17 +2,18 @@
 use Rattle.std.proofs.Common.{◌≡◌, ℕ, ◌+◌, ◌<◌, ◌≤◌, true, false, not, ◌||◌, ◌==◌, nat_lt, if◌then◌else◌, List, [], ◌∷◌, length, map, replicate, slice_get, Option, Some, None, Result, Ok, Err, IfOk, IfSome, refl, ap, sym, ◌∙◌, subst, arith, length-set, length-append}
 use Rattle.std.specs.List.{AllByRecursion}
 use Rattle.std.proofs.lemmas.Bool.{cond_both, eq-eqb, ne_eqb, ltb-true, or_parts, not-false, both_ways}
+use Rattle.rv_model.specs.declared.limits.TheConstants.{REGISTER_COUNT}
 use Rattle.rv_model.specs.declared.stop.Stop.{Stop}
 use Rattle.ce_model.specs.declared.topology.BlockId.{BlockId}
 use Rattle.ce_model.specs.declared.process.Status.{Status}
 use Rattle.ce_model.specs.declared.process.Status.TheVariants.{Unborn, Running, Asking, Polling, Stopped}
 use Rattle.ce_model.specs.Limits.{window_count, block_room}
-use Rattle.ce_model.specs.Blocks.{Block, put}
+use Rattle.ce_model.specs.Blocks.{Block, with_id}
 use Rattle.ce_model.specs.Space.{window_start, has_unused_window, mapped_space, mapped_ids, block_named}
-use Rattle.ce_model.specs.Process.{Process, register_count, argument, with_answer, is_stopped}
+use Rattle.ce_model.specs.Process.{Process, argument, with_answer, is_stopped}
 use Rattle.ce_model.specs.Node.{Turn, Node, process_at, is_place, with_stopped, Call, take_call, send_call, spawn_call, kill_call, note_call, take_of}
 use Rattle.ce_model.specs.Kernel.{CallOutcome, continuation, departure, turn_conclusion, return_outcome, leave_outcome, read_outcome, with_space, process_left_behind, map_outcome, xmalloc, free_outcome, xfree, xlength, is_target, place_named, send_outcome, xsend}
-use Rattle.ce_model.specs.Sound.{is_unborn, is_running, is_polling, IsSoundTurn, IsRising}
+use Rattle.ce_model.specs.Sound.{is_unborn, is_running, is_polling, IsSoundTurn, AreInOrder}
 use Rattle.ce_solo.proofs.Counting.{hit-self, count, count-nil, count-one, count-cons, count-append, count-put, rising-put}
 use Rattle.ce_solo.proofs.Windows.{IsSameHeld, ids-mapped, count-unmapped, named-of}
 use Rattle.ce_solo.proofs.Nodes.{polls, IsWell, HasBecome, changed_to, change-became, once_together, stop-became}
@@ -23,7 +24,7 @@ use Rattle.ce_solo.proofs.Nodes.{polls, IsWell, HasBecome, changed_to, change-be
 pub record IsInItsTurn (node : Node) (turn : Turn) (p : Process) : Type 0 where
   pub well : IsWell (Some turn) node
   pub sound : IsSoundTurn turn
-  pub registers : length p.regs ≡ register_count
+  pub registers : length p.regs ≡ REGISTER_COUNT
   pub held : IsSameHeld (process_at node turn.pid).space p.space
   pub status : p.status ≡ (process_at node turn.pid).status
 
@@ -86,7 +87,7 @@ module _ (node : Node) (turn : Turn) (p : Process) (c : IsInItsTurn node turn p)
 
   -- the process runs on with other registers and another memory, and the store is as given
   pub runs-became : (turn' : Turn) (turn'' : Option Turn) (p' : Process) (store : List BlockId) (gone : List BlockId) → turn'.pid ≡ turn.pid
-      → p'.status ≡ p.status → length p'.regs ≡ register_count → length p'.space.windows ≤ window_count → IsRising store
+      → p'.status ≡ p.status → length p'.regs ≡ REGISTER_COUNT → length p'.space.windows ≤ window_count → AreInOrder store
       → ((id : BlockId) → count id store + count id (mapped_ids p'.space) + count id gone ≡ count id node.store + count id (mapped_ids p.space))
       → HasBecome (Some turn') node (changed_to node turn.pid p' store node.polling_ids turn'') [] gone
   runs-became turn' turn'' p' store gone same status registers windows rising blocks =
@@ -112,23 +113,23 @@ module _ (node : Node) (turn : Turn) (p : Process) (c : IsInItsTurn node turn p)
       })
       (not_others.0 ∙ sym born_before) (λ h. absurd (both_ways _ going_before h))
 
-  pub goes-done : (p' : Process) (store : List BlockId) → p'.status ≡ p.status → length p'.regs ≡ register_count → length p'.space.windows ≤ window_count
-      → IsRising store → ((id : BlockId) → count id store + count id (mapped_ids p'.space) ≡ count id node.store + count id (mapped_ids p.space))
+  pub goes-done : (p' : Process) (store : List BlockId) → p'.status ≡ p.status → length p'.regs ≡ REGISTER_COUNT → length p'.space.windows ≤ window_count
+      → AreInOrder store → ((id : BlockId) → count id store + count id (mapped_ids p'.space) ≡ count id node.store + count id (mapped_ids p.space))
       → IsGoingOn node (changed_to node turn.pid p' store node.polling_ids node.turn) turn
   goes-done p' store status registers windows rising blocks = record {
     became = runs-became turn node.turn p' store [] refl status registers windows rising (λ id. omega (arith, blocks id, count-nil id));
     sound = c.sound;
   }
 
-  answered_length : (value : ℕ) (q : Process) → length q.regs ≡ register_count → length (with_answer value q).regs ≡ register_count
+  answered_length : (value : ℕ) (q : Process) → length q.regs ≡ REGISTER_COUNT → length (with_answer value q).regs ≡ REGISTER_COUNT
   answered_length value q h = length-set q.regs 10 value ∙ h
 
   pub returns-done : (value : ℕ) → IsDone node (return_outcome node turn p value)
   returns-done value =
       goes-done (with_answer value p) node.store refl (answered_length value p c.registers) in_turn-windows c.well.store (λ id. refl)
 
-  pub leaves-done : (p' : Process) (store : List BlockId) (call : Call) → p'.status ≡ p.status → length p'.regs ≡ register_count
-      → length p'.space.windows ≤ window_count → IsRising store
+  pub leaves-done : (p' : Process) (store : List BlockId) (call : Call) → p'.status ≡ p.status → length p'.regs ≡ REGISTER_COUNT
+      → length p'.space.windows ≤ window_count → AreInOrder store
       → ((id : BlockId) → count id store + count id (mapped_ids p'.space) + count id (call_ids call) ≡ count id node.store + count id (mapped_ids p.space))
       → IsCallOf (changed_to node turn.pid p' store node.polling_ids (Some turn)) call
       → HasMadeCall node (changed_to node turn.pid p' store node.polling_ids (Some turn)) call
@@ -158,7 +159,7 @@ module _ (node : Node) (turn : Turn) (p : Process) (c : IsInItsTurn node turn p)
       let block : Block = record { id = id; bytes = replicate len 0 } in
       let p' : Process = with_answer (window_start (length p.space.windows)) (with_space p (mapped_space block p.space)) in
       goes-done p' store refl (answered_length (window_start (length p.space.windows)) p c.registers)
-      (omega (arith, length-append p.space.windows (Some block ∷ []))) (subst IsRising e c.well.store).1
+      (omega (arith, length-append p.space.windows (Some block ∷ []))) (subst AreInOrder e c.well.store).1
       (λ name. omega (arith, ap (count name) e, count-cons name id store, ap (count name) (ids-mapped block p.space), count-append name (mapped_ids p.space) (id ∷ []), count-one name id))
 
   pub xmalloc-done : IsDone node (xmalloc node turn p)
@@ -172,7 +173,7 @@ module _ (node : Node) (turn : Turn) (p : Process) (c : IsInItsTurn node turn p)
 
   pub frees-done : (found : ℕ × Block) → slice_get p.space.windows found.0 ≡ Some (Some found.1) → IsDone node (free_outcome node turn p found)
   frees-done found at =
-      goes-done (with_answer 0 (process_left_behind found.0 p)) (put found.1.id node.store) refl (answered_length 0 p c.registers) (process_without-windows found.0)
+      goes-done (with_answer 0 (process_left_behind found.0 p)) (with_id found.1.id node.store) refl (answered_length 0 p c.registers) (process_without-windows found.0)
       (rising-put found.1.id node.store c.well.store
       (omega (arith, once_together (Some turn) node turn.pid found.1.id c.well c.sound.pid, ap (count found.1.id) c.held.ids, count-unmapped found.1.id p.space.windows found.0 found.1 at, hit-self found.1.id)))
       (λ id. omega (arith, count-put id found.1.id node.store, count-unmapped id p.space.windows found.0 found.1 at))

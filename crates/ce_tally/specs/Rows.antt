@@ -6,8 +6,8 @@ use Rattle.ce_lock.specs.Sitting.{Sitting, BookFacts, IsOf, who, out, earlier, m
 use Rattle.ce_tally.specs.declared.tally.Addition.{Addition}
 
 -- what one actor added
-abbrev pub made_by : ℕ → ℕ → List Addition → List Addition
-made_by family actor h = entries_of (λ (e : Addition). e.who) (record { family = family; actor = actor }) h
+abbrev pub additions_of : ℕ → ℕ → List Addition → List Addition
+additions_of family actor h = entries_of (λ (e : Addition). e.who) (record { family = family; actor = actor }) h
 
 -- there is one entry, of this number
 pub record IsOnly (number : ℕ) (h : List Addition) : Type 0 where

@@ -1,10 +1,10 @@
 //! Calls of two heads and a worker, as a caller makes them.
 ghost use Rattle.std.specs.Prelude.{◌≡◌, IfSome};
 ghost use Rattle.ce_model.specs.declared.topology.TheConstants.{HOST};
-ghost use Rattle.ce_lock.specs.Entries.{IsPrefix};
+ghost use Rattle.ce_model.specs.Lists.{IsFront};
 ghost use Rattle.ce_lock.specs.Sitting.{seen_history};
 ghost use Rattle.ce_tally.specs.Sums.{IsTallied};
-ghost use Rattle.ce_tally.specs.Rows.{HasAdded, HasAmong, IsFresh, IsOnly, made_by};
+ghost use Rattle.ce_tally.specs.Rows.{HasAdded, HasAmong, IsFresh, IsOnly, additions_of};
 
 use crate::tally::{Add, Tally};
 use ce_lock::{Book, Seat};
@@ -30,8 +30,9 @@ pub fn calls_and_meets<R: Wait>(rt: &R, alloc: Global) -> Option<TallyMeeting>
     ensures first { IfSome result (λ r. HasAdded r.book 0 5 r.first) }
     ensures second { IfSome result (λ r. HasAdded r.book 1 7 r.second) }
     ensures same_seen { IfSome result (λ r. seen_history r.first ≡ seen_history r.second) }
-    ensures only_five { IfSome result (λ r. IsOnly 5 (made_by 0 HOST (seen_history r.first))) }
-    ensures only_seven { IfSome result (λ r. IsOnly 7 (made_by 1 HOST (seen_history r.second))) }
+    ensures only_five { IfSome result (λ r. IsOnly 5 (additions_of 0 HOST (seen_history r.first))) }
+    ensures only_seven { IfSome result
+        (λ r. IsOnly 7 (additions_of 1 HOST (seen_history r.second))) }
     ensures worker { IfSome result (λ r. HasAmong 0 3 1 (seen_history r.first)) }
 {
     let TallyMeeting {
@@ -112,8 +113,8 @@ pub fn close_both(alloc: Global, met: TallyMeeting) -> Option<Tally>
     requires first { HasAdded met.book 0 5 met.first }
     requires second { HasAdded met.book 1 7 met.second }
     ensures lawful { IfSome result (λ t. IsTallied 0 t) }
-    ensures begins { IfSome result (λ t. IsPrefix (seen_history met.first) t
-        × IsPrefix (seen_history met.second) t) }
+    ensures begins { IfSome result (λ t. IsFront (seen_history met.first) t
+        × IsFront (seen_history met.second) t) }
 {
     let Ok(mut heads) = Vec::with_capacity(alloc, 2) else {
         return None;

@@ -5,7 +5,7 @@ use Rattle.std.specs.List.{position_or_len}
 use Rattle.std.proofs.lemmas.Bool.{ltb-false}
 use Rattle.std.proofs.lemmas.List.{take_all, take_more, length-drop}
 use Rattle.ce_text.specs.Bytes.{is_blank}
-use Rattle.ce_text.specs.Line.{cut, onto_trimmed, without_front_blanks, without_end_blanks}
+use Rattle.ce_text.specs.Line.{cut_parts, onto_trimmed, without_front_blanks, without_end_blanks}
 
 -- the cut at a place, if it is within the list
 abbrev made : ℕ → List ℕ → Bool → List ℕ × Option (List ℕ)
@@ -34,8 +34,8 @@ cut_by place bytes false lt (Some k) e = absurd cc
 
 -- the cut, from the place that `position` found
 pub cut_at_place : (test : ℕ → Bool) (bytes : List ℕ) (found : Option ℕ) → found ≡ position test bytes
-    → MatchOption found (cut test bytes ≡ uncut bytes) (λ place. cut test bytes ≡ cut_there bytes place)
-unfolding cut
+    → MatchOption found (cut_parts test bytes ≡ uncut bytes) (λ place. cut_parts test bytes ≡ cut_there bytes place)
+unfolding cut_parts
 cut_at_place test bytes found e = cut_by (position_or_len test bytes) bytes (ltb (position_or_len test bytes) (length bytes)) refl found e
 
 -- ---- blanks at the front

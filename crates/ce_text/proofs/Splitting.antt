@@ -4,7 +4,7 @@ use Rattle.std.specs.List.{slice_split, onto_first, position_or_len, before_firs
 use Rattle.std.proofs.lemmas.Bool.{ltb-false, ltb-true}
 use Rattle.std.proofs.lemmas.List.{take_all}
 use Rattle.std.proofs.lemmas.List.Splits.{slice_split_first, slice_split-cons_no}
-use Rattle.ce_text.specs.Line.{cut}
+use Rattle.ce_text.specs.Line.{cut_parts}
 
 -- the pieces of what stands behind a cut
 abbrev pub split_behind : (ℕ → Bool) → Option (List ℕ) → List (List ℕ)
@@ -35,6 +35,6 @@ split_by test bytes false e =
     unsplit test bytes le ∙ ap (λ (front : List ℕ). front ∷ []) (sym (take_all (position_or_len test bytes) bytes le))
 
 -- the pieces are what stands before the first cut, and the pieces of what stands behind it
-pub split_cut : (test : ℕ → Bool) (bytes : List ℕ) → slice_split test bytes ≡ cut_pieces test (cut test bytes)
-unfolding cut
+pub split_cut : (test : ℕ → Bool) (bytes : List ℕ) → slice_split test bytes ≡ cut_pieces test (cut_parts test bytes)
+unfolding cut_parts
 split_cut test bytes = split_by test bytes (ltb (position_or_len test bytes) (length bytes)) refl

@@ -3,7 +3,7 @@ use Rattle.std.proofs.Common.{◌≡◌, ℕ, ◌<◌, Bool, true, false, cond, 
 use Rattle.std.specs.Prelude.{filter}
 use Rattle.std.proofs.lemmas.Bool.{ne_eqb}
 use Rattle.ce_text.specs.Bytes.{is_blank}
-use Rattle.ce_text.specs.Line.{cut, without_front_blanks}
+use Rattle.ce_text.specs.Line.{cut_parts, without_front_blanks}
 use Rattle.ce_text.specs.Words.{words_between}
 use Rattle.ce_text.proofs.CutParts.{cut_later}
 use Rattle.ce_text.proofs.Splitting.{split_cut, split_behind, cut_pieces}
@@ -51,10 +51,10 @@ unfolding words_between
 words_split bytes None = refl
 words_split bytes (Some rest) = refl
 
-words_cut : (byte : ℕ) (bytes front : List ℕ) (behind : Option (List ℕ)) → is_blank byte ≡ false → (front, behind) ≡ cut is_blank (byte ∷ bytes) → words_between (byte ∷ bytes) ≡ front ∷ words_behind behind
+words_cut : (byte : ℕ) (bytes front : List ℕ) (behind : Option (List ℕ)) → is_blank byte ≡ false → (front, behind) ≡ cut_parts is_blank (byte ∷ bytes) → words_between (byte ∷ bytes) ≡ front ∷ words_behind behind
 unfolding words_between
 words_cut byte bytes front behind e h =
-    let rest = (cut is_blank bytes).0 in
+    let rest = (cut_parts is_blank bytes).0 in
     let front_is : front ≡ byte ∷ rest = ap (λ (parts : List ℕ × Option (List ℕ)). parts.0) (h ∙ cut_later is_blank byte bytes e) in
     ap (filter (λ piece. not (eqb (length piece) 0))) (split_cut is_blank (byte ∷ bytes) ∙ ap (cut_pieces is_blank) (sym h))
     ∙ ap (λ (first : List ℕ). filter (λ piece. not (eqb (length piece) 0)) (first ∷ split_behind is_blank behind)) front_is
@@ -62,11 +62,11 @@ words_cut byte bytes front behind e h =
     ∙ ap (λ (pieces : List (List ℕ)). (byte ∷ rest) ∷ pieces) (words_split bytes behind)
     ∙ ap (λ (first : List ℕ). first ∷ words_behind behind) (sym front_is)
 
-rest_by : (line rest front : List ℕ) (behind : Option (List ℕ)) → without_front_blanks line ≡ rest → 0 < length rest → (front, behind) ≡ cut is_blank rest → words_between rest ≡ front ∷ words_behind behind
+rest_by : (line rest front : List ℕ) (behind : Option (List ℕ)) → without_front_blanks line ≡ rest → 0 < length rest → (front, behind) ≡ cut_parts is_blank rest → words_between rest ≡ front ∷ words_behind behind
 rest_by line [] front behind e some h = absurd (omega arith)
 rest_by line (byte ∷ bytes) front behind e some h = words_cut byte bytes front behind (first_stays line byte bytes e) h
 
-pub words_first : (line rest front : List ℕ) (behind : Option (List ℕ)) → rest ≡ without_front_blanks line → 0 < length rest → (front, behind) ≡ cut is_blank rest → words_between line ≡ front ∷ words_behind behind
+pub words_first : (line rest front : List ℕ) (behind : Option (List ℕ)) → rest ≡ without_front_blanks line → 0 < length rest → (front, behind) ≡ cut_parts is_blank rest → words_between line ≡ front ∷ words_behind behind
 words_first line rest front behind e some h =
     words_trimmed line ∙ ap words_between (sym e) ∙ rest_by line rest front behind (sym e) some h
 

@@ -10,8 +10,8 @@ abbrev pub behind_first : (ℕ → Bool) → List ℕ → Option (List ℕ)
 behind_first test bytes = if nat_lt (position_or_len test bytes) (length bytes) then Some (after_first test bytes) else None
 
 -- what stands before the first byte that passes, and what stands behind it
-unfoldable pub cut : (ℕ → Bool) → List ℕ → List ℕ × Option (List ℕ)
-cut test bytes = (before_first test bytes, behind_first test bytes)
+unfoldable pub cut_parts : (ℕ → Bool) → List ℕ → List ℕ × Option (List ℕ)
+cut_parts test bytes = (before_first test bytes, behind_first test bytes)
 
 -- the bytes without the blanks at their front
 unfoldable pub without_front_blanks : List ℕ → List ℕ
@@ -40,4 +40,4 @@ line_texts text = slice_split is_line_feed text
 
 -- what a line has before its comment, which begins with `#`
 unfoldable pub before_comment : List ℕ → List ℕ
-before_comment line = (cut is_hash line).0
+before_comment line = (cut_parts is_hash line).0

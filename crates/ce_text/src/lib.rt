@@ -1,8 +1,9 @@
-//! Lines of a text and what stands in them: comments, blanks, words, names and numbers; and tables of words and of names. The languages that are written
-//! so are read above this crate.
+//! Lines of a text and what stands in them: comments, blanks, words, names and numbers; and tables of words and of
+//! names. The languages that are written so are read above this crate.
 #![tactic(auto)]
 
 mod bytes;
+mod limits;
 mod line;
 mod name;
 mod names;
@@ -11,6 +12,7 @@ mod table;
 mod words;
 
 pub use bytes::{are_plain, has_byte, is_blank, is_digit, is_letter, is_plain};
+pub use limits::TEXT_LIMIT;
 pub use line::{before_comment, cut_at, cut_at_blank, next_line, without_outer_blanks};
 pub use name::is_name;
 pub use names::NameTable;

@@ -3,7 +3,7 @@
 ghost use Rattle.std.specs.Prelude.{◌≡◌, ◌==◌, ◌<◌, ◌≤◌, length, position, IfSome};
 ghost use Rattle.std.specs.Option.{option_map};
 ghost use Rattle.ce_text.specs.Bytes.{is_blank, is_line_feed};
-ghost use Rattle.ce_text.specs.Line.{cut, without_front_blanks, without_end_blanks, without_outer_blanks, before_comment};
+ghost use Rattle.ce_text.specs.Line.{cut_parts, without_front_blanks, without_end_blanks, without_outer_blanks, before_comment};
 
 use crate::bytes::is_blank;
 
@@ -22,7 +22,7 @@ fn place_of_blank(bytes: &[u8]) -> Option<usize>
 /// What stands before the first `mark`, and what stands behind it, where there is one.
 pub fn cut_at(bytes: &[u8], mark: u8) -> (&[u8], Option<&[u8]>)
     ensures parts { (result.0.now, option_map (λ rest. rest.now) result.1)
-        ≡ cut (λ byte. byte == mark) bytes.now }
+        ≡ cut_parts (λ byte. byte == mark) bytes.now }
     ensures shorter { IfSome result.1 (λ rest. length rest.now < length bytes.now) }
 {
     match place_of(bytes, mark) {
@@ -34,7 +34,7 @@ pub fn cut_at(bytes: &[u8], mark: u8) -> (&[u8], Option<&[u8]>)
 /// What stands before the first blank, and what stands behind it, where there is one.
 pub fn cut_at_blank(bytes: &[u8]) -> (&[u8], Option<&[u8]>)
     ensures parts { (result.0.now, option_map (λ rest. rest.now) result.1)
-        ≡ cut is_blank bytes.now }
+        ≡ cut_parts is_blank bytes.now }
     ensures shorter { IfSome result.1 (λ rest. length rest.now < length bytes.now) }
 {
     match place_of_blank(bytes) {
@@ -46,7 +46,7 @@ pub fn cut_at_blank(bytes: &[u8]) -> (&[u8], Option<&[u8]>)
 /// The first line of a text, and what stands behind its line feed, where there is one.
 pub fn next_line(text: &[u8]) -> (&[u8], Option<&[u8]>)
     ensures parts { (result.0.now, option_map (λ rest. rest.now) result.1)
-        ≡ cut is_line_feed text.now }
+        ≡ cut_parts is_line_feed text.now }
     ensures shorter { IfSome result.1 (λ rest. length rest.now < length text.now) }
 {
     cut_at(text, b'\n')

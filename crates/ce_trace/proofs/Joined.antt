@@ -7,7 +7,7 @@ use Rattle.ce_model.specs.declared.topology.Place.{Place}
 use Rattle.ce_model.specs.declared.topology.BlockId.{BlockId}
 use Rattle.ce_model.specs.Renaming.{renamed_targets}
 use Rattle.ce_script.specs.EntryText.{target_text, targets_text}
-use Rattle.ce_script.specs.TextParts.{words}
+use Rattle.ce_script.specs.TextParts.{joined_words}
 use Rattle.ce_trace.specs.Spaced.{spaced_words}
 
 -- pieces joined are the first one, and the separator before each further one
@@ -16,7 +16,7 @@ join-cons c first [] = sym (append-nil first)
 join-cons c first (second ∷ pieces) = ap (λ more. first ++ (c ∷ more)) (join-cons c second pieces)
 
 -- words are the first one, and a space before each further one
-pub words-cons : (first : List ℕ) (further : List (List ℕ)) → words (first ∷ further) ≡ first ++ spaced_words further
+pub words-cons : (first : List ℕ) (further : List (List ℕ)) → joined_words (first ∷ further) ≡ first ++ spaced_words further
 words-cons first further = join-cons 32 first further
 
 -- the digits of one byte more

@@ -5,7 +5,7 @@ use Rattle.std.proofs.lemmas.List.{drop_more, drop-drop, length_push, get_or_pus
 use Rattle.ce_model.specs.declared.entry.Entry.{Entry}
 use Rattle.ce_model.specs.Renaming.{CubeGrant}
 use Rattle.ce_model.specs.Views.{trace_behind}
-use Rattle.ce_trace.specs.Links.{last_of, own_from, links_of, IsOwn}
+use Rattle.ce_trace.specs.Links.{last_of, entries_from_own, links_of, IsOwn}
 use Rattle.ce_trace.proofs.Traces.{trace-other}
 
 -- the last entries behind a first one
@@ -38,13 +38,13 @@ last_of-more count history entry some within is =
 
 -- ---- from a user's next entry on
 
-pub own_from-own : (user : ℕ) (entry : Entry) (behind : List Entry) → (entry.user == user) ≡ true → own_from user (entry ∷ behind) ≡ entry ∷ behind
+pub own_from-own : (user : ℕ) (entry : Entry) (behind : List Entry) → (entry.user == user) ≡ true → entries_from_own user (entry ∷ behind) ≡ entry ∷ behind
 own_from-own user entry behind own = rw own refl
 
-pub own_from-other : (user : ℕ) (entry : Entry) (behind : List Entry) → (entry.user == user) ≡ false → own_from user (entry ∷ behind) ≡ own_from user behind
+pub own_from-other : (user : ℕ) (entry : Entry) (behind : List Entry) → (entry.user == user) ≡ false → entries_from_own user (entry ∷ behind) ≡ entries_from_own user behind
 own_from-other user entry behind other = rw other refl
 
-pub own_from-within : (user : ℕ) (history : List Entry) → length (own_from user history) ≤ length history
+pub own_from-within : (user : ℕ) (history : List Entry) → length (entries_from_own user history) ≤ length history
 own_from-within user [] = omega arith
 own_from-within user (entry ∷ behind) =
     elim (cases_Bool (entry.user == user)) [
@@ -52,17 +52,17 @@ own_from-within user (entry ∷ behind) =
       | inr other ↦ rw (own_from-other user entry behind other) (omega (arith, own_from-within user behind))
     ]
 
-pub own_from-last : (user : ℕ) (history : List Entry) → own_from user history ≡ last_of (length (own_from user history)) history
+pub own_from-last : (user : ℕ) (history : List Entry) → entries_from_own user history ≡ last_of (length (entries_from_own user history)) history
 own_from-last user [] = refl
 own_from-last user (entry ∷ behind) =
     elim (cases_Bool (entry.user == user)) [
       | inl own ↦ rw (own_from-own user entry behind own) (sym (last_of-all (entry ∷ behind)))
       | inr other ↦
           rw (own_from-other user entry behind other)
-          (own_from-last user behind ∙ sym (last_of-cons (length (own_from user behind)) entry behind (own_from-within user behind)))
+          (own_from-last user behind ∙ sym (last_of-cons (length (entries_from_own user behind)) entry behind (own_from-within user behind)))
     ]
 
-pub own_from-twice : (user : ℕ) (history : List Entry) → own_from user (own_from user history) ≡ own_from user history
+pub own_from-twice : (user : ℕ) (history : List Entry) → entries_from_own user (entries_from_own user history) ≡ entries_from_own user history
 own_from-twice user [] = refl
 own_from-twice user (entry ∷ behind) =
     elim (cases_Bool (entry.user == user)) [
@@ -71,18 +71,18 @@ own_from-twice user (entry ∷ behind) =
     ]
 
 -- where the history begins with an entry of the user, that is its first one
-pub own_from-begun : (user : ℕ) (entry : Entry) (behind : List Entry) → own_from user (entry ∷ behind) ≡ entry ∷ behind → entry.user ≡ user
+pub own_from-begun : (user : ℕ) (entry : Entry) (behind : List Entry) → entries_from_own user (entry ∷ behind) ≡ entry ∷ behind → entry.user ≡ user
 own_from-begun user entry behind begun =
     elim (cases_Bool (entry.user == user)) [
       | inl own ↦ eqb-true entry.user user own
       | inr other ↦
           let short = own_from-within user behind in
-          let long : length (own_from user behind) ≡ length (entry ∷ behind) = ap length (sym (own_from-other user entry behind other) ∙ begun) in
+          let long : length (entries_from_own user behind) ≡ length (entry ∷ behind) = ap length (sym (own_from-other user entry behind other) ∙ begun) in
           absurd (omega arith)
     ]
 
 -- a cube's trace is that from its user's next entry on
-pub trace-own : (cube : CubeGrant) (behind : List Entry) → trace_behind cube behind ≡ trace_behind cube (own_from cube.user behind)
+pub trace-own : (cube : CubeGrant) (behind : List Entry) → trace_behind cube behind ≡ trace_behind cube (entries_from_own cube.user behind)
 trace-own cube [] = refl
 trace-own cube (entry ∷ behind) =
     elim (cases_Bool (entry.user == cube.user)) [
@@ -94,20 +94,20 @@ trace-own cube (entry ∷ behind) =
 
 pub length-links_of : (history : List Entry) → length (links_of history) ≡ length history
 length-links_of [] = refl
-length-links_of (entry ∷ behind) = length_push (links_of behind) (length (own_from entry.user behind)) ∙ (let same = length-links_of behind in omega arith)
+length-links_of (entry ∷ behind) = length_push (links_of behind) (length (entries_from_own entry.user behind)) ∙ (let same = length-links_of behind in omega arith)
 
 -- the link of the entry that so many entries begin with
 pub link_at : (history : List Entry) (count d : ℕ) (entry : Entry) → 0 < count → count ≤ length history → last_of count history ≡ entry ∷ last_of (count - 1) history
-    → get_or (links_of history) (count - 1) d ≡ length (own_from entry.user (last_of (count - 1) history))
+    → get_or (links_of history) (count - 1) d ≡ length (entries_from_own entry.user (last_of (count - 1) history))
 link_at [] count d entry some within begins = absurd (omega arith)
 link_at (first ∷ behind) count d entry some within begins =
     let long : length (links_of behind) ≡ length behind = length-links_of behind in
-    let piece = length (own_from first.user behind) ∷ [] in
+    let piece = length (entries_from_own first.user behind) ∷ [] in
     elim (cases_lt (count - 1) (length behind)) [
       | inl inside ↦
           get_or_append_left (links_of behind) piece d (count - 1) (omega arith)
           ∙ link_at behind count d entry some (omega arith) (sym (last_of-cons count first behind (omega arith)) ∙ begins ∙ ap (λ more. entry ∷ more) (last_of-cons (count - 1) first behind (omega arith)))
-          ∙ ap (λ more. length (own_from entry.user more)) (sym (last_of-cons (count - 1) first behind (omega arith)))
+          ∙ ap (λ more. length (entries_from_own entry.user more)) (sym (last_of-cons (count - 1) first behind (omega arith)))
       | inr whole ↦
           let all : count - 1 ≡ length behind = omega arith in
           let count_is : count ≡ length (first ∷ behind) = omega arith in
@@ -116,8 +116,8 @@ link_at (first ∷ behind) count d entry some within begins =
           let same : first ∷ behind ≡ entry ∷ last_of (count - 1) (first ∷ behind) =
           sym (ap (λ n. last_of n (first ∷ behind)) count_is ∙ last_of-all (first ∷ behind)) ∙ begins in
           let first_is : first ≡ entry = cc in
-          get_or_push (links_of behind) (length (own_from first.user behind)) d (count - 1) (omega arith)
-          ∙ ap (λ e. length (own_from e.user behind)) first_is ∙ ap (λ more. length (own_from entry.user more)) (sym rest)
+          get_or_push (links_of behind) (length (entries_from_own first.user behind)) d (count - 1) (omega arith)
+          ∙ ap (λ e. length (entries_from_own e.user behind)) first_is ∙ ap (λ more. length (entries_from_own entry.user more)) (sym rest)
     ]
 
 -- what the entries from the next one of the user on are to those that begin behind an entry of the user
@@ -126,15 +126,15 @@ pub record IsNext (cube : CubeGrant) (history : List Entry) (count next : ℕ) :
   pub fewer : next ≤ count
   pub trace : trace_behind cube (last_of count history) ≡ trace_behind cube (last_of next history)
 
-pub next_from : (cube : CubeGrant) (history : List Entry) (count next : ℕ) → count ≤ length history → next ≡ length (own_from cube.user (last_of count history)) → IsNext cube history count next
+pub next_from : (cube : CubeGrant) (history : List Entry) (count next : ℕ) → count ≤ length history → next ≡ length (entries_from_own cube.user (last_of count history)) → IsNext cube history count next
 next_from cube history count next within is =
     let rest = last_of count history in
     let long : length rest ≡ count = length-last_of count history within in
     let fewer : next ≤ count = omega (arith, own_from-within cube.user rest) in
-    let same : own_from cube.user rest ≡ last_of next history =
+    let same : entries_from_own cube.user rest ≡ last_of next history =
     own_from-last cube.user rest ∙ ap (λ n. last_of n rest) (sym is) ∙ last_of-last_of next count history fewer within in
     record {
-      own = record { within = omega arith; begun = ap (own_from cube.user) (sym same) ∙ own_from-twice cube.user rest ∙ same };
+      own = record { within = omega arith; begun = ap (entries_from_own cube.user) (sym same) ∙ own_from-twice cube.user rest ∙ same };
       fewer = fewer;
       trace = trace-own cube rest ∙ ap (trace_behind cube) same;
     }
@@ -149,13 +149,13 @@ next_linked : (cube : CubeGrant) (history : List Entry) (links : List ℕ) (left
     → last_of left history ≡ entry ∷ last_of (left - 1) history → entry.user ≡ cube.user → IsNext cube history (left - 1) (get_or links (left - 1) 0)
 next_linked cube history links left entry linked some within begins user =
     next_from cube history (left - 1) (get_or links (left - 1) 0) (omega arith)
-    (ap (λ all. get_or all (left - 1) 0) linked ∙ link_at history left 0 entry some within begins ∙ ap (λ u. length (own_from u (last_of (left - 1) history))) user)
+    (ap (λ all. get_or all (left - 1) 0) linked ∙ link_at history left 0 entry some within begins ∙ ap (λ u. length (entries_from_own u (last_of (left - 1) history))) user)
 
 pub turn_at : (cube : CubeGrant) (history : List Entry) (links : List ℕ) (left : ℕ) (entry : Entry) → links ≡ links_of history → IsOwn history cube.user left
     → 0 < left → entry ≡ get_or history (length history - left) entry → IsTurnAt cube history left entry (get_or links (left - 1) 0)
 turn_at cube history links left entry linked own some is =
     let begins = last_of-more left history entry some own.within is in
-    let user = own_from-begun cube.user entry (last_of (left - 1) history) (ap (own_from cube.user) (sym begins) ∙ own.begun ∙ begins) in
+    let user = own_from-begun cube.user entry (last_of (left - 1) history) (ap (entries_from_own cube.user) (sym begins) ∙ own.begun ∙ begins) in
     record { begins = begins; user = user; on = next_linked cube history links left entry linked some own.within begins user }
 
 -- the same from the place of a grant

@@ -14,7 +14,7 @@ use Rattle.ce_trace.specs.Sections.{sections_text}
 
 -- a section whose trace a function gives
 abbrev text_by : Script → Record → (ℕ → List Entry) → ℕ × CubeGrant → List ℕ
-text_by script kept trace numbered = cube_line kept numbered.0 numbered.1 ++ flat_map (entry_line script) (trace numbered.0)
+text_by script run_record trace numbered = cube_line run_record numbered.0 numbered.1 ++ flat_map (entry_line script) (trace numbered.0)
 
 -- the trace that stands in a history, or none
 abbrev found_trace : Option (CubeGrant × List Entry) → List Entry
@@ -54,27 +54,27 @@ traces-here trace number entry behind cube e h =
     ap trace same ∙ h.at 0 ∙ ap found_trace (grant-here (entry_grant entry) behind (history_behind_grant behind) cube e)
 
 -- one entry more in front
-by_grant : (script : Script) (kept : Record) (trace : ℕ → List Entry) (entry : Entry) (behind : List Entry) (number : ℕ) (grant : Option CubeGrant)
+by_grant : (script : Script) (run_record : Record) (trace : ℕ → List Entry) (entry : Entry) (behind : List Entry) (number : ℕ) (grant : Option CubeGrant)
     → entry_grant entry ≡ grant
-    → ((next : ℕ) → AreTraces trace next behind → flat_map (text_by script kept trace) (enumerate_from next (grants_of behind)) ≡ sections_text script kept next behind)
+    → ((next : ℕ) → AreTraces trace next behind → flat_map (text_by script run_record trace) (enumerate_from next (grants_of behind)) ≡ sections_text script run_record next behind)
     → AreTraces trace number (entry ∷ behind)
-    → flat_map (text_by script kept trace) (enumerate_from number (grants_of (entry ∷ behind))) ≡ sections_text script kept number (entry ∷ behind)
-by_grant script kept trace entry behind number None e later h = rw e (later number (traces-pass trace number entry behind e h))
-by_grant script kept trace entry behind number (Some cube) e later h =
-    let texts = flat_map (text_by script kept trace) (enumerate_from (number + 1) (grants_of behind)) in
+    → flat_map (text_by script run_record trace) (enumerate_from number (grants_of (entry ∷ behind))) ≡ sections_text script run_record number (entry ∷ behind)
+by_grant script run_record trace entry behind number None e later h = rw e (later number (traces-pass trace number entry behind e h))
+by_grant script run_record trace entry behind number (Some cube) e later h =
+    let texts = flat_map (text_by script run_record trace) (enumerate_from (number + 1) (grants_of behind)) in
     rw e
-    (ap (λ t. (cube_line kept number cube ++ flat_map (entry_line script) t) ++ texts) (traces-here trace number entry behind cube e h)
-    ∙ ap (λ more. (cube_line kept number cube ++ flat_map (entry_line script) (trace_behind cube behind)) ++ more) (later (number + 1) (traces-later trace number entry behind cube e h)))
+    (ap (λ t. (cube_line run_record number cube ++ flat_map (entry_line script) t) ++ texts) (traces-here trace number entry behind cube e h)
+    ∙ ap (λ more. (cube_line run_record number cube ++ flat_map (entry_line script) (trace_behind cube behind)) ++ more) (later (number + 1) (traces-later trace number entry behind cube e h)))
 
-by_number : (script : Script) (kept : Record) (trace : ℕ → List Entry) (history : List Entry) (number : ℕ) → AreTraces trace number history
-    → flat_map (text_by script kept trace) (enumerate_from number (grants_of history)) ≡ sections_text script kept number history
-by_number script kept trace [] number h = refl
-by_number script kept trace (entry ∷ behind) number h =
-    by_grant script kept trace entry behind number (entry_grant entry) refl (by_number script kept trace behind) h
+by_number : (script : Script) (run_record : Record) (trace : ℕ → List Entry) (history : List Entry) (number : ℕ) → AreTraces trace number history
+    → flat_map (text_by script run_record trace) (enumerate_from number (grants_of history)) ≡ sections_text script run_record number history
+by_number script run_record trace [] number h = refl
+by_number script run_record trace (entry ∷ behind) number h =
+    by_grant script run_record trace entry behind number (entry_grant entry) refl (by_number script run_record trace behind) h
 
 -- the sections of a report are those that follow from the history behind each grant
-pub report_sections : (script : Script) (kept : Record)
-    → flat_map (cube_text script kept) (enumerate_from 0 (grants_of kept.history)) ≡ sections_text script kept 0 kept.history
+pub report_sections : (script : Script) (run_record : Record)
+    → flat_map (cube_text script run_record) (enumerate_from 0 (grants_of run_record.history)) ≡ sections_text script run_record 0 run_record.history
 unfolding view
-report_sections script kept =
-    by_number script kept (view kept.history) kept.history 0 (record { at = λ k. let same : 0 + k ≡ k = omega arith in ap (view kept.history) same })
+report_sections script run_record =
+    by_number script run_record (view run_record.history) run_record.history 0 (record { at = λ k. let same : 0 + k ≡ k = omega arith in ap (view run_record.history) same })

@@ -1,5 +1,5 @@
 -- The trace of a cube, by the next entry of the history behind its grant.
-use Rattle.std.proofs.Common.{◌≡◌, ℕ, ◌+◌, ◌<◌, List, [], ◌∷◌, ◌++◌, append_assoc, Bool, true, false, not, ◌&&◌, ◌==◌, is_some, refl, ap, sym, ◌∙◌, map, filter, drop, get_or, length}
+use Rattle.std.proofs.Common.{◌≡◌, ℕ, ◌+◌, ◌<◌, List, [], ◌∷◌, ◌++◌, append_assoc, Bool, true, false, not, ◌&&◌, ◌==◌, is_some, refl, ap, sym, ◌∙◌, drop, get_or, length}
 use Rattle.std.specs.List.{flat_map, take_while}
 use Rattle.std.proofs.lemmas.Bool.{eq-eqb, ne_eqb}
 use Rattle.std.proofs.lemmas.List.{at_drop_more}
@@ -9,15 +9,11 @@ use Rattle.ce_model.specs.declared.entry.What.{What}
 use Rattle.ce_model.specs.declared.entry.What.TheVariants.{Drain}
 use Rattle.ce_model.specs.Answers.{recorded_call}
 use Rattle.ce_model.specs.Renaming.{CubeGrant, entry_inward}
-use Rattle.ce_model.specs.Views.{is_drain, trace_behind}
+use Rattle.ce_model.specs.Views.{is_drain, cube_entries, trace_behind}
 
 -- before the cube's drain
 abbrev is_before : CubeGrant → Entry → Bool
 is_before cube entry = not (entry.user == cube.user && is_drain entry.what)
-
--- of the entries before the drain the calls, renamed
-abbrev calls_in : CubeGrant → List Entry → List Entry
-calls_in cube entries = map (entry_inward cube.sub) (filter (λ entry. entry.user == cube.user && is_some (recorded_call entry.what)) entries)
 
 no_drain : (what : What) → is_some (recorded_call what) ≡ true → is_drain what ≡ false
 no_drain Drain called = cc
@@ -29,7 +25,7 @@ pub trace-drain : (cube : CubeGrant) (entry : Entry) (behind : List Entry) → e
 trace-drain cube entry behind own drained =
     let kept : take_while (is_before cube) (entry ∷ behind) ≡ [] =
     take_while-cons (is_before cube) entry behind ∙ rw (eq-eqb entry.user cube.user own, drained) refl in
-    ap (calls_in cube) kept
+    ap (cube_entries cube) kept
 
 -- a call of the cube's user stands in the trace
 pub trace-call : (cube : CubeGrant) (entry : Entry) (behind : List Entry) → entry.user ≡ cube.user → is_some (recorded_call entry.what) ≡ true
@@ -37,7 +33,7 @@ pub trace-call : (cube : CubeGrant) (entry : Entry) (behind : List Entry) → en
 trace-call cube entry behind own called =
     let kept : take_while (is_before cube) (entry ∷ behind) ≡ entry ∷ take_while (is_before cube) behind =
     take_while-cons (is_before cube) entry behind ∙ rw (eq-eqb entry.user cube.user own, no_drain entry.what called) refl in
-    ap (calls_in cube) kept ∙ rw (eq-eqb entry.user cube.user own, called) refl
+    ap (cube_entries cube) kept ∙ rw (eq-eqb entry.user cube.user own, called) refl
 
 -- what else the user did does not
 pub trace-pass : (cube : CubeGrant) (entry : Entry) (behind : List Entry) → entry.user ≡ cube.user → is_drain entry.what ≡ false
@@ -45,7 +41,7 @@ pub trace-pass : (cube : CubeGrant) (entry : Entry) (behind : List Entry) → en
 trace-pass cube entry behind own drained called =
     let kept : take_while (is_before cube) (entry ∷ behind) ≡ entry ∷ take_while (is_before cube) behind =
     take_while-cons (is_before cube) entry behind ∙ rw (eq-eqb entry.user cube.user own, drained) refl in
-    ap (calls_in cube) kept ∙ rw (eq-eqb entry.user cube.user own, called) refl
+    ap (cube_entries cube) kept ∙ rw (eq-eqb entry.user cube.user own, called) refl
 
 -- nor does what another user did
 pub trace-other : (cube : CubeGrant) (entry : Entry) (behind : List Entry) → (entry.user ≡ cube.user → ⊥)
@@ -53,7 +49,7 @@ pub trace-other : (cube : CubeGrant) (entry : Entry) (behind : List Entry) → (
 trace-other cube entry behind other =
     let kept : take_while (is_before cube) (entry ∷ behind) ≡ entry ∷ take_while (is_before cube) behind =
     take_while-cons (is_before cube) entry behind ∙ rw (ne_eqb entry.user cube.user other) refl in
-    ap (calls_in cube) kept ∙ rw (ne_eqb entry.user cube.user other) refl
+    ap (cube_entries cube) kept ∙ rw (ne_eqb entry.user cube.user other) refl
 
 -- ---- the same at a place of the history
 

@@ -7,16 +7,16 @@ abbrev pub last_of : ℕ → List Entry → List Entry
 last_of count history = drop (length history - count) history
 
 -- the history from the first entry of a user on
-abbrev pub own_from : ℕ → List Entry → List Entry
-own_from user [] = []
-own_from user (entry ∷ behind) = if entry.user == user then entry ∷ behind else own_from user behind
+abbrev pub entries_from_own : ℕ → List Entry → List Entry
+entries_from_own user [] = []
+entries_from_own user (entry ∷ behind) = if entry.user == user then entry ∷ behind else entries_from_own user behind
 
 -- for each entry, the last one first: how many entries there are from the next one of its user on
 abbrev pub links_of : List Entry → List ℕ
 links_of [] = []
-links_of (entry ∷ behind) = links_of behind ++ length (own_from entry.user behind) ∷ []
+links_of (entry ∷ behind) = links_of behind ++ length (entries_from_own entry.user behind) ∷ []
 
 -- the last entries, this many, begin with one of the user, where there are any
 pub record IsOwn (history : List Entry) (user count : ℕ) : Type 0 where
   pub within : count ≤ length history
-  pub begun : own_from user (last_of count history) ≡ last_of count history
+  pub begun : entries_from_own user (last_of count history) ≡ last_of count history

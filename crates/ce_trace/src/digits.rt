@@ -1,5 +1,6 @@
 //! Numbers and bytes as digits.
 ghost use Rattle.std.specs.Prelude.{◌≡◌, ◌<◌, [], ◌∷◌, ◌++◌, OnOk, decimal, slice_index};
+ghost use Rattle.ce_text.specs.Bytes.{space};
 ghost use Rattle.hex.specs.Hex.{encode_lower, lower_digits};
 ghost use Rattle.ce_script.specs.TextParts.{bytes_text, word_text};
 ghost use Rattle.ce_script.specs.EntryText.{number_text};
@@ -20,7 +21,7 @@ pub(crate) fn push_decimal(text: &mut Vec<u8>, n: u64) -> Result<(), AllocError>
 
 /// A number as a word, with a space before it.
 pub(crate) fn push_number(text: &mut Vec<u8>, n: u64) -> Result<(), AllocError>
-    ensures { OnOk result (text.new.items ≡ text.old.items ++ (32 ∷ decimal n)) }
+    ensures { OnOk result (text.new.items ≡ text.old.items ++ (space ∷ decimal n)) }
 {
     push(text, b" ")?;
     push_decimal(text, n)
@@ -33,7 +34,7 @@ pub(crate) fn push_with_number(
     number: u32,
 ) -> Result<(), AllocError>
     ensures { OnOk result
-        (text.new.items ≡ text.old.items ++ (words.now ++ (32 ∷ decimal number))) }
+        (text.new.items ≡ text.old.items ++ (words.now ++ (space ∷ decimal number))) }
 {
     push(text, words)?;
     push_number(text, u64::from(number))
@@ -41,7 +42,7 @@ pub(crate) fn push_with_number(
 
 /// A number as a word, or `-` for none, with a space before it.
 pub(crate) fn push_some_number(text: &mut Vec<u8>, n: Option<u64>) -> Result<(), AllocError>
-    ensures { OnOk result (text.new.items ≡ text.old.items ++ (32 ∷ number_text n)) }
+    ensures { OnOk result (text.new.items ≡ text.old.items ++ (space ∷ number_text n)) }
 {
     match n {
         None => push(text, b" -"),
@@ -80,7 +81,7 @@ fn digit(n: u8) -> u8
 
 /// Data as a word, two digits for each byte, or `-` for none, with a space before it.
 pub(crate) fn push_data(text: &mut Vec<u8>, bytes: &[u8]) -> Result<(), AllocError>
-    ensures { OnOk result (text.new.items ≡ text.old.items ++ (32 ∷ bytes_text bytes.now)) }
+    ensures { OnOk result (text.new.items ≡ text.old.items ++ (space ∷ bytes_text bytes.now)) }
 {
     if bytes.is_empty() {
         return push(text, b" -");
@@ -91,7 +92,7 @@ pub(crate) fn push_data(text: &mut Vec<u8>, bytes: &[u8]) -> Result<(), AllocErr
 
 /// An address or an instruction word, with a space before it.
 pub(crate) fn push_address(text: &mut Vec<u8>, n: u32) -> Result<(), AllocError>
-    ensures { OnOk result (text.new.items ≡ text.old.items ++ (32 ∷ word_text n)) }
+    ensures { OnOk result (text.new.items ≡ text.old.items ++ (space ∷ word_text n)) }
 {
     push(text, b" 0x")?;
     push_hex(text, &n.to_be_bytes())

@@ -1,7 +1,8 @@
 //! The lines of a cube's trace.
 ghost use Rattle.std.specs.Prelude.{◌≡◌, [], ◌∷◌, ◌++◌, OnOk, None, codes, decimal, map, ◌==◌, if◌then◌else◌};
+ghost use Rattle.ce_text.specs.Bytes.{space};
 ghost use Rattle.ce_model.specs.Renaming.{block_inward, entry_inward, place_inward, renamed_targets, renamed_what};
-ghost use Rattle.ce_script.specs.TextParts.{bytes_text, image_name, place_text, words};
+ghost use Rattle.ce_script.specs.TextParts.{bytes_text, image_name, place_text, joined_words};
 ghost use Rattle.ce_script.specs.EntryText.{actor_words, entry_line, found_text, given_words, kill_found_text, number_text, target_text, targets_text, what_words};
 ghost use Rattle.ce_trace.specs.Spaced.{spaced_words};
 
@@ -33,7 +34,7 @@ pub(crate) fn push_entry(
 
 /// Who made the entry.
 fn push_actor(text: &mut Vec<u8>, actor: u32) -> Result<(), AllocError>
-    ensures { OnOk result (text.new.items ≡ text.old.items ++ words (actor_words actor)) }
+    ensures { OnOk result (text.new.items ≡ text.old.items ++ joined_words (actor_words actor)) }
 {
     if actor == HOST {
         return push(text, b"host");
@@ -82,7 +83,7 @@ fn push_what(
 
 /// A place as a word, with a space before it.
 fn push_place_word(text: &mut Vec<u8>, place: Place) -> Result<(), AllocError>
-    ensures { OnOk result (text.new.items ≡ text.old.items ++ (32 ∷ place_text place)) }
+    ensures { OnOk result (text.new.items ≡ text.old.items ++ (space ∷ place_text place)) }
 {
     push(text, b" ")?;
     push_place(text, place)
@@ -190,7 +191,7 @@ fn push_take(
 /// Whether a process was started, with a space before the word.
 fn push_fresh(text: &mut Vec<u8>, fresh: bool) -> Result<(), AllocError>
     ensures { OnOk result (text.new.items
-        ≡ text.old.items ++ (32 ∷ (if fresh then codes "ok" else codes "used"))) }
+        ≡ text.old.items ++ (space ∷ (if fresh then codes "ok" else codes "used"))) }
 {
     match fresh {
         true => push(text, b" ok"),
@@ -200,7 +201,7 @@ fn push_fresh(text: &mut Vec<u8>, fresh: bool) -> Result<(), AllocError>
 
 /// What a kill found, with a space before the word.
 fn push_kill_found(text: &mut Vec<u8>, found: KillFound) -> Result<(), AllocError>
-    ensures { OnOk result (text.new.items ≡ text.old.items ++ (32 ∷ kill_found_text found)) }
+    ensures { OnOk result (text.new.items ≡ text.old.items ++ (space ∷ kill_found_text found)) }
 {
     match found {
         KillFound::Killed => push(text, b" ok"),

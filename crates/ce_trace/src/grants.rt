@@ -2,14 +2,15 @@
 ghost use Rattle.std.specs.Prelude.{◌≡◌, IfSome, is_some, option_map};
 ghost use Rattle.ce_model.specs.Answers.{recorded_call};
 ghost use Rattle.ce_model.specs.Views.{entry_grant, is_drain};
-ghost use Rattle.ce_trace.specs.Sections.{numbered_grant};
+ghost use Rattle.ce_daemon.specs.Peeks.{numbered_grant};
 
 use ce_daemon::Grant;
 use ce_model::{Entry, What};
 
 /// The cube that an entry grants, under this number.
 pub(crate) fn grant_by(entry: &Entry, number: u64) -> Option<Grant>
-    ensures cube { result ≡ option_map (numbered_grant number) (entry_grant entry.now) }
+    ensures cube { result
+        ≡ option_map (λ cube. numbered_grant (number, cube)) (entry_grant entry.now) }
     ensures user { IfSome result (λ grant. grant.user ≡ entry.now.user) }
 {
     match entry.what {

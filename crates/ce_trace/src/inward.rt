@@ -4,14 +4,10 @@ ghost use Rattle.ce_model.specs.Subcubes.{relative_number};
 ghost use Rattle.ce_model.specs.Renaming.{block_inward, entry_inward, place_inward, renamed_targets, renamed_what};
 
 use ce_model::{
-    BlockId, Bytes, Entry, GREATEST_DIMENSION, HOST, HOST_HOME, NoMemory, Place, Subcube, Targets,
-    What,
+    BlockId, Bytes, Entry, GREATEST_NODES, HOST, HOST_HOME, NoMemory, Place, Subcube, Targets, What,
 };
 use ce_set::extract;
 use std::alloc::Global;
-
-/// How many nodes the greatest machine has.
-const GREATEST_NODES: u32 = 1 << GREATEST_DIMENSION;
 
 /// The number by which the cube knows a node; the host keeps its number.
 pub(crate) fn relative_number(sub: Subcube, node: u32) -> u32

@@ -15,10 +15,10 @@ pub(crate) fn image_name(script: &Script, image: u32) -> &[u8]
 }
 
 /// The name of a user, by number; the empty text where there is no such user.
-pub(crate) fn user_name(kept: &Record, user: u32) -> &[u8]
-    ensures { result.now ≡ user_name kept.now user }
+pub(crate) fn user_name(run_record: &Record, user: u32) -> &[u8]
+    ensures { result.now ≡ user_name run_record.now user }
 {
-    match kept.users.get(user as usize) {
+    match run_record.users.get(user as usize) {
         Some(of) => of.name.as_str().as_bytes(),
         None => b"",
     }

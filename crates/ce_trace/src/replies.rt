@@ -1,6 +1,6 @@
 //! The replies to a user's commands.
 ghost use Rattle.std.specs.Prelude.{◌≡◌, [], ◌∷◌, ◌++◌, OnOk, codes, decimal, flat_map};
-ghost use Rattle.ce_script.specs.TextParts.{bytes_text, place_text, subcube_words, words};
+ghost use Rattle.ce_script.specs.TextParts.{bytes_text, place_text, subcube_words, joined_words};
 ghost use Rattle.ce_script.specs.CommandText.{grant_text, peeked_text, reply_text};
 ghost use Rattle.ce_trace.specs.Spaced.{spaced_words};
 
@@ -18,11 +18,11 @@ use std::alloc::AllocError;
 /// A reply.
 pub(crate) fn push_reply(
     text: &mut Vec<u8>,
-    kept: &Record,
+    run_record: &Record,
     answer: &Answer,
 ) -> Result<(), AllocError>
     ensures { OnOk result (text.new.items
-        ≡ text.old.items ++ reply_text kept.now answer.now) }
+        ≡ text.old.items ++ reply_text run_record.now answer.now) }
 {
     match answer {
         Answer::NoCube => push(text, b"no cube"),
@@ -32,7 +32,7 @@ pub(crate) fn push_reply(
             push(text, b"granted")?;
             push_subcube(text, *sub)
         }
-        Answer::Peeked(found) => push_peeked(text, kept, found),
+        Answer::Peeked(found) => push_peeked(text, run_record, found),
         Answer::Freed => push(text, b"freed"),
         Answer::Ok => push(text, b"ok"),
         Answer::NoPlace => push(text, b"no place"),
@@ -54,7 +54,7 @@ pub(crate) fn push_reply(
 /// A message: who sent it, and its bytes.
 fn push_message(text: &mut Vec<u8>, from: Place, bytes: &Bytes) -> Result<(), AllocError>
     ensures { OnOk result (text.new.items ≡ text.old.items
-        ++ words (codes "message" ∷ place_text from ∷ bytes_text bytes.now ∷ [])) }
+        ++ joined_words (codes "message" ∷ place_text from ∷ bytes_text bytes.now ∷ [])) }
 {
     push(text, b"message ")?;
     push_place(text, from)?;
@@ -62,33 +62,37 @@ fn push_message(text: &mut Vec<u8>, from: Place, bytes: &Bytes) -> Result<(), Al
 }
 
 /// How many nodes are free, and which cubes are held.
-fn push_peeked(text: &mut Vec<u8>, kept: &Record, found: &PeekResult) -> Result<(), AllocError>
+fn push_peeked(
+    text: &mut Vec<u8>,
+    run_record: &Record,
+    found: &PeekResult,
+) -> Result<(), AllocError>
     ensures { OnOk result
-        (text.new.items ≡ text.old.items ++ peeked_text kept.now found.now) }
+        (text.new.items ≡ text.old.items ++ peeked_text run_record.now found.now) }
 {
     push(text, b"free")?;
     push_number(text, u64::from(found.free))?;
-    push_grants(text, kept, found.grants.as_slice())
+    push_grants(text, run_record, found.grants.as_slice())
 }
 
 /// The cubes that are held.
-fn push_grants(text: &mut Vec<u8>, kept: &Record, grants: &[Grant]) -> Result<(), AllocError>
+fn push_grants(text: &mut Vec<u8>, run_record: &Record, grants: &[Grant]) -> Result<(), AllocError>
     ensures { OnOk result (text.new.items
-        ≡ text.old.items ++ flat_map (grant_text kept.now) grants.now) }
+        ≡ text.old.items ++ flat_map (grant_text run_record.now) grants.now) }
 {
     for grant in grants {
-        push_grant(text, kept, grant)?;
+        push_grant(text, run_record, grant)?;
     }
     Ok(())
 }
 
 /// A cube that is held, behind what stands before it.
-fn push_grant(text: &mut Vec<u8>, kept: &Record, grant: &Grant) -> Result<(), AllocError>
+fn push_grant(text: &mut Vec<u8>, run_record: &Record, grant: &Grant) -> Result<(), AllocError>
     ensures { OnOk result
-        (text.new.items ≡ text.old.items ++ grant_text kept.now grant.now) }
+        (text.new.items ≡ text.old.items ++ grant_text run_record.now grant.now) }
 {
     push(text, b", ")?;
-    push(text, user_name(kept, grant.user))?;
+    push(text, user_name(run_record, grant.user))?;
     push_extent(text, grant)
 }
 

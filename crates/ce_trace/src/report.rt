@@ -17,18 +17,22 @@ use std::alloc::{AllocError, Global};
 /// The report of a script's run: the machine, each user with the commands and replies, each cube that was granted with
 /// its trace, and `end`. A script without statements has none. `NoMemory` may come at any time.
 #[tactic(auto, using(crate::proofs::Numbers::report_sections), unfolding(ce_script::specs::Texts::report))]
-pub fn write_report(alloc: Global, script: &Script, kept: &Record) -> Result<Vec<u8>, NoMemory>
-    ensures { IfOk result (λ text. text.items ≡ report script.now kept.now) }
+pub fn write_report(
+    alloc: Global,
+    script: &Script,
+    run_record: &Record,
+) -> Result<Vec<u8>, NoMemory>
+    ensures { IfOk result (λ text. text.items ≡ report script.now run_record.now) }
 {
     let mut text = Vec::new(alloc);
     let Some(dim) = script.dim else {
         return Ok(text);
     };
     push_machine(&mut text, dim)?;
-    push_users(&mut text, script, kept)?;
-    let history = kept.history.as_slice();
+    push_users(&mut text, script, run_record)?;
+    let history = run_record.history.as_slice();
     let links = links_of(alloc, history)?;
-    push_sections(&mut text, script, kept, history, links.as_slice())?;
+    push_sections(&mut text, script, run_record, history, links.as_slice())?;
     push(&mut text, b"end\n")?;
     Ok(text)
 }
@@ -44,12 +48,12 @@ fn push_machine(text: &mut Vec<u8>, dim: u32) -> Result<(), AllocError>
 }
 
 /// All users, and what they did.
-fn push_users(text: &mut Vec<u8>, script: &Script, kept: &Record) -> Result<(), AllocError>
+fn push_users(text: &mut Vec<u8>, script: &Script, run_record: &Record) -> Result<(), AllocError>
     ensures { OnOk result (text.new.items
-        ≡ text.old.items ++ flat_map (user_text script.now kept.now) kept.now.users) }
+        ≡ text.old.items ++ flat_map (user_text script.now run_record.now) run_record.now.users) }
 {
-    for user in kept.users.as_slice() {
-        push_user(text, script, kept, user)?;
+    for user in run_record.users.as_slice() {
+        push_user(text, script, run_record, user)?;
     }
     Ok(())
 }
@@ -58,17 +62,17 @@ fn push_users(text: &mut Vec<u8>, script: &Script, kept: &Record) -> Result<(), 
 fn push_user(
     text: &mut Vec<u8>,
     script: &Script,
-    kept: &Record,
+    run_record: &Record,
     user: &UserRecord,
 ) -> Result<(), AllocError>
     ensures { OnOk result (text.new.items
-        ≡ text.old.items ++ user_text script.now kept.now user.now) }
+        ≡ text.old.items ++ user_text script.now run_record.now user.now) }
 {
     push(text, b"user")?;
     push_word(text, user.name.as_str().as_bytes())?;
     push_line_feed(text)?;
     for done in user.done.as_slice() {
-        push_done(text, script, kept, done)?;
+        push_done(text, script, run_record, done)?;
     }
     Ok(())
 }
@@ -77,14 +81,14 @@ fn push_user(
 fn push_done(
     text: &mut Vec<u8>,
     script: &Script,
-    kept: &Record,
+    run_record: &Record,
     done: &(Command, Answer),
 ) -> Result<(), AllocError>
     ensures { OnOk result (text.new.items
-        ≡ text.old.items ++ done_text script.now kept.now done.now) }
+        ≡ text.old.items ++ done_text script.now run_record.now done.now) }
 {
     push_command(text, script, &done.0)?;
     push(text, b"\n= ")?;
-    push_reply(text, kept, &done.1)?;
+    push_reply(text, run_record, &done.1)?;
     push_line_feed(text)
 }

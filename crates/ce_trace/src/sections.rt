@@ -4,7 +4,8 @@ ghost use Rattle.ce_model.specs.Views.{grants_of, trace_behind};
 ghost use Rattle.ce_script.specs.EntryText.{entry_line};
 ghost use Rattle.ce_script.specs.Texts.{cube_line};
 ghost use Rattle.ce_trace.specs.Links.{last_of, links_of, IsOwn};
-ghost use Rattle.ce_trace.specs.Sections.{cube_of, sections_text};
+ghost use Rattle.ce_trace.specs.Sections.{sections_text};
+ghost use Rattle.ce_daemon.specs.Peeks.{cube_grant};
 
 use crate::digits::push_number;
 use crate::entries::push_entry;
@@ -21,19 +22,19 @@ use std::alloc::AllocError;
 pub(crate) fn push_sections(
     text: &mut Vec<u8>,
     script: &Script,
-    kept: &Record,
+    run_record: &Record,
     history: &[Entry],
     links: &[usize],
 ) -> Result<(), AllocError>
     requires { links.now ≡ links_of history.now }
     ensures { OnOk result (text.new.items
-        ≡ text.old.items ++ sections_text script.now kept.now 0 history.now) }
+        ≡ text.old.items ++ sections_text script.now run_record.now 0 history.now) }
 {
     let mut number = 0;
     for (at, entry) in history.iter().enumerate() {
         if let Some(grant) = grant_by(entry, number) {
             let next = links[history.len() - at - 1];
-            push_head(text, kept, &grant)?;
+            push_head(text, run_record, &grant)?;
             push_trace(text, script, history, links, &grant, next)?;
             number += 1;
         }
@@ -42,14 +43,14 @@ pub(crate) fn push_sections(
 }
 
 /// The head of a cube's section: whose it is and which nodes it is.
-fn push_head(text: &mut Vec<u8>, kept: &Record, grant: &Grant) -> Result<(), AllocError>
+fn push_head(text: &mut Vec<u8>, run_record: &Record, grant: &Grant) -> Result<(), AllocError>
     ensures { OnOk result (text.new.items
-        ≡ text.old.items ++ cube_line kept.now grant.now.number (cube_of grant.now)) }
+        ≡ text.old.items ++ cube_line run_record.now grant.now.number (cube_grant grant.now)) }
 {
     push(text, b"cube")?;
     push_number(text, grant.number)?;
     push(text, b" user")?;
-    push_word(text, user_name(kept, grant.user))?;
+    push_word(text, user_name(run_record, grant.user))?;
     push_extent(text, grant)?;
     push_line_feed(text)
 }
@@ -66,7 +67,7 @@ fn push_trace(
     requires linked { links.now ≡ links_of history.now }
     requires own { IsOwn history.now grant.now.user next }
     ensures { OnOk result (text.new.items ≡ text.old.items ++ flat_map (entry_line script.now)
-        (trace_behind (cube_of grant.now) (last_of next history.now))) }
+        (trace_behind (cube_grant grant.now) (last_of next history.now))) }
 {
     let mut left = next;
     while left > 0 {

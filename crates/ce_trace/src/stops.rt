@@ -1,6 +1,7 @@
 //! What a process does, and why it stopped.
 ghost use Rattle.std.specs.Prelude.{◌≡◌, ◌∷◌, ◌++◌, OnOk, decimal};
-ghost use Rattle.ce_script.specs.TextParts.{word_text, words};
+ghost use Rattle.ce_text.specs.Bytes.{space};
+ghost use Rattle.ce_script.specs.TextParts.{word_text, joined_words};
 ghost use Rattle.ce_script.specs.CommandText.{status_words, stop_words};
 ghost use Rattle.ce_trace.specs.Spaced.{spaced_words};
 
@@ -34,7 +35,7 @@ fn push_stop(text: &mut Vec<u8>, cause: Stop) -> Result<(), AllocError>
 /// A cause that comes with an address.
 fn push_at(text: &mut Vec<u8>, cause: &[u8], address: u32) -> Result<(), AllocError>
     ensures { OnOk result
-        (text.new.items ≡ text.old.items ++ (cause.now ++ (32 ∷ word_text address))) }
+        (text.new.items ≡ text.old.items ++ (cause.now ++ (space ∷ word_text address))) }
 {
     push(text, cause)?;
     push_address(text, address)
@@ -51,7 +52,7 @@ fn push_illegal(text: &mut Vec<u8>, pc: u32, word: u32) -> Result<(), AllocError
 
 /// What a process does.
 pub(crate) fn push_status(text: &mut Vec<u8>, status: Status) -> Result<(), AllocError>
-    ensures { OnOk result (text.new.items ≡ text.old.items ++ words (status_words status)) }
+    ensures { OnOk result (text.new.items ≡ text.old.items ++ joined_words (status_words status)) }
 {
     match status {
         Status::Unborn => push(text, b"unborn"),

@@ -15,37 +15,41 @@ use std::alloc::{AllocError, Global};
 /// The summary of the load of a seed: each user, and what its first `recv` was answered; a user without one has an
 /// empty answer. `NoMemory` may come at any time.
 #[tactic(auto, unfolding(ce_script::specs::Texts::summary))]
-pub fn write_summary(alloc: Global, seed: u32, kept: &Record) -> Result<Vec<u8>, NoMemory>
-    ensures { IfOk result (λ text. text.items ≡ summary seed kept.now) }
+pub fn write_summary(alloc: Global, seed: u32, run_record: &Record) -> Result<Vec<u8>, NoMemory>
+    ensures { IfOk result (λ text. text.items ≡ summary seed run_record.now) }
 {
     let mut text = Vec::new(alloc);
     push(&mut text, b"load")?;
     push_number(&mut text, u64::from(seed))?;
     push_line_feed(&mut text)?;
-    for user in kept.users.as_slice() {
-        push_received(&mut text, kept, user)?;
+    for user in run_record.users.as_slice() {
+        push_received(&mut text, run_record, user)?;
     }
     Ok(text)
 }
 
 /// A user, and what its `recv` was answered.
-fn push_received(text: &mut Vec<u8>, kept: &Record, user: &UserRecord) -> Result<(), AllocError>
+fn push_received(
+    text: &mut Vec<u8>,
+    run_record: &Record,
+    user: &UserRecord,
+) -> Result<(), AllocError>
     ensures { OnOk result (text.new.items
-        ≡ text.old.items ++ line (user.now.name ∷ received_text kept.now user.now ∷ [])) }
+        ≡ text.old.items ++ line (user.now.name ∷ received_text run_record.now user.now ∷ [])) }
 {
     push(text, user.name.as_str().as_bytes())?;
     push(text, b" ")?;
-    push_answer(text, kept, user)?;
+    push_answer(text, run_record, user)?;
     push_line_feed(text)
 }
 
 /// What the `recv` of a user was answered.
-fn push_answer(text: &mut Vec<u8>, kept: &Record, user: &UserRecord) -> Result<(), AllocError>
+fn push_answer(text: &mut Vec<u8>, run_record: &Record, user: &UserRecord) -> Result<(), AllocError>
     ensures { OnOk result (text.new.items
-        ≡ text.old.items ++ received_text kept.now user.now) }
+        ≡ text.old.items ++ received_text run_record.now user.now) }
 {
     match first_recv(user.done.as_slice()) {
-        Some(done) => push_reply(text, kept, &done.1),
+        Some(done) => push_reply(text, run_record, &done.1),
         None => Ok(()),
     }
 }

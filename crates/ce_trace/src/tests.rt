@@ -92,12 +92,12 @@ fn of_node(user: u32, actor: u32, what: What) -> Entry {
     Entry { user, actor, what }
 }
 
-fn granted(user: u32) -> Entry {
+fn grant_entry(user: u32) -> Entry {
     let sub = Some(WHOLE);
     of_host(user, What::Getcube { dim: 0, sub })
 }
 
-fn started(pid: u32, to: Place, fresh: bool) -> What {
+fn spawn_what(pid: u32, to: Place, fresh: bool) -> What {
     What::Spawn {
         pid,
         image: 0,
@@ -106,7 +106,7 @@ fn started(pid: u32, to: Place, fresh: bool) -> What {
     }
 }
 
-fn given(asking: u32, dead: u32, poller: Option<u32>, given: TakeResult) -> What {
+fn take_what(asking: u32, dead: u32, poller: Option<u32>, given: TakeResult) -> What {
     What::Take {
         asking,
         dead,
@@ -145,9 +145,9 @@ fn report(
     done: Vec<(Command, Answer)>,
     history: Vec<Entry>,
 ) -> Result<Vec<u8>, Fail> {
-    let kept = of_alice(alloc, done, history)?;
+    let run_record = of_alice(alloc, done, history)?;
     let script = script(alloc, Some(0))?;
-    Ok(write_report(alloc, &script, &kept)?)
+    Ok(write_report(alloc, &script, &run_record)?)
 }
 
 fn done_of_hello(alloc: Global) -> Result<Vec<(Command, Answer)>, AllocError> {
@@ -161,12 +161,12 @@ fn done_of_hello(alloc: Global) -> Result<Vec<(Command, Answer)>, AllocError> {
 fn history_of_hello(alloc: Global) -> Result<Vec<Entry>, AllocError> {
     let start = TakeResult::Start { pid: 0, image: 0 };
     Ok(vec![in alloc;
-        granted(0),
-        of_host(0, started(0, place(0, 0), true)),
+        grant_entry(0),
+        of_host(0, spawn_what(0, place(0, 0), true)),
         of_host(0, What::Arm { count: 10 }),
-        of_node(0, 0, given(0, 0, None, start)),
+        of_node(0, 0, take_what(0, 0, None, start)),
         of_node(0, 0, What::Note { pid: 0, word: 42 }),
-        of_node(0, 0, given(0, 1, None, TakeResult::Idle)),
+        of_node(0, 0, take_what(0, 1, None, TakeResult::Idle)),
         look(LookResult::Quiet),
     ]?)
 }
@@ -199,11 +199,11 @@ end
 /// The report of a machine that nobody uses.
 fn idle_report(alloc: Global, dim: Option<u32>) -> Result<Vec<u8>, Fail> {
     let script = script(alloc, dim)?;
-    let kept = Record {
+    let run_record = Record {
         users: Items::new(alloc),
         history: Items::new(alloc),
     };
-    Ok(write_report(alloc, &script, &kept)?)
+    Ok(write_report(alloc, &script, &run_record)?)
 }
 
 #[test]
@@ -226,11 +226,11 @@ fn printed_view(alloc: Global, history: Vec<Entry>, grant: u64) -> Result<String
 fn two_cubes(alloc: Global) -> Result<Vec<Entry>, NoMemory> {
     let sent = send(alloc, &[(place(0, 0), block(HOST_HOME, 0))], &[0xAA])?;
     let history = vec![in alloc;
-        granted(0),
+        grant_entry(0),
         of_host(0, sent),
         of_host(0, What::Drain),
         of_host(0, What::Freecube),
-        granted(1),
+        grant_entry(1),
         of_node(1, 0, IDLE),
     ]?;
     Ok(history)
@@ -282,14 +282,14 @@ fn node_entries(alloc: Global) -> Result<Vec<Entry>, NoMemory> {
     let sent = send(alloc, &[process, host], &[0x00, 0xFA])?;
     let entries = vec![in alloc;
         of_node(0, 3, sent),
-        of_node(0, 7, started(5, place(3, 4), false)),
+        of_node(0, 7, spawn_what(5, place(3, 4), false)),
     ]?;
     Ok(entries)
 }
 
 /// A take of relative node 0 with all masks, and with the process that asked longest ago.
 fn take(row: TakeResult) -> Entry {
-    of_node(0, 2, given(5, 250, Some(3), row))
+    of_node(0, 2, take_what(5, 250, Some(3), row))
 }
 
 fn takes(alloc: Global) -> Result<Vec<Entry>, AllocError> {
@@ -388,9 +388,13 @@ stopped windows spent
     Ok(())
 }
 
-fn push_replies(text: &mut Vec<u8>, kept: &Record, answers: &[Answer]) -> Result<(), AllocError> {
+fn push_replies(
+    text: &mut Vec<u8>,
+    run_record: &Record,
+    answers: &[Answer],
+) -> Result<(), AllocError> {
     for answer in answers {
-        push_reply(text, kept, answer)?;
+        push_reply(text, run_record, answer)?;
         push_line_feed(text)?;
     }
     Ok(())
@@ -414,7 +418,7 @@ fn bare_replies(alloc: Global) -> Result<Vec<Answer>, AllocError> {
 }
 
 /// Two cubes are held, one by alice and one by a user without a name.
-fn peeked(alloc: Global) -> Result<Answer, AllocError> {
+fn peek_answer(alloc: Global) -> Result<Answer, AllocError> {
     let grants = vec![in alloc;
         Grant {
             number: 4,
@@ -442,11 +446,11 @@ fn message(alloc: Global) -> Result<Answer, NoMemory> {
 
 /// Replies in alice's report, a line each.
 fn lines_of_replies(alloc: Global) -> Result<Vec<u8>, NoMemory> {
-    let kept = of_alice(alloc, Vec::new(alloc), Vec::new(alloc))?;
-    let more = vec![in alloc; message(alloc)?, peeked(alloc)?]?;
+    let run_record = of_alice(alloc, Vec::new(alloc), Vec::new(alloc))?;
+    let more = vec![in alloc; message(alloc)?, peek_answer(alloc)?]?;
     let mut text = Vec::new(alloc);
-    push_replies(&mut text, &kept, bare_replies(alloc)?.as_slice())?;
-    push_replies(&mut text, &kept, more.as_slice())?;
+    push_replies(&mut text, &run_record, bare_replies(alloc)?.as_slice())?;
+    push_replies(&mut text, &run_record, more.as_slice())?;
     Ok(text)
 }
 
@@ -546,8 +550,8 @@ fn received_twice(alloc: Global) -> Result<Vec<(Command, Answer)>, NoMemory> {
 
 /// The summary of a load in which alice did this.
 fn alice_summary(alloc: Global, done: Vec<(Command, Answer)>) -> Result<Vec<u8>, NoMemory> {
-    let kept = of_alice(alloc, done, Vec::new(alloc))?;
-    write_summary(alloc, 4_294_967_295, &kept)
+    let run_record = of_alice(alloc, done, Vec::new(alloc))?;
+    write_summary(alloc, 4_294_967_295, &run_record)
 }
 
 #[test]
@@ -563,7 +567,7 @@ fn the_summary_has_what_was_received_first(rt: HostRuntime) -> Result<(), Fail> 
 
 /// A cube that is granted, takes once and is given back.
 fn push_cube(history: &mut Vec<Entry>, user: u32) -> Result<(), AllocError> {
-    history.push(granted(user))?;
+    history.push(grant_entry(user))?;
     history.push(of_node(user, 0, IDLE))?;
     history.push(of_host(user, What::Drain))?;
     history.push(of_host(user, What::Freecube))?;

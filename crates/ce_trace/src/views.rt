@@ -1,7 +1,7 @@
 //! What the machine's history is for one cube.
 ghost use Rattle.std.specs.Prelude.{◌≡◌, IfOk, option_map};
 ghost use Rattle.ce_model.specs.Views.{history_behind_grant, trace_behind, view};
-ghost use Rattle.ce_trace.specs.Sections.{cube_of};
+ghost use Rattle.ce_daemon.specs.Peeks.{cube_grant};
 
 use crate::grants::{grant_by, is_call, is_drain};
 use crate::inward::entry_inward;
@@ -24,7 +24,7 @@ pub fn view(alloc: Global, history: &[Entry], grant: u64) -> Result<Vec<Entry>, 
 
 /// The grant of this number, and the history behind it.
 fn grant_at(history: &[Entry], number: u64) -> Option<(Grant, &[Entry])>
-    ensures { option_map (λ found. (cube_of found.0, found.1.now)) result
+    ensures { option_map (λ found. (cube_grant found.0, found.1.now)) result
         ≡ history_behind_grant history.now number }
 {
     let mut earlier = 0;
@@ -43,7 +43,7 @@ fn grant_at(history: &[Entry], number: u64) -> Option<(Grant, &[Entry])>
 #[tactic(auto, using(crate::proofs::Traces::at_drain, crate::proofs::Traces::at_call, crate::proofs::Traces::at_pass, crate::proofs::Traces::at_other))]
 fn trace_behind(alloc: Global, grant: &Grant, behind: &[Entry]) -> Result<Vec<Entry>, NoMemory>
     ensures { IfOk result (λ entries. entries.items
-        ≡ trace_behind (cube_of grant.now) behind.now) }
+        ≡ trace_behind (cube_grant grant.now) behind.now) }
 {
     let mut trace = Vec::new(alloc);
     for entry in behind {

@@ -1,5 +1,6 @@
 //! Pieces of a text.
 ghost use Rattle.std.specs.Prelude.{◌≡◌, [], ◌∷◌, ◌++◌, OnOk};
+ghost use Rattle.ce_text.specs.Bytes.{space, line_feed};
 
 use std::alloc::AllocError;
 
@@ -12,7 +13,7 @@ pub(crate) fn push(text: &mut Vec<u8>, piece: &[u8]) -> Result<(), AllocError>
 
 /// A word, with a space before it.
 pub(crate) fn push_word(text: &mut Vec<u8>, word: &[u8]) -> Result<(), AllocError>
-    ensures { OnOk result (text.new.items ≡ text.old.items ++ (32 ∷ word.now)) }
+    ensures { OnOk result (text.new.items ≡ text.old.items ++ (space ∷ word.now)) }
 {
     text.extend_from_slice(b" ")?;
     text.extend_from_slice(word)
@@ -20,7 +21,7 @@ pub(crate) fn push_word(text: &mut Vec<u8>, word: &[u8]) -> Result<(), AllocErro
 
 /// The end of a line.
 pub(crate) fn push_line_feed(text: &mut Vec<u8>) -> Result<(), AllocError>
-    ensures { OnOk result (text.new.items ≡ text.old.items ++ 10 ∷ []) }
+    ensures { OnOk result (text.new.items ≡ text.old.items ++ line_feed ∷ []) }
 {
     text.extend_from_slice(b"\n")
 }

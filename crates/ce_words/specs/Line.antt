@@ -50,7 +50,7 @@ abbrev pub IsNumber : List ℕ → Type 0
 IsNumber text = IsNumeral 10 (without_leading_plus text) × (number_of text < 2 ^ 32)
 
 -- the command takes the words
-pub record IsAccepted (words : List (List ℕ)) : Type 0 where
+pub record IsCommandLine (words : List (List ℕ)) : Type 0 where
   pub faultless : fault_of program words ≡ []
   pub numbered : IfSome (load_text (rows words)) IsNumber
 

@@ -3,7 +3,7 @@ ghost use Rattle.std.specs.Prelude.{◌≡◌, ◌≢◌, [], false, IfOk, IfErr
 ghost use Rattle.std.specs.String.{string_bytes};
 ghost use Rattle.clap.specs.Words.{app_of, fault_of, found_of, kind_of, rows_of, rule_of};
 ghost use Rattle.clap.specs.declared.error.kind.ErrorKind.TheVariants.{OutOfMemory};
-ghost use Rattle.ce_words.specs.Line.{IsAccepted, IsNumber, asks_serial, asked_line, load_rule, load_text, number_of, program, rows, serial_rule};
+ghost use Rattle.ce_words.specs.Line.{IsCommandLine, IsNumber, asks_serial, asked_line, load_rule, load_text, number_of, program, rows, serial_rule};
 ghost use Rattle.ce_words.specs.declared.line.CommandLineError.TheVariants.{Refused};
 
 use ce_model::NoMemory;
@@ -36,9 +36,9 @@ pub enum CommandLineError {
 /// 4,294,967,295, each once at most. What a line means, and whether it is refused, is what `clap` says of this
 /// command.
 pub fn read_line(alloc: Global, words: &[String]) -> Result<CommandLine, CommandLineError>
-    ensures accepted { IfOk result (λ _. IsAccepted (map string_bytes words.now)) }
+    ensures accepted { IfOk result (λ _. IsCommandLine (map string_bytes words.now)) }
     ensures line { IfOk result (λ line. line ≡ asked_line (map string_bytes words.now)) }
-    ensures refused { IsErrOf result Refused → ¬ IsAccepted (map string_bytes words.now) }
+    ensures refused { IsErrOf result Refused → ¬ IsCommandLine (map string_bytes words.now) }
 {
     let matches = read_matches(alloc, words)?;
     Ok(CommandLine {

@@ -14,7 +14,7 @@ use Rattle.ce_model.specs.Subcubes.{extract, relative_number, deposit, subcubes,
 use Rattle.ce_model.specs.Views.{view}
 use Rattle.ce_model.specs.Machine.{getcube, drain, freecube, in_cube}
 use Rattle.ce_model.proofs.AloneByEntries.{call_of-answer, is_made, alone_by_entries, entries_of_alone}
-use Rattle.ce_wrong.specs.Histories.{IsAnswered, mail_left, started_where_mail_was, mail_of_before, DrainLeavesMail, rank_added, start_astray, nothing_found, RankIsAddedToBase}
+use Rattle.ce_wrong.specs.Histories.{IsAnswered, mail_keeping_rules, started_where_mail_was, mail_of_before, DrainLeavesMail, rank_sum_rules, astray_start, nothing_found, RankIsAddedToBase}
 
 -- ---- an entry that is its actor's next one has the cube's answer
 
@@ -29,7 +29,7 @@ answer_is cube o t entry call c next =
 
 -- ---- a drain that leaves the messages
 
-mail_is_made : (image : ImageParts) → EachAfter (IsAnswered mail_left (machine 0 2 image)) [] (started_where_mail_was ++ mail_of_before ∷ [])
+mail_is_made : (image : ImageParts) → EachAfter (IsAnswered mail_keeping_rules (machine 0 2 image)) [] (started_where_mail_was ++ mail_of_before ∷ [])
 unfolding extract relative_number deposit subcubes first_free answer greatest_dim
 mail_is_made image = (
   record { request = getcube 0; answer = refl },
@@ -77,7 +77,7 @@ drain_leaves_mail image = (mail_is_made image, (start_is_alone image, mail_is_no
 
 -- ---- a node's number added to the base
 
-start_is_made : (image : ImageParts) → EachAfter (IsAnswered rank_added (machine 2 3 image)) [] (start_astray ++ nothing_found ∷ [])
+start_is_made : (image : ImageParts) → EachAfter (IsAnswered rank_sum_rules (machine 2 3 image)) [] (astray_start ++ nothing_found ∷ [])
 unfolding extract relative_number deposit subcubes first_free answer greatest_dim
 start_is_made image = (
   record { request = getcube 0; answer = refl },
@@ -105,20 +105,20 @@ start_is_made image = (
   ),
 )
 
-start_is_not_alone : (image : ImageParts) → IsAlone (record { user = 1; dim = 1; images = image ∷ [] }) (view (start_astray ++ nothing_found ∷ []) 3) → ⊥
+start_is_not_alone : (image : ImageParts) → IsAlone (record { user = 1; dim = 1; images = image ∷ [] }) (view (astray_start ++ nothing_found ∷ []) 3) → ⊥
 unfolding view extract relative_number sent_items taken_results waiting_items spawned_ids killed_ids mark allowed_dispatches made_dispatches parcels answer greatest_dim host_home
 start_is_not_alone image alone =
     let cube : Cube = record { user = 1; dim = 1; images = image ∷ [] } in
-    let each = entries_of_alone cube (opening cube) (view (start_astray ++ nothing_found ∷ []) 3) alone in
+    let each = entries_of_alone cube (opening cube) (view (astray_start ++ nothing_found ∷ []) 3) alone in
     let e = answer_is cube (opening cube) _ _ (take_call 0 0 None) refl each.1.1.0 in
     cc
 
 -- what the host does is the cube's own
-host_is_alone : (image : ImageParts) → IsAlone (record { user = 1; dim = 1; images = image ∷ [] }) (view start_astray 3)
+host_is_alone : (image : ImageParts) → IsAlone (record { user = 1; dim = 1; images = image ∷ [] }) (view astray_start 3)
 unfolding view extract relative_number next_entry state hoststore says sent_items taken_results waiting_items spawned_ids killed_ids mark allowed_dispatches made_dispatches parcels answer greatest_dim process_count home_blocks host_home
 host_is_alone image =
     let cube : Cube = record { user = 1; dim = 1; images = image ∷ [] } in
-    alone_by_entries cube (opening cube) (view start_astray 3) (refl, (refl, tt))
+    alone_by_entries cube (opening cube) (view astray_start 3) (refl, (refl, tt))
 
 pub rank_added_to_base : RankIsAddedToBase
 rank_added_to_base image = (start_is_made image, (host_is_alone image, start_is_not_alone image))

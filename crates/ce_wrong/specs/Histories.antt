@@ -52,8 +52,8 @@ abbrev pub mail_left_by_call : Option Call → Entry → MachineState → Machin
 mail_left_by_call (Some call) entry state = state_after_call (Some call) entry state
 mail_left_by_call None entry state = mail_left_by_host entry.user entry.what state
 
-abbrev pub mail_left : Rules
-mail_left = record {
+abbrev pub mail_keeping_rules : Rules
+mail_keeping_rules = record {
   next_state = λ state entry. mail_left_by_call (recorded_call entry.what) entry state;
   answers = what_of_request;
 }
@@ -78,16 +78,16 @@ mail_of_before = entry_of 1 0 (Take 1 0 None (Mail 0 0))
 
 -- a drain that leaves the messages is refuted by the view of the second grant
 abbrev pub DrainLeavesMail : Type 0
-DrainLeavesMail = (image : ImageParts) → IsRefutedBy mail_left (machine 0 2 image) started_where_mail_was mail_of_before 1
+DrainLeavesMail = (image : ImageParts) → IsRefutedBy mail_keeping_rules (machine 0 2 image) started_where_mail_was mail_of_before 1
 
 -- ---- a node's number added to the base
 
 -- the wrong number of the machine for node r of a cube
-abbrev pub added_to_base : Subcube → ℕ → ℕ
-added_to_base sub r = if r == HOST then HOST else sub.base + r
+abbrev pub base_sum : Subcube → ℕ → ℕ
+base_sum sub r = if r == HOST then HOST else sub.base + r
 
 abbrev pub place_added : Subcube → Place → Place
-place_added sub to = record { node = added_to_base sub to.node; pid = to.pid }
+place_added sub to = record { node = base_sum sub to.node; pid = to.pid }
 
 -- the call of a cube is made with these wrong numbers for places
 abbrev pub added_answers : MachineParts → MachineState → ℕ → ℕ → Request → Option What
@@ -95,13 +95,13 @@ added_answers parts state user actor (in_cube call) =
     option_map (λ cube. answer (nodes_of cube.grant) (cube_standing state cube) actor (renamed_call (place_added cube.grant.sub) (λ id. id) call)) (cube_held_by state user)
 added_answers parts state user actor other = what_of_request parts state user actor other
 
-abbrev pub rank_added : Rules
-rank_added = record { next_state = state_after_entry; answers = added_answers }
+abbrev pub rank_sum_rules : Rules
+rank_sum_rules = record { next_state = state_after_entry; answers = added_answers }
 
 -- three users have nodes 0, 1 and 2 of a machine of four. The second one gives node 1 back, and is granted a cube of the nodes 1
 -- and 3. It has an image started at its node 1, which is node 3: the start is sent to node 2
-abbrev pub start_astray : List Entry
-start_astray =
+abbrev pub astray_start : List Entry
+astray_start =
     of_host 0 (Getcube 0 (Some (subcube 0 0)))
     ∷ of_host 1 (Getcube 0 (Some (subcube 0 1)))
     ∷ of_host 2 (Getcube 0 (Some (subcube 0 2)))
@@ -118,4 +118,4 @@ nothing_found = entry_of 1 3 (Take 0 0 None Idle)
 
 -- a node's number that is added to the base is refuted by the view of the fourth grant
 abbrev pub RankIsAddedToBase : Type 0
-RankIsAddedToBase = (image : ImageParts) → IsRefutedBy rank_added (machine 2 3 image) start_astray nothing_found 3
+RankIsAddedToBase = (image : ImageParts) → IsRefutedBy rank_sum_rules (machine 2 3 image) astray_start nothing_found 3

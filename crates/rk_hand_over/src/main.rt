@@ -1,7 +1,8 @@
 //! Has a process hand a block to itself, as often as the program's one word says, and tells how often it did.
 #![tactic(auto)]
 
-use ce_model::PROCESS_COUNT;
+use ce_model::{PROCESS_COUNT, WINDOW_COUNT};
+use ce_text::TEXT_LIMIT;
 use rk_rows::{LoneNode, RowFault};
 use rv_asm::assemble;
 use rv_image::Image;
@@ -30,7 +31,7 @@ loop:   li a2, 0\n\
         j loop\n";
 
 /// How often a process can be handed a block that has taken one before: as often as it has windows left.
-const PROCESS_HAND_OVERS: u64 = 32_767;
+const PROCESS_HAND_OVERS: u64 = WINDOW_COUNT as u64 - 1;
 
 fn main(rt: HostRuntime) -> io::Result<()> {
     let count = count_of(&rt)?;
@@ -91,7 +92,7 @@ fn process_hand_overs(node: &mut LoneNode, pid: u32, count: u64) -> Result<(), R
 }
 
 fn image(alloc: Global) -> Result<Image, RowFault> {
-    if IMAGE.len() >= 1 << 31 {
+    if IMAGE.len() >= TEXT_LIMIT {
         return Err(RowFault::Images);
     }
     assemble(alloc, IMAGE.as_bytes()).map_err(|_| RowFault::Images)

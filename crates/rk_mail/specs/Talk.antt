@@ -1,5 +1,5 @@
 -- What nodes say and hear in the program, as the model has it.
-use Rattle.std.specs.Prelude.{◌≡◌, ◌⊎◌, ℕ, Bool, true, false, IsTrue, if◌then◌else◌, List, [], Some}
+use Rattle.std.specs.Prelude.{◌≡◌, ◌⊎◌, Bool, true, false, IsTrue, if◌then◌else◌, List, [], Some}
 use Rattle.ce_model.specs.declared.entry.What.{What}
 use Rattle.ce_model.specs.declared.entry.What.TheVariants as whats
 use Rattle.ce_model.specs.declared.entry.KillFound.{KillFound}
@@ -27,20 +27,20 @@ call_said (say.Kill pid to) = kill_call pid to
 call_said (say.Note pid word) = note_call pid word
 
 -- what a node hears
-abbrev pub heard_as : Hearing → model.Hearing
-heard_as (Start pid image) = model.start_of pid image
-heard_as (Mail parcel) = model.mail_of (parcel_of parcel)
-heard_as (Kill pid) = model.kill_of pid
-heard_as (Poll pid) = model.poll_of pid
-heard_as Idle = model.nothing
-heard_as Spent = model.nothing
-heard_as (Posted batch) = model.answer_of 0
-heard_as Spawned = model.answer_of 0
-heard_as Used = model.answer_of 2
-heard_as Killed = model.answer_of 0
-heard_as Unused = model.answer_of 2
-heard_as Already = model.answer_of 3
-heard_as Noted = model.nothing
+abbrev pub hearing_model : Hearing → model.Hearing
+hearing_model (Start pid image) = model.start_of pid image
+hearing_model (Mail parcel) = model.mail_of (parcel_of parcel)
+hearing_model (Kill pid) = model.kill_of pid
+hearing_model (Poll pid) = model.poll_of pid
+hearing_model Idle = model.nothing
+hearing_model Spent = model.nothing
+hearing_model (Posted batch) = model.answer_of 0
+hearing_model Spawned = model.answer_of 0
+hearing_model Used = model.answer_of 2
+hearing_model Killed = model.answer_of 0
+hearing_model Unused = model.answer_of 2
+hearing_model Already = model.answer_of 3
+hearing_model Noted = model.nothing
 
 -- ---- which answers a call can have
 
@@ -75,20 +75,20 @@ IsGiven items take_result.Idle heard = heard ≡ Idle
 IsGiven items take_result.Spent heard = heard ≡ Spent
 
 -- what a process hears of its spawn: whether the id was never used before
-abbrev pub heard_of_spawn : Bool → Hearing
-heard_of_spawn fresh = if fresh then Spawned else Used
+abbrev pub spawn_hearing : Bool → Hearing
+spawn_hearing fresh = if fresh then Spawned else Used
 
 -- what a process hears of its kill
-abbrev pub heard_of_kill : KillFound → Hearing
-heard_of_kill kill_found.Killed = Killed
-heard_of_kill kill_found.Unused = Unused
-heard_of_kill kill_found.Already = Already
+abbrev pub kill_hearing : KillFound → Hearing
+kill_hearing kill_found.Killed = Killed
+kill_hearing kill_found.Unused = Unused
+kill_hearing kill_found.Already = Already
 
 -- who made this entry, with these items waiting for it, hears so
 abbrev pub IsHeardIn : List Item → What → Hearing → Type 0
 IsHeardIn items (whats.Take asking dead poller given) heard = IsGiven items given heard
 IsHeardIn items (whats.Send pid first to bytes) heard = heard ≡ Posted []
-IsHeardIn items (whats.Spawn pid image to fresh) heard = heard ≡ heard_of_spawn fresh
-IsHeardIn items (whats.Kill pid to found) heard = heard ≡ heard_of_kill found
+IsHeardIn items (whats.Spawn pid image to fresh) heard = heard ≡ spawn_hearing fresh
+IsHeardIn items (whats.Kill pid to found) heard = heard ≡ kill_hearing found
 IsHeardIn items (whats.Note pid word) heard = heard ≡ Noted
 IsHeardIn items other heard = ⊥

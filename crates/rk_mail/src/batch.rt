@@ -8,8 +8,8 @@ use std::collections::VecDeque;
 use std::marker::Model;
 use xm_block::Block;
 
-/// A message to 1 to 64 places: for each place the block that carries it there, all of equal bytes; or no place yet.
-/// Contracts see it as the list of places, each with its block.
+/// A message to 1 to `GREATEST_TARGETS` places: for each place the block that carries it there, all of equal bytes; or no
+/// place yet. Contracts see it as the list of places, each with its block.
 #[derive(Drop)]
 pub struct Batch {
     targets: VecDeque<(Place, Block)>,
@@ -42,7 +42,7 @@ impl Batch {
         Ok(Batch { targets })
     }
 
-    /// How many places it has, 64 at most.
+    /// How many places it has, `GREATEST_TARGETS` at most.
     #[tactic(auto, using(ce_model::specs::Limits::greatest_targets_lem))]
     pub fn count(&self) -> u32
         ensures value { result ≡ length self.now }
@@ -71,7 +71,7 @@ impl Batch {
         self.targets.push_back_reserved((to, block));
     }
 
-    /// Adds a place, with a block that becomes a copy of the first. It has 1 to 63 places.
+    /// Adds a place, with a block that becomes a copy of the first. It has a place, and fewer than `GREATEST_TARGETS`.
     pub fn add(&mut self, to: Place, mut block: Block)
         requires some { 1 ≤ length self.old }
         requires room { length self.old < greatest_targets }

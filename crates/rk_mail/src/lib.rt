@@ -9,7 +9,7 @@ mod talk;
 pub use batch::Batch;
 pub use mailbox::Mailbox;
 pub use parcel::{Item, Parcel};
-pub use talk::{Hearing, Say, heard_of_kill, heard_of_spawn};
+pub use talk::{Hearing, Say, kill_hearing, spawn_hearing};
 
 #[cfg(test)]
 mod tests;

@@ -1,5 +1,5 @@
 ghost use Rattle.std.specs.Prelude.{◌≡◌};
-ghost use Rattle.rk_mail.specs.Talk.{heard_of_spawn, heard_of_kill};
+ghost use Rattle.rk_mail.specs.Talk.{spawn_hearing, kill_hearing};
 
 use crate::{Batch, Parcel};
 use ce_model::{KillFound, Place};
@@ -91,8 +91,8 @@ pub enum Hearing {
 }
 
 /// What a process hears of its spawn, by whether the process id was never used before.
-pub fn heard_of_spawn(fresh: bool) -> Hearing
-    ensures { result ≡ heard_of_spawn fresh }
+pub fn spawn_hearing(fresh: bool) -> Hearing
+    ensures { result ≡ spawn_hearing fresh }
 {
     if fresh {
         Hearing::Spawned
@@ -102,8 +102,8 @@ pub fn heard_of_spawn(fresh: bool) -> Hearing
 }
 
 /// What a process hears of its kill, by what the machine found.
-pub fn heard_of_kill(found: KillFound) -> Hearing
-    ensures { result ≡ heard_of_kill found }
+pub fn kill_hearing(found: KillFound) -> Hearing
+    ensures { result ≡ kill_hearing found }
 {
     match found {
         KillFound::Killed => Hearing::Killed,

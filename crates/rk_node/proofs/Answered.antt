@@ -9,10 +9,10 @@ use Rattle.ce_model.specs.declared.topology.BlockId.{BlockId}
 use Rattle.ce_model.specs.declared.process.Status.{Status}
 use Rattle.ce_model.specs.declared.process.Status.TheVariants.{Unborn, Running, Asking, Polling, Stopped}
 use Rattle.ce_model.specs.Limits.{process_count}
-use Rattle.ce_model.specs.Blocks.{Block, put}
+use Rattle.ce_model.specs.Blocks.{Block, with_id}
 use Rattle.ce_model.specs.Parcels.{is_member}
 use Rattle.ce_model.specs.Process.{Process, unborn_process, is_receiving, is_stopped}
-use Rattle.ce_model.specs.Node.{Turn, Node, Call, take_call, send_call, spawn_call, kill_call, note_call, arm_call, look_call, mail_call, process_at, blocks_of, ids_of}
+use Rattle.ce_model.specs.Node.{Turn, Node, Call, take_call, send_call, spawn_call, kill_call, note_call, arm_call, look_call, mail_call, process_at, blocks_of, process_set}
 use Rattle.ce_model.specs.Kernel.{with_store}
 use Rattle.ce_model.specs.Hearing as model
 use Rattle.ce_model.specs.Sound.{is_unborn, is_polling, IsSoundTurn}
@@ -23,12 +23,12 @@ use Rattle.ce_solo.proofs.HandedOver.{member-of}
 use Rattle.rk_mail.specs.declared.talk.Hearing.{Hearing}
 use Rattle.rk_mail.specs.declared.talk.Hearing.TheVariants.{Start, Mail, Kill, Poll, Idle, Spent, Posted, Spawned, Used, Killed, Unused, Already, Noted}
 use Rattle.rk_mail.specs.Items.{parcel_of}
-use Rattle.rk_mail.specs.Talk.{heard_as, is_of_take, IsAnswerTo}
+use Rattle.rk_mail.specs.Talk.{hearing_model, is_of_take, IsAnswerTo}
 use Rattle.rk_node.specs.declared.node.Node as code
 use Rattle.rk_node.specs.Boxes.{Box}
-use Rattle.rk_node.specs.Standing.{node_of}
+use Rattle.rk_node.specs.Standing.{node_model}
 use Rattle.rk_node.specs.Wording.{HasBatch}
-use Rattle.rk_node.specs.Answering.{HasSaid, IsWork, IsAbleToHear}
+use Rattle.rk_node.specs.Answering.{IsAwaitingAnswer, IsWork, IsAbleToHear}
 use Rattle.rk_node.specs.Hearings.{IsWorkOf, HasRoomToHear, batch_after}
 use Rattle.rk_node.proofs.Counted.{count-blocks}
 use Rattle.rk_node.proofs.Heard.{apart-stored, once-stored}
@@ -58,7 +58,7 @@ once-come node id other once none =
     ]
 
 -- a node with a block more in its store
-pub put-well : (turn : Option Turn) (node : Node) (id : BlockId) → IsWell turn node → count id (blocks_of node) ≡ 0 → IsWell turn (with_store (put id node.store) node)
+pub put-well : (turn : Option Turn) (node : Node) (id : BlockId) → IsWell turn node → count id (blocks_of node) ≡ 0 → IsWell turn (with_store (with_id id node.store) node)
 put-well turn node id well none = record {
   process_ids = well.process_ids;
   processes = well.processes;
@@ -80,9 +80,9 @@ within-by turn node pid test well not_unborn holds =
     ]
 
 eligible-within : (turn : Option Turn) (node : Node) (pid : ℕ) → IsWell turn node
-    → (is_member pid (ids_of is_receiving node.processes) || is_member pid (ids_of is_stopped node.processes)) ≡ true → pid < process_count
+    → (is_member pid (process_set is_receiving node.processes) || is_member pid (process_set is_stopped node.processes)) ≡ true → pid < process_count
 eligible-within turn node pid well can =
-    elim (or_cases (is_member pid (ids_of is_receiving node.processes)) (is_member pid (ids_of is_stopped node.processes)) can) [
+    elim (or_cases (is_member pid (process_set is_receiving node.processes)) (is_member pid (process_set is_stopped node.processes)) can) [
       | inl t ↦ within-by turn node pid is_receiving well refl (member-of is_receiving node.processes pid t)
       | inr t ↦ within-by turn node pid is_stopped well refl (member-of is_stopped node.processes pid t)
     ]
@@ -116,7 +116,7 @@ born_status (Stopped cause) h = refl
 -- ---- what was said
 
 -- only a Take is answered by something to do, and it is said without a turn
-pub take-idle : (box : Box) (call : Call) (heard : Hearing) → HasSaid box call → IsAnswerTo call heard → is_of_take heard ≡ true → box.node.turn ≡ None
+pub take-idle : (box : Box) (call : Call) (heard : Hearing) → IsAwaitingAnswer box call → IsAnswerTo call heard → is_of_take heard ≡ true → box.node.turn ≡ None
 take-idle box (take_call asking dead poller) heard said answer h = said.1
 take-idle box (send_call pid to bytes) heard said answer h = absurd (both_ways _ (ap is_of_take answer) h)
 take-idle box (spawn_call pid image to) heard said answer h =
@@ -147,7 +147,7 @@ take-keeps Already batch h = refl
 take-keeps Noted batch h = refl
 
 -- the spare batch is here and empty once the answer was heard
-pub heard-batch : (box : Box) (call : Call) (heard : Hearing) (batch : Option (List (Place × Block))) → HasSaid box call → IsAnswerTo call heard → HasBatch box.out batch
+pub heard-batch : (box : Box) (call : Call) (heard : Hearing) (batch : Option (List (Place × Block))) → IsAwaitingAnswer box call → IsAnswerTo call heard → HasBatch box.out batch
     → batch_after heard batch ≡ Some []
 heard-batch box (take_call asking dead poller) heard batch said answer has =
     let here : batch ≡ Some [] = subst (λ o. HasBatch o batch) said.0 has in take-keeps heard batch answer ∙ here
@@ -197,7 +197,7 @@ module _ (images : List ImageParts) (box : Box) (well : IsWell box.node.turn box
   work-of Already can = tt
   work-of Noted can = tt
 
-  pub hears-well : (heard : Hearing) → IsAbleToHear images box heard → IsWellNow (model.node_after_hearing images box.node (heard_as heard))
+  pub hears-well : (heard : Hearing) → IsAbleToHear images box heard → IsWellNow (model.node_after_hearing images box.node (hearing_model heard))
   hears-well (Start pid image) can =
       let none = take-idle box can.call (Start pid image) can.said can.answer refl in
       let begins = start-begins images box.node pid image (well-idle none) can.work.0 (ap is_unborn can.work.1) in
@@ -223,7 +223,7 @@ module _ (images : List ImageParts) (box : Box) (well : IsWell box.node.turn box
   hears-well Noted can = (nothing-hears images box.node well sound).became.well
 
 -- there is room for what the node is given
-pub room-for : (images : List ImageParts) (box : Box) (node : code.Node) (heard : Hearing) → box.node ≡ node_of node → box.room ≡ node.room
+pub room-for : (images : List ImageParts) (box : Box) (node : code.Node) (heard : Hearing) → box.node ≡ node_model node → box.room ≡ node.room
     → IsWork images box heard → HasRoomToHear heard node
 room-for images box node (Mail parcel) same room work =
     omega (arith, work.room, room, ap (λ (n : Node). length (blocks_of n)) same, count-blocks node)

@@ -3,13 +3,13 @@ use Rattle.std.proofs.Common.{◌≡◌, ℕ, ◌<◌, ◌≤◌, true, List, []
 use Rattle.std.proofs.lemmas.Bool.{cases_lt}
 use Rattle.ce_model.specs.declared.topology.BlockId.{BlockId}
 use Rattle.ce_model.specs.Limits.{greatest_blocks}
-use Rattle.ce_model.specs.Blocks.{is_lower, put, put_all, blocks_of_home}
+use Rattle.ce_model.specs.Blocks.{is_lower, with_id, with_ids, blocks_of_home}
 use Rattle.ce_model.specs.Kernel.{with_store}
-use Rattle.ce_model.specs.Sound.{IsRising}
+use Rattle.ce_model.specs.Sound.{AreInOrder}
 use Rattle.ce_solo.proofs.Counting.{hit, hit-self, same_from_hit, count, count-nil, count-cons, count-put_all, all-at_name, precedes-trans, rising-put_all}
 use Rattle.rk_node.specs.declared.out.Out.TheVariants.{Nothing}
 use Rattle.rk_node.specs.Boxes.{Box, IsClean, scrubbed_node}
-use Rattle.rk_node.specs.Laws.{all_put_home, AreBlocksOfHome}
+use Rattle.rk_node.specs.Laws.{box_with_all, AreBlocksOfHome}
 use Rattle.rk_node.proofs.Sorted.{not_self, once-rising, rising-home}
 
 -- ---- lists that rise and have the same names are the same
@@ -22,7 +22,7 @@ hit-other a b none =
     ]
 
 -- a name in a rising list that isn't its first comes behind the first
-behind-first : (id x : BlockId) (xs : List BlockId) → IsRising (x ∷ xs) → 1 ≤ count id (x ∷ xs) → hit id x < 1 → is_lower x id ≡ true
+behind-first : (id x : BlockId) (xs : List BlockId) → AreInOrder (x ∷ xs) → 1 ≤ count id (x ∷ xs) → hit id x < 1 → is_lower x id ≡ true
 behind-first id x xs rising there other =
     all-at_name (λ name. is_lower x name ≡ true) xs id rising.0 (omega (arith, there, other, count-cons id x xs))
 
@@ -30,7 +30,7 @@ first-counts : (x : BlockId) (xs : List BlockId) → 1 ≤ count x (x ∷ xs)
 first-counts x xs = omega (arith, count-cons x x xs, hit-self x)
 
 -- the first names of both are the same
-same-first : (x y : BlockId) (xs ys : List BlockId) → IsRising (x ∷ xs) → IsRising (y ∷ ys)
+same-first : (x y : BlockId) (xs ys : List BlockId) → AreInOrder (x ∷ xs) → AreInOrder (y ∷ ys)
     → ((id : BlockId) → count id (x ∷ xs) ≡ count id (y ∷ ys)) → x ≡ y
 same-first x y xs ys rising rising' same =
     elim (cases_lt (hit x y) 1) [
@@ -41,7 +41,7 @@ same-first x y xs ys rising rising' same =
       | inr hit ↦ same_from_hit x y hit
     ]
 
-same-rising : (xs ys : List BlockId) → IsRising xs → IsRising ys → ((id : BlockId) → count id xs ≡ count id ys) → xs ≡ ys
+same-rising : (xs ys : List BlockId) → AreInOrder xs → AreInOrder ys → ((id : BlockId) → count id xs ≡ count id ys) → xs ≡ ys
 same-rising [] [] rising rising' same = refl
 same-rising [] (y ∷ ys) rising rising' same = absurd (omega (arith, same y, count-nil y, first-counts y ys))
 same-rising (x ∷ xs) [] rising rising' same = absurd (omega (arith, same x, count-nil x, first-counts x xs))
@@ -54,19 +54,19 @@ same-rising (x ∷ xs) (y ∷ ys) rising rising' same =
 -- ---- the box
 
 all-put_home : (ids : List BlockId) (box : Box)
-    → all_put_home ids box ≡ record box { node = with_store (put_all ids box.node.store) box.node }
+    → box_with_all ids box ≡ record box { node = with_store (with_ids ids box.node.store) box.node }
 all-put_home [] box = refl
-all-put_home (id ∷ ids) box = all-put_home ids (record box { node = with_store (put id box.node.store) box.node })
+all-put_home (id ∷ ids) box = all-put_home ids (record box { node = with_store (with_id id box.node.store) box.node })
 
 -- the store has the blocks of the home again
-home-again : (home : ℕ) (ids : List BlockId) → AreBlocksOfHome home ids → put_all ids [] ≡ blocks_of_home home
+home-again : (home : ℕ) (ids : List BlockId) → AreBlocksOfHome home ids → with_ids ids [] ≡ blocks_of_home home
 home-again home ids all =
-    same-rising (put_all ids []) (blocks_of_home home)
+    same-rising (with_ids ids []) (blocks_of_home home)
     (rising-put_all ids [] tt (λ id. omega (arith, all id, count-nil id, once-rising id (blocks_of_home home) (rising-home home))))
     (rising-home home) (λ id. omega (arith, all id, count-put_all id ids [], count-nil id))
 
 pub scrubbed-clean : (box : Box) (ids : List BlockId) → box.out ≡ Nothing → greatest_blocks ≤ box.room
-    → AreBlocksOfHome box.node.home ids → IsClean (all_put_home ids (record box { node = scrubbed_node box.node }))
+    → AreBlocksOfHome box.node.home ids → IsClean (box_with_all ids (record box { node = scrubbed_node box.node }))
 scrubbed-clean box ids idle room all =
     let empty : Box = record box { node = scrubbed_node box.node } in
     subst IsClean (sym (all-put_home ids empty))

@@ -11,8 +11,8 @@ use Rattle.xm_owner.specs.Holdings as holdings
 use Rattle.xm_owner.specs.Holdings.{Mapping}
 use Rattle.rk_process.specs.Seen.{Own, place_of, unborn_own}
 use Rattle.rk_node.specs.declared.node.Node.{Node}
-use Rattle.rk_node.specs.Standing.{node_of, process_in, later_processes}
-use Rattle.rk_node.specs.Stocked.{used_by, AreRising, AreWithin}
+use Rattle.rk_node.specs.Standing.{node_model, process_in, later_processes}
+use Rattle.rk_node.specs.Tables.{used_count_of, AreRising, AreWithin}
 use Rattle.rk_node.proofs.Names.{length-ids_of}
 use Rattle.rk_node.proofs.Windows.{ids-held}
 
@@ -29,7 +29,7 @@ all-from (x ∷ xs) = elim (cases_Bool (nat_le 0 x.pid)) [
 ]
 
 -- those of one process, and those of the processes behind it
-from-next : (pid : ℕ) (m : List Mapping) → length (from pid m) ≡ length (holdings.blocks_of pid m) + length (from (pid + 1) m)
+from-next : (pid : ℕ) (m : List Mapping) → length (from pid m) ≡ length (holdings.process_blocks pid m) + length (from (pid + 1) m)
 unfolding from
 from-next pid [] = refl
 from-next pid (x ∷ xs) =
@@ -54,30 +54,30 @@ unfolding from
 none-from owns [] within = refl
 none-from owns (x ∷ xs) within = elim (cases_lt x.pid (length owns)) [
   | inl there ↦ (let f : nat_le (length owns) x.pid ≡ false = grind (arith, nat_tests) in rw f (none-from owns xs within.1))
-  | inr past ↦ (let none : used_by owns x.pid ≡ 0 = ap (λ (o : Own). o.used_count) (get_or_past owns x.pid unborn_own past) in absurd (omega (arith, none, within.0)))
+  | inr past ↦ (let none : used_count_of owns x.pid ≡ 0 = ap (λ (o : Own). o.used_count) (get_or_past owns x.pid unborn_own past) in absurd (omega (arith, none, within.0)))
 ]
 
 -- each process of a run has the names that the map has for it
 abbrev AreHeld : List Mapping → ℕ → List Own → Type 0
-AreHeld m pid owns = (k : ℕ) → k < length owns → mapped_ids (process_in m (pid + k) (slice_index_or owns k unborn_own)).space ≡ ids_of (holdings.blocks_of (pid + k) m)
+AreHeld m pid owns = (k : ℕ) → k < length owns → mapped_ids (process_in m (pid + k) (slice_index_or owns k unborn_own)).space ≡ ids_of (holdings.process_blocks (pid + k) m)
 
 count-from : (m : List Mapping) (pid : ℕ) (owns : List Own) → AreHeld m pid owns → length (from (pid + length owns) m) ≡ 0
     → length (flat_map (λ (p : Process). mapped_ids p.space) (later_processes m pid owns)) ≡ length (from pid m)
 count-from m pid [] held none = sym none ∙ ap (λ k. length (from k m)) (add-zero pid)
 count-from m pid (own ∷ owns) held none =
     let zeroth : pid + 0 ≡ pid = add-zero pid in
-    let here : mapped_ids (process_in m pid own).space ≡ ids_of (holdings.blocks_of pid m) = subst (λ q. mapped_ids (process_in m q own).space ≡ ids_of (holdings.blocks_of q m)) zeroth (held 0 (omega arith)) in
+    let here : mapped_ids (process_in m pid own).space ≡ ids_of (holdings.process_blocks pid m) = subst (λ q. mapped_ids (process_in m q own).space ≡ ids_of (holdings.process_blocks q m)) zeroth (held 0 (omega arith)) in
     let behind : pid + suc (length owns) ≡ pid + 1 + length owns = omega arith in
     let rest = count-from m (pid + 1) owns
     (λ k h. let same : pid + suc k ≡ pid + 1 + k = omega arith in
-    subst (λ q. mapped_ids (process_in m q (slice_index_or owns k unborn_own)).space ≡ ids_of (holdings.blocks_of q m)) same (held (suc k) (omega arith)))
+    subst (λ q. mapped_ids (process_in m q (slice_index_or owns k unborn_own)).space ≡ ids_of (holdings.process_blocks q m)) same (held (suc k) (omega arith)))
     (ap (λ k. length (from k m)) (sym behind) ∙ none) in
     omega (
       arith,
       rest,
       from-next pid m,
       ap {B = ℕ} length here,
-      length-ids_of (holdings.blocks_of pid m),
+      length-ids_of (holdings.process_blocks pid m),
       length-append (mapped_ids (process_in m pid own).space) (flat_map (λ (p : Process). mapped_ids p.space) (later_processes m (pid + 1) owns)),
     )
 
@@ -87,16 +87,16 @@ count-held m owns rising within =
     let zero_more : 0 + length owns ≡ length owns = omega arith in
     count-from m 0 owns
     (λ k h. let same : k ≡ 0 + k = omega arith in
-    subst (λ q. mapped_ids (process_in m q (slice_index_or owns k unborn_own)).space ≡ ids_of (holdings.blocks_of q m)) same (ids-held owns k m rising within))
+    subst (λ q. mapped_ids (process_in m q (slice_index_or owns k unborn_own)).space ≡ ids_of (holdings.process_blocks q m)) same (ids-held owns k m rising within))
     (ap (λ k. length (from k m)) zero_more ∙ none-from owns m within)
     ∙ all-from m
 
 -- a node has as many blocks as its tables
-pub count-blocks : (node : Node) → length (blocks_of (node_of node)) ≡ length node.store.blocks + length node.held.mappings
+pub count-blocks : (node : Node) → length (blocks_of (node_model node)) ≡ length node.store.blocks + length node.held_blocks.mappings
 count-blocks node =
     omega (
       arith,
-      length-append (ids_of node.store.blocks) (flat_map (λ (p : Process). mapped_ids p.space) (node_of node).processes),
+      length-append (ids_of node.store.blocks) (flat_map (λ (p : Process). mapped_ids p.space) (node_model node).processes),
       length-ids_of node.store.blocks,
-      count-held node.held.mappings node.processes.items node.stocked.rising node.stocked.windows,
+      count-held node.held_blocks.mappings node.processes.items node.stocked.rising node.stocked.windows,
     )

@@ -4,7 +4,7 @@ use Rattle.std.proofs.lemmas.Bool.{cases_lt}
 use Rattle.rv_model.specs.declared.stop.Stop.TheVariants.{Killed}
 use Rattle.ce_model.specs.declared.topology.BlockId.{BlockId}
 use Rattle.ce_model.specs.declared.process.Status.TheVariants.{Running}
-use Rattle.ce_model.specs.Blocks.{put}
+use Rattle.ce_model.specs.Blocks.{with_id}
 use Rattle.ce_model.specs.Parcels.{Parcel}
 use Rattle.ce_model.specs.Space.{window_start, has_unused_window, mapped_ids}
 use Rattle.ce_model.specs.Process.{Process, with_answer, is_receiving, is_stopped}
@@ -49,12 +49,12 @@ pub apart-stored : (node : Node) (id : BlockId) → count id (blocks_of node) �
 apart-stored node id none = omega (arith, none, count-append id node.store (flat_map (λ q. mapped_ids q.space) node.processes))
 
 -- a block more, which was nowhere
-pub once-stored : (node : Node) (id : BlockId) → IsOnce node → count id (blocks_of node) ≡ 0 → IsOnce (with_store (put id node.store) node)
+pub once-stored : (node : Node) (id : BlockId) → IsOnce node → count id (blocks_of node) ≡ 0 → IsOnce (with_store (with_id id node.store) node)
 once-stored node id once none = record {
   once = λ other.
       let others = flat_map (λ (q : Process). mapped_ids q.space) node.processes in
       let all = count-append other node.store others in
-      let more = count-append other (put id node.store) others in
+      let more = count-append other (with_id id node.store) others in
       let new = count-put other id node.store in
       elim (cases_lt (hit other id) 1) [
         | inl none_of ↦ omega (arith, none_of, all, more, new, once.once other)

@@ -3,7 +3,8 @@ use Rattle.std.proofs.Common.{◌≡◌, ℕ, ◌+◌, ◌*◌, ◌^◌, ◌<◌
 use Rattle.std.proofs.Math.Nat.{pow-le-pow_right, pow-suc}
 use mir.Val.{bool_byte}
 use Rattle.ce_model.specs.declared.process.Status.{Status}
-use Rattle.ce_model.specs.Node.{ids_of}
+use Rattle.ce_model.specs.Limits.{process_count, process_count_lem}
+use Rattle.ce_model.specs.Node.{process_set}
 use Rattle.xm_owner.specs.Holdings.{Mapping}
 use Rattle.rk_process.specs.Seen.{Own}
 use Rattle.rk_node.specs.Standing.{later_processes}
@@ -13,7 +14,7 @@ abbrev pub ids_in : (Status → Bool) → List Own → ℕ
 ids_in test [] = 0
 ids_in test (own ∷ owns) = (if test own.status then 1 else 0) + 2 * ids_in test owns
 
-ids_of-own : (test : Status → Bool) (owns : List Own) (mappings : List Mapping) (pid : ℕ) → ids_in test owns ≡ ids_of test (later_processes mappings pid owns)
+ids_of-own : (test : Status → Bool) (owns : List Own) (mappings : List Mapping) (pid : ℕ) → ids_in test owns ≡ process_set test (later_processes mappings pid owns)
 ids_of-own test [] mappings pid = refl
 ids_of-own test (own ∷ owns) mappings pid = ap (λ n. (if test own.status then 1 else 0) + 2 * n) (ids_of-own test owns mappings (pid + 1))
 
@@ -28,11 +29,11 @@ ids_in-less test (own ∷ owns) = omega (arith, ids_in-less test owns, bit-le (t
 power-le : (i j : ℕ) → i ≤ j → 2 ^ i ≤ 2 ^ j
 power-le i j h = pow-le-pow_right (omega arith) h
 
--- behind a place there are fewer than 31
-pub ids_behind : (test : Status → Bool) (owns : List Own) (i : ℕ) → length owns ≤ 31 → 0 < i → ids_in test (drop i owns) < 2 ^ 31
-ids_behind test owns i few h =
+-- twice as many and one still fit a word
+pub ids_behind : (test : Status → Bool) (owns : List Own) (i : ℕ) → length owns ≤ process_count → ids_in test (drop i owns) < 2 ^ 31
+ids_behind test owns i few =
     let below = ids_in-less test (drop i owns) in
-    let most = power-le (length (drop i owns)) 31 (omega (arith, length-drop i owns)) in
+    let most = power-le (length (drop i owns)) 31 (omega (arith, process_count_lem, length-drop i owns)) in
     omega (arith, below, most)
 
 -- all of them, once the loop is through
@@ -40,7 +41,7 @@ ids-through : (test : Status → Bool) (owns : List Own) (i ids : ℕ) → i ≡
 ids-through test owns i ids none e = e ∙ ap (λ k. ids_in test (drop k owns)) none
 
 pub ids-all : (test : Status → Bool) (owns : List Own) (i ids : ℕ) → i ≡ 0 → ids ≡ ids_in test (drop i owns)
-    → (mappings : List Mapping) (pid : ℕ) → ids ≡ ids_of test (later_processes mappings pid owns)
+    → (mappings : List Mapping) (pid : ℕ) → ids ≡ process_set test (later_processes mappings pid owns)
 ids-all test owns i ids none e mappings pid = ids-through test owns i ids none e ∙ ids_of-own test owns mappings pid
 
 pub ids-less : (test : Status → Bool) (owns : List Own) (i ids : ℕ) → i ≡ 0 → ids ≡ ids_in test (drop i owns) → ids < 2 ^ length owns

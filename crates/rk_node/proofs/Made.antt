@@ -6,11 +6,11 @@ use Rattle.rv_model.specs.declared.stop.Stop.{Stop}
 use Rattle.rv_model.specs.declared.stop.Stop.TheVariants.{NotABlock, Gone}
 use Rattle.ce_model.specs.declared.topology.BlockId.{BlockId}
 use Rattle.ce_model.specs.Blocks.{Block}
-use Rattle.ce_model.specs.Space.{Space, mapped_ids, window_of, is_window_start, named_in, block_named}
+use Rattle.ce_model.specs.Space.{Space, mapped_ids, window_of, is_window_start, block_at_window, block_named}
 use Rattle.ce_model.specs.Process.{Process, unborn_process, argument, with_answer}
 use Rattle.ce_model.specs.Node as model
 use Rattle.ce_model.specs.Kernel.{CallOutcome, continuation, return_outcome, stop_outcome, read_outcome, with_store}
-use Rattle.xm_owner.specs.Holdings.{Mapping, held_at}
+use Rattle.xm_owner.specs.Holdings.{Mapping, block_held_at}
 use Rattle.ce_solo.proofs.Counting.{hit-self, count, count-append}
 use Rattle.ce_solo.proofs.Windows.{count-unmapped}
 use Rattle.ce_solo.proofs.Nodes.{IsWell}
@@ -18,11 +18,13 @@ use Rattle.rk_process.specs.Seen.{Own, place_of, unborn_own}
 use Rattle.rk_process.proofs.Found.{slice_get-windows_of}
 use Rattle.rk_node.specs.declared.node.Node.{Node}
 use Rattle.rk_node.specs.declared.turn.CallEnd as code
-use Rattle.rk_node.specs.Standing.{node_of, processes_of}
-use Rattle.rk_node.specs.Stocked.{AreWithin}
+use Rattle.rk_node.specs.declared.turn.BlockCall.{BlockCall}
+use Rattle.rk_node.specs.Standing.{node_model, processes_of}
+use Rattle.rk_node.specs.Tables.{AreWithin}
 use Rattle.rk_node.specs.Ready.{IsOnce}
 use Rattle.rk_node.specs.Moves.{IsNamed}
 use Rattle.rk_node.specs.Wording.{HasMade}
+use Rattle.rk_node.specs.BlockCalls.{found_outcome, block_outcome, HasMadeAt}
 use Rattle.rk_node.proofs.Windows.{used-held}
 use Rattle.rk_node.proofs.Names.{once-process}
 use Rattle.rk_node.proofs.Processes.{process_of-at, process-read, used-read}
@@ -31,7 +33,7 @@ use Rattle.rk_node.proofs.Stops.{changed-twice}
 -- a call that does the same as another
 pub made-as : {word word' : model.Node → model.Turn → Process → CallOutcome} {before after : Node} {turn now turn' : model.Turn} {outcome : code.CallEnd}
     → HasMade word before after turn turn' outcome
-    → word' (node_of before) now (model.process_at (node_of before) now.pid) ≡ word (node_of before) turn (model.process_at (node_of before) turn.pid)
+    → word' (node_model before) now (model.process_at (node_model before) now.pid) ≡ word (node_model before) turn (model.process_at (node_model before) turn.pid)
     → HasMade word' before after now turn' outcome
 made-as made same = record { did = made.did ∙ sym same; batch = made.batch; room = made.room }
 
@@ -49,7 +51,7 @@ pub named-not : (space : Space) (p : ℕ) → is_window_start p ≡ false → bl
 unfolding block_named
 named-not space p f = rw f refl
 
-pub named-at : (space : Space) (p : ℕ) → is_window_start p ≡ true → block_named space p ≡ named_in (slice_get space.windows (window_of p)) p
+pub named-at : (space : Space) (p : ℕ) → is_window_start p ≡ true → block_named space p ≡ block_at_window (slice_get space.windows (window_of p)) p
 unfolding block_named
 named-at space p t = rw t refl
 
@@ -73,7 +75,7 @@ named-reading node turn p a r onward same named =
 
 -- a block that is held is at its window
 pub window-held : (m : List Mapping) (owns : List Own) (pid k : ℕ) (block : Block) → pid < length owns → AreWithin owns (map place_of m)
-    → held_at m pid k ≡ Some block → slice_get (slice_index_or (processes_of m owns) pid unborn_process).space.windows k ≡ Some (Some block)
+    → block_held_at m pid k ≡ Some block → slice_get (slice_index_or (processes_of m owns) pid unborn_process).space.windows k ≡ Some (Some block)
 window-held m owns pid k block h within held =
     ap (λ (p : Process). slice_get p.space.windows k) (process_of-at m owns pid h)
     ∙ slice_get-windows_of m pid (slice_index_or owns pid unborn_own).used_count k (used-held owns m pid k block within held) ∙ ap Some held
@@ -105,38 +107,37 @@ at-some None x P e p = absurd (cc)
 at-some (Some y) x P e p = let same : y ≡ x = cc in subst P same p
 
 -- a call that names a block, which is there
-pub made-named : (inner : model.Node → model.Turn → Process → ℕ × Block → CallOutcome) {before after : Node} {turn : model.Turn} {outcome : code.CallEnd} {a window : ℕ} {block : Block} {held : Option Block}
-    → a ≡ argument (model.process_at (node_of before) turn.pid) 0 → held ≡ Some block → block_named (model.process_at (node_of before) turn.pid).space a ≡ Ok (window, block)
-    → IfSome held (λ block. HasMade (λ node turn p. inner node turn p (window, block)) before after turn turn outcome)
-    → HasMade (λ node turn p. read_outcome node turn p (block_named p.space (argument p 0)) (inner node turn p)) before after turn turn outcome
-made-named inner {before = before} {after = after} {turn = turn} {outcome = outcome} {window = window} {block = block} {held = held} same there named made =
-    let n = node_of before in
+pub made-named : {call call' : BlockCall} {before after : Node} {turn : model.Turn} {outcome : code.CallEnd} {a window : ℕ} {block : Block}
+    → a ≡ argument (model.process_at (node_model before) turn.pid) 0 → block_held_at before.held_blocks.mappings turn.pid window ≡ Some block
+    → block_named (model.process_at (node_model before) turn.pid).space a ≡ Ok (window, block) → call ≡ call'
+    → HasMadeAt window (found_outcome call') before after turn outcome → HasMade (block_outcome call) before after turn turn outcome
+made-named {call' = call'} {before = before} {after = after} {turn = turn} {outcome = outcome} {window = window} {block = block} same there named is made =
+    let n = node_model before in
     let p = model.process_at n turn.pid in
-    made-as (at-some held block (λ block. HasMade (λ node turn p. inner node turn p (window, block)) before after turn turn outcome) there made)
-    (named-reading n turn p _ _ (inner n turn p) same named)
+    made-as (at-some _ block (λ block. HasMade (λ node turn p. found_outcome call' node turn p (window, block)) before after turn turn outcome) there made)
+    (ap (λ call. block_outcome call n turn p) is ∙ named-reading n turn p _ _ (found_outcome call' n turn p) same named)
 
 -- a call that names none
-pub made-refused : (inner : model.Node → model.Turn → Process → ℕ × Block → CallOutcome) {before after : Node} {turn : model.Turn} {outcome : code.CallEnd} {a : ℕ} {cause : Stop}
-    → a ≡ argument (model.process_at (node_of before) turn.pid) 0 → block_named (model.process_at (node_of before) turn.pid).space a ≡ Err cause
-    → HasMade (λ node turn p. stop_outcome node turn p cause) before after turn turn outcome
-    → HasMade (λ node turn p. read_outcome node turn p (block_named p.space (argument p 0)) (inner node turn p)) before after turn turn outcome
-made-refused inner {before = before} {turn = turn} same named made =
-    let n = node_of before in
+pub made-refused : (call : BlockCall) {before after : Node} {turn : model.Turn} {outcome : code.CallEnd} {a : ℕ} {cause : Stop}
+    → a ≡ argument (model.process_at (node_model before) turn.pid) 0 → block_named (model.process_at (node_model before) turn.pid).space a ≡ Err cause
+    → HasMade (λ node turn p. stop_outcome node turn p cause) before after turn turn outcome → HasMade (block_outcome call) before after turn turn outcome
+made-refused call {before = before} {turn = turn} same named made =
+    let n = node_model before in
     let p = model.process_at n turn.pid in
-    made-as made (named-reading n turn p _ _ (inner n turn p) same named)
+    made-as made (named-reading n turn p _ _ (found_outcome call n turn p) same named)
 
 -- the block at a window that holds one, or none
-pub named_here : (held : ℕ → Option Block) (at : Option (Option Block)) (window a : ℕ) (block : Block) → held window ≡ Some block → at ≡ Some (held window)
-    → window ≡ window_of a → IsNamed held (named_in at a) (Ok window)
-named_here held at window a block h there same =
-    (block, h, ap (λ o. named_in o a) (there ∙ ap Some h) ∙ ap {B = Result (ℕ × Block) Stop} (λ w. Ok (w, block)) (sym same))
+pub named_here : (block_at : ℕ → Option Block) (at : Option (Option Block)) (window a : ℕ) (block : Block) → block_at window ≡ Some block → at ≡ Some (block_at window)
+    → window ≡ window_of a → IsNamed block_at (block_at_window at a) (Ok window)
+named_here block_at at window a block h there same =
+    (block, h, ap (λ o. block_at_window o a) (there ∙ ap Some h) ∙ ap {B = Result (ℕ × Block) Stop} (λ w. Ok (w, block)) (sym same))
 
-pub gone_here : (held : ℕ → Option Block) (at : Option (Option Block)) (window a : ℕ) → held window ≡ None → at ≡ Some (held window) → named_in at a ≡ Err (Gone a)
-gone_here held at window a h there = ap (λ o. named_in o a) (there ∙ ap Some h)
+pub gone_here : (block_at : ℕ → Option Block) (at : Option (Option Block)) (window a : ℕ) → block_at window ≡ None → at ≡ Some (block_at window) → block_at_window at a ≡ Err (Gone a)
+gone_here block_at at window a h there = ap (λ o. block_at_window o a) (there ∙ ap Some h)
 
 -- what the list of a process's windows has for one
 pub at-window : (m : List Mapping) (owns : List Own) (pid : ℕ) (own : Own) (k : ℕ) → pid < length owns → own ≡ slice_index_or owns pid own → k < own.used_count
-    → slice_get (slice_index_or (processes_of m owns) pid unborn_process).space.windows k ≡ Some (held_at m pid k)
+    → slice_get (slice_index_or (processes_of m owns) pid unborn_process).space.windows k ≡ Some (block_held_at m pid k)
 at-window m owns pid own k h read less =
     ap (λ (p : Process). slice_get p.space.windows k) (process-read m owns pid own h read) ∙ slice_get-windows_of m pid own.used_count k less
 

@@ -5,11 +5,11 @@ use Rattle.std.proofs.lemmas.Bool.{cases_Bool}
 use Rattle.std.proofs.lemmas.Bool.Decides.{nat_tests}
 use Rattle.std.proofs.lemmas.Option.{none-some}
 use Rattle.ce_model.specs.Blocks.{Block}
-use Rattle.xm_block.specs.Rising.{put_in}
-use Rattle.xm_owner.specs.Holdings.{Mapping, is_at, is_before, held_at, blocks_of, without, without_process}
+use Rattle.xm_block.specs.Rising.{with_inserted}
+use Rattle.xm_owner.specs.Holdings.{Mapping, is_at, is_before, block_held_at, process_blocks, mappings_without, without_process}
 use Rattle.xm_owner.proofs.Mappings.{vacant-head, vacant-tail, without-vacant}
 use Rattle.rk_process.specs.Seen.{place_of}
-use Rattle.rk_node.specs.Stocked.{is_place_before, AreRising}
+use Rattle.rk_node.specs.Tables.{is_place_before, AreRising}
 
 before-trans : (a b c : ℕ × ℕ) → is_place_before a b ≡ true → is_place_before b c ≡ true → is_place_before a c ≡ true
 before-trans a b c first next = grind (arith, nat_tests)
@@ -23,7 +23,7 @@ before-apart a b pid w first at = grind (arith, nat_tests)
 -- ---- a mapping more
 
 pub all-put_in : (P : ℕ × ℕ → Type 0) (x : Mapping) (m : List Mapping) → P (place_of x) → AllByRecursion P (map place_of m)
-    → AllByRecursion P (map place_of (put_in is_before x m))
+    → AllByRecursion P (map place_of (with_inserted is_before x m))
 all-put_in P x [] here all = (here, tt)
 all-put_in P x (y ∷ ys) here all = elim (cases_Bool (is_before x y)) [
   | inl t ↦ rw t (here, all)
@@ -35,8 +35,8 @@ all-trans : (a b : ℕ × ℕ) (places : List (ℕ × ℕ)) → is_place_before 
 all-trans a b [] first all = tt
 all-trans a b (c ∷ cs) first all = (before-trans a b c first all.0, all-trans a b cs first all.1)
 
-pub rising-put_in : (x : Mapping) (m : List Mapping) → held_at m x.pid x.window ≡ None → AreRising (map place_of m)
-    → AreRising (map place_of (put_in is_before x m))
+pub rising-put_in : (x : Mapping) (m : List Mapping) → block_held_at m x.pid x.window ≡ None → AreRising (map place_of m)
+    → AreRising (map place_of (with_inserted is_before x m))
 rising-put_in x [] vacant rising = (tt, tt)
 rising-put_in x (y ∷ ys) vacant rising = elim (cases_Bool (is_before x y)) [
   | inl t ↦ rw t ((t, all-trans (place_of x) (place_of y) (map place_of ys) t rising.0), rising)
@@ -46,7 +46,7 @@ rising-put_in x (y ∷ ys) vacant rising = elim (cases_Bool (is_before x y)) [
   )
 ]
 
-pub length-put_in : (x : Mapping) (m : List Mapping) → length (put_in is_before x m) ≡ suc (length m)
+pub length-put_in : (x : Mapping) (m : List Mapping) → length (with_inserted is_before x m) ≡ suc (length m)
 length-put_in x [] = refl
 length-put_in x (y ∷ ys) = elim (cases_Bool (is_before x y)) [
   | inl t ↦ rw t refl
@@ -71,19 +71,19 @@ rising-filter test (y ∷ ys) rising = elim (cases_Bool (test y)) [
 ]
 
 behind-vacant : (pid w : ℕ) (x : Mapping) (m : List Mapping) → is_at pid w x ≡ true → AllByRecursion (λ c. is_place_before (place_of x) c ≡ true) (map place_of m)
-    → held_at m pid w ≡ None
+    → block_held_at m pid w ≡ None
 behind-vacant pid w x [] at all = refl
 behind-vacant pid w x (y ∷ ys) at all = rw (before-apart x y pid w all.0 at) (behind-vacant pid w x ys at all.1)
 
-pub length-without : (pid w : ℕ) (block : Block) (m : List Mapping) → AreRising (map place_of m) → held_at m pid w ≡ Some block
-    → suc (length (without pid w m)) ≡ length m
+pub length-without : (pid w : ℕ) (block : Block) (m : List Mapping) → AreRising (map place_of m) → block_held_at m pid w ≡ Some block
+    → suc (length (mappings_without pid w m)) ≡ length m
 length-without pid w block [] rising held = absurd (none-some block held)
 length-without pid w block (x ∷ xs) rising held = elim (cases_Bool (is_at pid w x)) [
   | inl t ↦ rw t (ap (λ (ms : List Mapping). suc (length ms)) (without-vacant pid w xs (behind-vacant pid w x xs t rising.0)))
   | inr f ↦ rw f (ap suc (length-without pid w block xs rising.1 (rw f at held)))
 ]
 
-length-without_process : (pid : ℕ) (m : List Mapping) → length (without_process pid m) + length (blocks_of pid m) ≡ length m
+length-without_process : (pid : ℕ) (m : List Mapping) → length (without_process pid m) + length (process_blocks pid m) ≡ length m
 length-without_process pid [] = refl
 length-without_process pid (x ∷ xs) =
     let rest = length-without_process pid xs in
@@ -93,5 +93,5 @@ length-without_process pid (x ∷ xs) =
     ]
 
 -- a map that the blocks of a process have left
-pub length-drained : (pid : ℕ) (before after : List Mapping) → after ≡ without_process pid before → length after + length (blocks_of pid before) ≡ length before
-length-drained pid before after left = ap (λ (m : List Mapping). length m + length (blocks_of pid before)) left ∙ length-without_process pid before
+pub length-drained : (pid : ℕ) (before after : List Mapping) → after ≡ without_process pid before → length after + length (process_blocks pid before) ≡ length before
+length-drained pid before after left = ap (λ (m : List Mapping). length m + length (process_blocks pid before)) left ∙ length-without_process pid before

@@ -4,37 +4,37 @@ use Rattle.std.specs.List.{Contains}
 use Rattle.std.proofs.lemmas.Bool.{cases_Bool, eq-eqb, both_ways}
 use Rattle.std.proofs.lemmas.List.{get_or-set_other}
 use Rattle.ce_model.specs.declared.topology.BlockId.{BlockId}
-use Rattle.ce_model.specs.Blocks.{Block, put, put_all}
+use Rattle.ce_model.specs.Blocks.{Block, with_id, with_ids}
 use Rattle.ce_model.specs.Space.{mapped_ids}
 use Rattle.ce_model.specs.Limits.{process_count}
 use Rattle.ce_model.specs.Process.{Process, unborn_process}
 use Rattle.ce_model.specs.Node.{Node, process_at, with_process}
 use Rattle.ce_solo.proofs.Counting.{hit-self, count, count-cons, count-append, count-put_all}
-use Rattle.xm_block.specs.Stores.{KeptBlock, ids_of, AreApart}
+use Rattle.xm_block.specs.Stores.{BlockStore, ids_of, AreApart}
 use Rattle.xm_owner.specs.Holdings.{Mapping, without_process}
 use Rattle.rk_process.specs.Seen.{Own, place_of, unborn_own}
-use Rattle.rk_node.specs.Stocked.{used_by, AreWithin}
+use Rattle.rk_node.specs.Tables.{used_count_of, AreWithin}
 use Rattle.rk_node.specs.Boxes.{scrubbed_node}
 use Rattle.rk_node.specs.Hearings.{AreApartFrom, ids_in}
 use Rattle.rk_node.proofs.Names.{pairs_apart, not_contained}
 
-pub put_all-append : (first next store : List BlockId) → put_all (first ++ next) store ≡ put_all next (put_all first store)
+pub put_all-append : (first next store : List BlockId) → with_ids (first ++ next) store ≡ with_ids next (with_ids first store)
 put_all-append [] next store = refl
-put_all-append (id ∷ first) next store = put_all-append first next (put id store)
+put_all-append (id ∷ first) next store = put_all-append first next (with_id id store)
 
 -- names that are apart from a store, as the code's calls ask for it
-pub apart-blocks : (blocks : List Block) (ids : List BlockId) (store : KeptBlock) → ids ≡ ids_of blocks → AreApartFrom ids store → AreApart blocks store.blocks
+pub apart-blocks : (blocks : List Block) (ids : List BlockId) (store : BlockStore) → ids ≡ ids_of blocks → AreApartFrom ids store → AreApart blocks store.blocks
 apart-blocks blocks ids store same apart =
     pairs_apart (ids_of blocks ++ ids_of store.blocks) (subst (λ ids. (id : BlockId) → count id (ids ++ ids_of store.blocks) ≤ 1) same apart.apart)
 
 -- the first of names that are apart from a store
-pub apart-first : (first next : List BlockId) (store : KeptBlock) → AreApartFrom (first ++ next) store → AreApartFrom first store
+pub apart-first : (first next : List BlockId) (store : BlockStore) → AreApartFrom (first ++ next) store → AreApartFrom first store
 apart-first first next store apart = record {
   apart = λ id. omega (arith, apart.apart id, count-append id (first ++ next) (ids_of store.blocks), count-append id first next, count-append id first (ids_of store.blocks));
 }
 
 -- and the others, once the first are in the store
-pub apart-next : (first next : List BlockId) (store store' : KeptBlock) → ids_of store'.blocks ≡ put_all first (ids_of store.blocks)
+pub apart-next : (first next : List BlockId) (store store' : BlockStore) → ids_of store'.blocks ≡ with_ids first (ids_of store.blocks)
     → AreApartFrom (first ++ next) store → AreApartFrom next store'
 apart-next first next store store' moved apart = record {
   apart = λ id. omega (
@@ -97,13 +97,13 @@ pub within-reset : (owns : List Own) (pid : ℕ) (own : Own) (m : List Mapping) 
 within-reset owns pid own [] within = tt
 within-reset owns pid own (x ∷ xs) within = elim (cases_Bool (x.pid == pid)) [
   | inl t ↦ rw t (within-reset owns pid own xs within.1)
-  | inr f ↦ (let same : used_by (slice_set owns pid own) x.pid ≡ used_by owns x.pid =
+  | inr f ↦ (let same : used_count_of (slice_set owns pid own) x.pid ≡ used_count_of owns x.pid =
       ap (λ (o : Own). o.used_count) (get_or-set_other owns pid x.pid own unborn_own (λ e. both_ways _ f (eq-eqb x.pid pid e))) in
       rw f (omega (arith, within.0, same), within-reset owns pid own xs within.1))
 ]
 
 -- a name that is apart from a store isn't in it
-pub not_stored : (id : BlockId) (ids : List BlockId) (store : KeptBlock) → AreApartFrom (id ∷ ids) store → ¬ (Contains (ids_of store.blocks) id)
+pub not_stored : (id : BlockId) (ids : List BlockId) (store : BlockStore) → AreApartFrom (id ∷ ids) store → ¬ (Contains (ids_of store.blocks) id)
 not_stored id ids store apart =
     not_contained id (ids_of store.blocks)
     (omega (arith, apart.apart id, count-append id (id ∷ ids) (ids_of store.blocks), count-cons id id ids, hit-self id))

@@ -5,7 +5,7 @@ use Rattle.std.proofs.lemmas.Bool.{cond_both}
 use Rattle.std.proofs.lemmas.List.{length-map}
 use Rattle.std.proofs.lemmas.List.Kept.{AllPairs-cons}
 use Rattle.ce_model.specs.declared.topology.BlockId.{BlockId}
-use Rattle.ce_model.specs.Blocks.{Block, is_lower, put, put_all}
+use Rattle.ce_model.specs.Blocks.{Block, is_lower, with_id, with_ids}
 use Rattle.ce_model.specs.Node as model
 use Rattle.xm_block.specs.Stores.{ids_of, with_block, with_blocks}
 use Rattle.xm_block.proofs.Names.{apart-none, apart-more, ids_of-with_block}
@@ -13,9 +13,9 @@ use Rattle.ce_solo.proofs.Counting.{hit, hit-self, count, count-cons, count-appe
 use Rattle.ce_model.specs.Space.{mapped_ids}
 use Rattle.ce_model.specs.Limits.{process_count}
 use Rattle.ce_model.specs.Process.{Process, unborn_process}
-use Rattle.xm_owner.specs.Holdings.{blocks_of}
+use Rattle.xm_owner.specs.Holdings.{process_blocks}
 use Rattle.rk_node.specs.declared.node.Node.{Node}
-use Rattle.rk_node.specs.Standing.{node_of}
+use Rattle.rk_node.specs.Standing.{node_model}
 use Rattle.rk_node.specs.Ready.{IsOnce}
 use Rattle.rk_node.specs.Hearings.{ids_in}
 use Rattle.rk_node.proofs.Windows.{ids-held}
@@ -42,9 +42,9 @@ pairs_apart (x ∷ ids) once =
     (counted_apart x ids (omega (arith, once x, hit-self x, count-cons x x ids)))
     (pairs_apart ids (λ id. omega (arith, once id, count-cons id x ids)))
 
-pub length-put : (id : BlockId) (ids : List BlockId) → length (put id ids) ≡ suc (length ids)
+pub length-put : (id : BlockId) (ids : List BlockId) → length (with_id id ids) ≡ suc (length ids)
 length-put id [] = refl
-length-put id (x ∷ ids) = cond_both (is_lower id x) (id ∷ x ∷ ids) (x ∷ put id ids) (λ ys. length ys ≡ suc (suc (length ids))) (λ t. refl) (λ f. ap suc (length-put id ids))
+length-put id (x ∷ ids) = cond_both (is_lower id x) (id ∷ x ∷ ids) (x ∷ with_id id ids) (λ ys. length ys ≡ suc (suc (length ids))) (λ t. refl) (λ f. ap suc (length-put id ids))
 
 pub length-ids_of : (blocks : List Block) → length (ids_of blocks) ≡ length blocks
 length-ids_of blocks = length-map blocks (λ block. block.id)
@@ -54,27 +54,27 @@ length-with_block block blocks =
     sym (length-ids_of (with_block block blocks)) ∙ ap {B = ℕ} length (ids_of-with_block block blocks) ∙ length-put block.id (ids_of blocks) ∙ ap suc (length-ids_of blocks)
 
 -- several blocks more
-ids_of-with_blocks : (blocks stored : List Block) → ids_of (with_blocks blocks stored) ≡ put_all (ids_of blocks) (ids_of stored)
+ids_of-with_blocks : (blocks stored : List Block) → ids_of (with_blocks blocks stored) ≡ with_ids (ids_of blocks) (ids_of stored)
 ids_of-with_blocks [] stored = refl
 ids_of-with_blocks (block ∷ blocks) stored =
-    ids_of-with_blocks blocks (with_block block stored) ∙ ap (put_all (ids_of blocks)) (ids_of-with_block block stored)
+    ids_of-with_blocks blocks (with_block block stored) ∙ ap (with_ids (ids_of blocks)) (ids_of-with_block block stored)
 
 pub length-with_blocks : (blocks stored : List Block) → length (with_blocks blocks stored) ≡ length blocks + length stored
 length-with_blocks [] stored = omega arith
 length-with_blocks (block ∷ blocks) stored = omega (arith, length-with_blocks blocks (with_block block stored), length-with_block block stored)
 
 -- the names of a process's blocks
-pub ids_of-process : (node : Node) (pid : ℕ) → pid < process_count → ids_in pid (node_of node) ≡ ids_of (blocks_of pid node.held.mappings)
+pub ids_of-process : (node : Node) (pid : ℕ) → pid < process_count → ids_in pid (node_model node) ≡ ids_of (process_blocks pid node.held_blocks.mappings)
 ids_of-process node pid below =
-    ap (λ (p : Process). mapped_ids p.space) (process_of-at node.held.mappings node.processes.items pid (omega (arith, node.stocked.every_id, below)))
-    ∙ ids-held node.processes.items pid node.held.mappings node.stocked.rising node.stocked.windows
+    ap (λ (p : Process). mapped_ids p.space) (process_of-at node.held_blocks.mappings node.processes.items pid (omega (arith, node.stocked.every_id, below)))
+    ∙ ids-held node.processes.items pid node.held_blocks.mappings node.stocked.rising node.stocked.windows
 
 -- the names in a store that got them all
-pub ids_of-drained : (node : Node) (pid : ℕ) (before after : List Block) → pid < process_count → after ≡ with_blocks (blocks_of pid node.held.mappings) before
-    → ids_of after ≡ put_all (ids_in pid (node_of node)) (ids_of before)
+pub ids_of-drained : (node : Node) (pid : ℕ) (before after : List Block) → pid < process_count → after ≡ with_blocks (process_blocks pid node.held_blocks.mappings) before
+    → ids_of after ≡ with_ids (ids_in pid (node_model node)) (ids_of before)
 ids_of-drained node pid before after below moved =
-    ap ids_of moved ∙ ids_of-with_blocks (blocks_of pid node.held.mappings) before
-    ∙ ap (λ ids. put_all ids (ids_of before)) (sym (ids_of-process node pid below))
+    ap ids_of moved ∙ ids_of-with_blocks (process_blocks pid node.held_blocks.mappings) before
+    ∙ ap (λ ids. with_ids ids (ids_of before)) (sym (ids_of-process node pid below))
 
 -- the names of a process's blocks and those of the store stand once each
 pub once-process : (node : model.Node) (pid : ℕ) (ids : List BlockId) → IsOnce node → pid < length node.processes → mapped_ids (model.process_at node pid).space ≡ ids

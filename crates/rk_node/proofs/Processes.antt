@@ -1,6 +1,5 @@
 -- The processes of a node, and what changes of one of them make of the node.
 use Rattle.std.proofs.Common.{◌≡◌, ℕ, zero, suc, ◌+◌, ◌<◌, ◌≤◌, List, [], ◌∷◌, length, map, slice_set, slice_index_or, Option, Some, true, IsTrue, length-set, refl, ap, sym, ◌∙◌, subst, arith, add-zero, inl, inr}
-use Rattle.std.specs.VecDeque.{deque_capacity}
 use Rattle.std.proofs.lemmas.Bool.{cases_eq, ltb-true, eq-eqb}
 use Rattle.std.proofs.lemmas.List.{get_or_read, get_or-set_same, get_or-set_other}
 use Rattle.ce_model.specs.Limits.{window_count, process_count}
@@ -9,7 +8,7 @@ use Rattle.ce_model.specs.Process.{Process, unborn_process}
 use Rattle.ce_model.specs.Node as model
 use Rattle.ce_model.specs.declared.process.Status.{Status}
 use Rattle.ce_model.specs.Blocks.{Block}
-use Rattle.xm_owner.specs.Holdings.{Mapping, held_at, without_process, HasChangedOnly}
+use Rattle.xm_owner.specs.Holdings.{Mapping, block_held_at, without_process, HasChangedOnly}
 use Rattle.xm_owner.proofs.Mappings.{held_at-drained_other}
 use Rattle.ce_model.specs.declared.process.Status.TheVariants.{Unborn, Running, Asking, Polling, Stopped}
 use Rattle.ce_model.specs.Sound.{is_running}
@@ -18,15 +17,15 @@ use Rattle.rk_process.specs.Seen.{Own, place_of, unborn_own, windows_of}
 use Rattle.rk_process.proofs.Found.{length-windows_of}
 use Rattle.rk_node.proofs.Windows.{windows-same}
 use Rattle.rk_node.specs.declared.node.Node.{Node}
-use Rattle.rk_node.specs.Standing.{node_of, process_in, later_processes, processes_of}
-use Rattle.rk_node.specs.Stocked.{used_by, AreWithin, IsStocked}
+use Rattle.rk_node.specs.Standing.{node_model, process_in, later_processes, processes_of}
+use Rattle.rk_node.specs.Tables.{used_count_of, AreWithin, IsStocked}
 
 length-processes_from : (mappings : List Mapping) (pid : ℕ) (owns : List Own) → length (later_processes mappings pid owns) ≡ length owns
 length-processes_from mappings pid [] = refl
 length-processes_from mappings pid (own ∷ owns) = ap suc (length-processes_from mappings (pid + 1) owns)
 
-pub length-processes : (node : Node) → length (node_of node).processes ≡ process_count
-length-processes node = length-processes_from node.held.mappings 0 node.processes.items ∙ node.stocked.every_id
+pub length-processes : (node : Node) → length (node_model node).processes ≡ process_count
+length-processes node = length-processes_from node.held_blocks.mappings 0 node.processes.items ∙ node.stocked.every_id
 
 -- the process of an id
 pub process_from : (mappings : List Mapping) (pid : ℕ) (owns : List Own) (k : ℕ) → k < length owns
@@ -44,34 +43,34 @@ process_of-at mappings owns pid h =
 -- two maps hold the same for all processes but one
 abbrev pub IsSameBut : ℕ → List Mapping → List Mapping → List Own → Type 0
 IsSameBut pid before after owns =
-    (q : ℕ) → (q ≡ pid → ⊥) → windows_of after q (used_by owns q) ≡ windows_of before q (used_by owns q)
+    (q : ℕ) → (q ≡ pid → ⊥) → windows_of after q (used_count_of owns q) ≡ windows_of before q (used_count_of owns q)
 
 -- all processes of a list from an id on, none of which is the one that changes
 same_from : (before after : List Mapping) (at : ℕ) (owns : List Own)
-    → ((k : ℕ) → k < length owns → windows_of after (at + k) (used_by owns k) ≡ windows_of before (at + k) (used_by owns k))
+    → ((k : ℕ) → k < length owns → windows_of after (at + k) (used_count_of owns k) ≡ windows_of before (at + k) (used_count_of owns k))
     → later_processes after at owns ≡ later_processes before at owns
 same_from before after at [] same = refl
 same_from before after at (own ∷ owns) same =
     let here : windows_of after at own.used_count ≡ windows_of before at own.used_count =
     subst (λ q. windows_of after q own.used_count ≡ windows_of before q own.used_count) (add-zero at) (same 0 (omega arith)) in
     let rest = same_from before after (at + 1) owns (λ k h.
-    subst (λ q. windows_of after q (used_by owns k) ≡ windows_of before q (used_by owns k)) (omega arith) (same (suc k) (omega arith))) in
+    subst (λ q. windows_of after q (used_count_of owns k) ≡ windows_of before q (used_count_of owns k)) (omega arith) (same (suc k) (omega arith))) in
     ap (λ windows. record { status = own.status; regs = own.regs; pc = own.pc; space = record { private = own.private; windows = windows } } ∷ later_processes after (at + 1) owns) here
     ∙ ap (λ ps. process_in before at own ∷ ps) rest
 
 set_from : (before after : List Mapping) (at : ℕ) (owns : List Own) (k : ℕ) (own : Own) → k < length owns
-    → ((j : ℕ) → (j ≡ k → ⊥) → windows_of after (at + j) (used_by owns j) ≡ windows_of before (at + j) (used_by owns j))
+    → ((j : ℕ) → (j ≡ k → ⊥) → windows_of after (at + j) (used_count_of owns j) ≡ windows_of before (at + j) (used_count_of owns j))
     → later_processes after at (slice_set owns k own) ≡ slice_set (later_processes before at owns) k (process_in after (at + k) own)
 set_from before after at [] k own h same = absurd (omega arith)
 set_from before after at (first ∷ owns) zero own h same =
     let rest = same_from before after (at + 1) owns (λ k h.
-    subst (λ q. windows_of after q (used_by owns k) ≡ windows_of before q (used_by owns k)) (omega arith) (same (suc k) (λ e. omega (arith, e)))) in
+    subst (λ q. windows_of after q (used_count_of owns k) ≡ windows_of before q (used_count_of owns k)) (omega arith) (same (suc k) (λ e. omega (arith, e)))) in
     ap (λ ps. process_in after at own ∷ ps) rest ∙ ap (λ q. process_in after q own ∷ later_processes before (at + 1) owns) (sym (add-zero at))
 set_from before after at (first ∷ owns) (suc k) own h same =
     let here : windows_of after at first.used_count ≡ windows_of before at first.used_count =
     subst (λ q. windows_of after q first.used_count ≡ windows_of before q first.used_count) (add-zero at) (same 0 (λ e. omega (arith, e))) in
     let rest = set_from before after (at + 1) owns k own (omega arith) (λ j differ.
-    subst (λ q. windows_of after q (used_by owns j) ≡ windows_of before q (used_by owns j)) (omega arith) (same (suc j) (λ e. differ (omega (arith, e))))) in
+    subst (λ q. windows_of after q (used_count_of owns j) ≡ windows_of before q (used_count_of owns j)) (omega arith) (same (suc j) (λ e. differ (omega (arith, e))))) in
     ap (λ windows. record { status = first.status; regs = first.regs; pc = first.pc; space = record { private = first.private; windows = windows } } ∷ later_processes after (at + 1) (slice_set owns k own)) here
     ∙ ap (λ ps. process_in before at first ∷ ps) (rest ∙ ap (λ q. slice_set (later_processes before (at + 1) owns) k (process_in after q own)) (omega arith))
 
@@ -79,7 +78,7 @@ set_from before after at (first ∷ owns) (suc k) own h same =
 pub processes-set : (before after : List Mapping) (owns : List Own) (pid : ℕ) (own : Own) → pid < length owns → IsSameBut pid before after owns
     → processes_of after (slice_set owns pid own) ≡ slice_set (processes_of before owns) pid (process_in after pid own)
 processes-set before after owns pid own h same =
-    set_from before after 0 owns pid own h (λ j differ. subst (λ q. windows_of after q (used_by owns j) ≡ windows_of before q (used_by owns j)) (omega arith) (same j differ))
+    set_from before after 0 owns pid own h (λ j differ. subst (λ q. windows_of after q (used_count_of owns j) ≡ windows_of before q (used_count_of owns j)) (omega arith) (same j differ))
     ∙ ap (λ q. slice_set (processes_of before owns) pid (process_in after q own)) (omega arith)
 
 -- a process changes that is put back
@@ -111,18 +110,18 @@ processes-change before after owns pid own own' change h read same e =
     ∙ ap (slice_set (processes_of before owns) pid) (e ∙ ap change (sym (process-read before owns pid own h read)))
 
 -- the windows of the map stay within those that were used, where none is used less
-pub within-grown : (owns owns' : List Own) (places : List (ℕ × ℕ)) → ((q : ℕ) → used_by owns q ≤ used_by owns' q) → AreWithin owns places → AreWithin owns' places
+pub within-grown : (owns owns' : List Own) (places : List (ℕ × ℕ)) → ((q : ℕ) → used_count_of owns q ≤ used_count_of owns' q) → AreWithin owns places → AreWithin owns' places
 within-grown owns owns' [] grown within = tt
 within-grown owns owns' (place ∷ places) grown within =
     (let more = grown place.0 in omega (arith, within.0, more), within-grown owns owns' places grown within.1)
 
 pub used-set : (owns : List Own) (pid : ℕ) (own own' : Own) → pid < length owns → own ≡ slice_index_or owns pid own → own.used_count ≤ own'.used_count
-    → (q : ℕ) → used_by owns q ≤ used_by (slice_set owns pid own') q
+    → (q : ℕ) → used_count_of owns q ≤ used_count_of (slice_set owns pid own') q
 used-set owns pid own own' h read more q = elim (cases_eq q pid) [
-  | inl same ↦ (let was : used_by owns pid ≡ own.used_count = ap (λ (o : Own). o.used_count) (sym (get_or_read owns pid own h read unborn_own)) in
-      let is : used_by (slice_set owns pid own') pid ≡ own'.used_count = ap (λ (o : Own). o.used_count) (get_or-set_same owns pid own' unborn_own h) in
-      subst (λ k. used_by owns k ≤ used_by (slice_set owns pid own') k) (sym same) (omega arith))
-  | inr differ ↦ (let is : used_by (slice_set owns pid own') q ≡ used_by owns q = ap (λ (o : Own). o.used_count) (get_or-set_other owns pid q own' unborn_own differ) in omega arith)
+  | inl same ↦ (let was : used_count_of owns pid ≡ own.used_count = ap (λ (o : Own). o.used_count) (sym (get_or_read owns pid own h read unborn_own)) in
+      let is : used_count_of (slice_set owns pid own') pid ≡ own'.used_count = ap (λ (o : Own). o.used_count) (get_or-set_same owns pid own' unborn_own h) in
+      subst (λ k. used_count_of owns k ≤ used_count_of (slice_set owns pid own') k) (sym same) (omega arith))
+  | inr differ ↦ (let is : used_count_of (slice_set owns pid own') q ≡ used_count_of owns q = ap (λ (o : Own). o.used_count) (get_or-set_other owns pid q own' unborn_own differ) in omega arith)
 ]
 
 pub within-change : (owns : List Own) (pid : ℕ) (own own' : Own) (places : List (ℕ × ℕ)) → pid < length owns → own ≡ slice_index_or owns pid own → own'.used_count ≡ own.used_count
@@ -132,27 +131,25 @@ within-change owns pid own own' places h read same within =
 
 -- where one process changes and has used no further window, its node is stocked as it was
 pub stocked-change : (node : Node) (pid : ℕ) (own own' : Own) → pid < length node.processes.items → own ≡ slice_index_or node.processes.items pid own → own'.used_count ≡ own.used_count
-    → IsStocked node.room node.dim (deque_capacity node.polling_ids) (slice_set node.processes.items pid own') node.held node.store
+    → IsStocked node.room (slice_set node.processes.items pid own') node.held_blocks node.store
 stocked-change node pid own own' h read same =
     let s = node.stocked in
     record {
-      few_nodes = s.few_nodes;
       every_id = length-set node.processes.items pid own' ∙ s.every_id;
-      windows = within-change node.processes.items pid own own' (map place_of node.held.mappings) h read same s.windows;
+      windows = within-change node.processes.items pid own own' (map place_of node.held_blocks.mappings) h read same s.windows;
       rising = s.rising;
       held_room = s.held_room;
       store_room = s.store_room;
       within = s.within;
-      poll_room = s.poll_room;
     }
 
 -- the model's node has the changed process
 pub node-change : (node : Node) (pid : ℕ) (own own' : Own) (change : Process → Process) → pid < length node.processes.items
-    → own ≡ slice_index_or node.processes.items pid own → process_in node.held.mappings pid own' ≡ change (process_in node.held.mappings pid own)
-    → record (node_of node) { processes = processes_of node.held.mappings (slice_set node.processes.items pid own') } ≡ model.with_process (node_of node) pid (change (model.process_at (node_of node) pid))
+    → own ≡ slice_index_or node.processes.items pid own → process_in node.held_blocks.mappings pid own' ≡ change (process_in node.held_blocks.mappings pid own)
+    → record (node_model node) { processes = processes_of node.held_blocks.mappings (slice_set node.processes.items pid own') } ≡ model.with_process (node_model node) pid (change (model.process_at (node_model node) pid))
 node-change node pid own own' change h read same =
-    ap (λ ps. record (node_of node) { processes = ps })
-    (processes-change node.held.mappings node.held.mappings node.processes.items pid own own' change h read (λ q differ. refl) same)
+    ap (λ ps. record (node_model node) { processes = ps })
+    (processes-change node.held_blocks.mappings node.held_blocks.mappings node.processes.items pid own own' change h read (λ q differ. refl) same)
 
 -- how many windows the process has used that was read
 pub used-read : (mappings : List Mapping) (owns : List Own) (pid : ℕ) (own : Own) → pid < length owns → own ≡ slice_index_or owns pid own
@@ -160,12 +157,12 @@ pub used-read : (mappings : List Mapping) (owns : List Own) (pid : ℕ) (own : O
 used-read mappings owns pid own h read =
     ap (λ (p : Process). length p.space.windows) (process-read mappings owns pid own h read) ∙ length-windows_of mappings pid own.used_count
 
-pub used_by-read : (owns : List Own) (pid : ℕ) (own : Own) → pid < length owns → own ≡ slice_index_or owns pid own → used_by owns pid ≡ own.used_count
+pub used_by-read : (owns : List Own) (pid : ℕ) (own : Own) → pid < length owns → own ≡ slice_index_or owns pid own → used_count_of owns pid ≡ own.used_count
 used_by-read owns pid own h read = ap (λ (o : Own). o.used_count) (sym (get_or_read owns pid own h read unborn_own))
 
 -- the map holds the same for all processes but one
-pub same-but : (pid : ℕ) (before after : List Mapping) (owns : List Own) → ((q w : ℕ) → (q ≡ pid → ⊥) → held_at after q w ≡ held_at before q w) → IsSameBut pid before after owns
-same-but pid before after owns same q differ = windows-same before after q (used_by owns q) (λ w. same q w differ)
+pub same-but : (pid : ℕ) (before after : List Mapping) (owns : List Own) → ((q w : ℕ) → (q ≡ pid → ⊥) → block_held_at after q w ≡ block_held_at before q w) → IsSameBut pid before after owns
+same-but pid before after owns same q differ = windows-same before after q (used_count_of owns q) (λ w. same q w differ)
 
 pub same-changed : (pid window : ℕ) (there : Option Block) (before after : List Mapping) (owns : List Own) → HasChangedOnly before after pid window there → IsSameBut pid before after owns
 same-changed pid window there before after owns changes = same-but pid before after owns (λ q w differ. changes.others q w (λ e. absurd (differ e)))
@@ -192,7 +189,7 @@ unused-fewer mappings owns pid own h read unused =
     let less = ltb-true (length (slice_index_or (processes_of mappings owns) pid unborn_process).space.windows) window_count unused in
     omega (arith, used-read mappings owns pid own h read, less)
 
-pub used_by-set : (owns : List Own) (pid : ℕ) (own : Own) → pid < length owns → used_by (slice_set owns pid own) pid ≡ own.used_count
+pub used_by-set : (owns : List Own) (pid : ℕ) (own : Own) → pid < length owns → used_count_of (slice_set owns pid own) pid ≡ own.used_count
 used_by-set owns pid own h = ap (λ (o : Own). o.used_count) (get_or-set_same owns pid own unborn_own h)
 
 -- the process that was put into the list
@@ -205,7 +202,7 @@ process-put m owns pid own h =
 pub same-others : (pid : ℕ) (before after : List Mapping) (owns : List Own) → without_process pid after ≡ without_process pid before → IsSameBut pid before after owns
 same-others pid before after owns same =
     same-but pid before after owns (λ q w differ.
-    sym (held_at-drained_other pid after q w differ) ∙ ap (λ ms. held_at ms q w) same ∙ held_at-drained_other pid before q w differ)
+    sym (held_at-drained_other pid after q w differ) ∙ ap (λ ms. block_held_at ms q w) same ∙ held_at-drained_other pid before q w differ)
 
 pub running_status : (s : Status) → is_running s ≡ true → s ≡ Running
 running_status Unborn h = absurd (cc)

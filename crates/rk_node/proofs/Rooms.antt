@@ -2,7 +2,7 @@
 use Rattle.std.proofs.Common.{◌≡◌, ℕ, [], ◌∷◌, ◌++◌, length, ap, ◌∙◌, append-nil}
 use Rattle.ce_model.specs.declared.topology.BlockId.{BlockId}
 use Rattle.ce_model.specs.Limits.{process_count, home_blocks}
-use Rattle.ce_model.specs.Blocks.{put, blocks_of_home}
+use Rattle.ce_model.specs.Blocks.{with_id, blocks_of_home}
 use Rattle.ce_model.specs.Node.{Node, blocks_of}
 use Rattle.ce_model.specs.Kernel.{with_store}
 use Rattle.rk_node.specs.Boxes.{fresh_at, scrubbed_node}
@@ -18,5 +18,5 @@ blocks-fresh node fresh =
 pub blocks-scrubbed : (node : Node) → blocks_of (scrubbed_node node) ≡ []
 blocks-scrubbed node = ids-unborn process_count
 
-pub blocks-put : (id : BlockId) (node : Node) → blocks_of (with_store (put id []) (scrubbed_node node)) ≡ id ∷ []
+pub blocks-put : (id : BlockId) (node : Node) → blocks_of (with_store (with_id id []) (scrubbed_node node)) ≡ id ∷ []
 blocks-put id node = ap (λ ids. id ∷ ids) (ids-unborn process_count)

@@ -10,7 +10,7 @@ use Rattle.ce_model.specs.declared.process.Status.TheVariants.{Asking, Polling}
 use Rattle.ce_model.specs.declared.topology.Place.{Place}
 use Rattle.ce_model.specs.declared.topology.BlockId.{BlockId}
 use Rattle.ce_model.specs.Limits.{block_room, greatest_targets, turn_calls}
-use Rattle.ce_model.specs.Blocks.{Block, put}
+use Rattle.ce_model.specs.Blocks.{Block, with_id}
 use Rattle.ce_model.specs.Space.{Space, process_access, window_start, has_unused_window, mapped_space, block_named, places_at}
 use Rattle.ce_model.specs.Process.{Process, argument, call_number, with_answer, moved_process, unborn_process, TurnEnd, at_call, at_stop, end_after, turn_end}
 use Rattle.ce_model.specs.Node.{Turn, Node, is_place, process_at, with_process, with_stopped, Call, send_call, spawn_call, kill_call, note_call}
@@ -72,7 +72,7 @@ module _ (q : Process) where
       either (nat_lt block_room (argument p 0) || not (has_unused_window p.space)) _ _ _ _ (returns-apart node turn p 0) (map_outcome-apart node turn p (argument p 0) node.store)
 
   frees-apart : (node : Node) (turn : Turn) (p : Process) (found : ℕ × Block) → free_outcome (other node turn.pid) turn p found ≡ free_outcome node turn p found
-  frees-apart node turn p found = returns-apart (with_store (put found.1.id node.store) node) turn (process_left_behind found.0 p) 0
+  frees-apart node turn p found = returns-apart (with_store (with_id found.1.id node.store) node) turn (process_left_behind found.0 p) 0
 
   xfree-apart : IsApart xfree
   xfree-apart node turn p = reading-apart node turn p (block_named p.space (argument p 0)) _ _ (frees-apart node turn p)

@@ -11,11 +11,11 @@ use Rattle.ce_solo.proofs.Says.{says-said}
 use Rattle.rk_node.specs.declared.node.Node.{Node}
 use Rattle.rk_node.specs.declared.out.Out.{Out}
 use Rattle.rk_node.specs.declared.out.Out.TheVariants.{Nothing}
-use Rattle.rk_node.specs.Standing.{node_of}
+use Rattle.rk_node.specs.Standing.{node_model}
 use Rattle.rk_node.specs.Wording.{call_out, HasBatch}
 use Rattle.rk_node.specs.Boxes.{Box}
-use Rattle.rk_node.specs.Answering.{HasSaid}
-use Rattle.rk_node.specs.Taken.{HasTakenOut}
+use Rattle.rk_node.specs.Answering.{IsAwaitingAnswer}
+use Rattle.rk_node.specs.Withdrawal.{HasTakenOut}
 use Rattle.rk_node.specs.Whole.{IsWhole}
 use Rattle.rk_node.proofs.Limits.{sound_if}
 
@@ -41,11 +41,11 @@ said-after node after call well sound same is =
       );
     }
 
-pub said-whole : (node : Node) (out : Out) (after : Node) (call : Call) → IsWhole node out → call ≡ (says (node_of node)).call
-    → node_of after ≡ (says (node_of node)).node → IsAfter (node_of node) (node_of after) call
-said-whole node out after call whole same is = said-after (node_of node) (node_of after) call whole.well (sound_if node.turn) same is
+pub said-whole : (node : Node) (out : Out) (after : Node) (call : Call) → IsWhole node out → call ≡ (says (node_model node)).call
+    → node_model after ≡ (says (node_model node)).node → IsAfter (node_model node) (node_model after) call
+said-whole node out after call whole same is = said-after (node_model node) (node_model after) call whole.well (sound_if node.turn) same is
 
-pub has_said : (box : Box) (call : Call) → box.out ≡ call_out call → IsCallOf box.node call → HasSaid box call
+pub has_said : (box : Box) (call : Call) → box.out ≡ call_out call → IsCallOf box.node call → IsAwaitingAnswer box call
 has_said box (take_call asking dead poller) is of = (is, of.1, of.0)
 has_said box call is of = sym is
 

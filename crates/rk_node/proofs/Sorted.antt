@@ -4,13 +4,14 @@ use Rattle.std.specs.List.{AllByRecursion, range_with_len}
 use Rattle.std.proofs.lemmas.Bool.{cases_lt, both_ways, eq-eqb, lt-ltb, and_from, or_right}
 use Rattle.std.proofs.lemmas.Bool.Decides.{nat_tests}
 use Rattle.std.proofs.lemmas.List.{length-replicate, get_or-replicate, get_or_past}
+use Rattle.rv_model.specs.declared.limits.TheConstants.{REGISTER_COUNT}
 use Rattle.ce_model.specs.declared.topology.BlockId.{BlockId}
 use Rattle.ce_model.specs.Limits.{process_count, home_blocks}
 use Rattle.ce_model.specs.Blocks.{is_lower, blocks_of_home}
 use Rattle.ce_model.specs.Space.{mapped_ids}
-use Rattle.ce_model.specs.Process.{Process, unborn_process, register_count}
+use Rattle.ce_model.specs.Process.{Process, unborn_process}
 use Rattle.ce_model.specs.Node.{Node, process_at, blocks_of}
-use Rattle.ce_model.specs.Sound.{is_polling, IsRising}
+use Rattle.ce_model.specs.Sound.{is_polling, AreInOrder}
 use Rattle.ce_solo.proofs.Counting.{hit, hit-le, same_from_hit, count, count-nil, count-cons}
 use Rattle.ce_solo.proofs.Nodes.{polls, IsWellProcess, IsWell}
 use Rattle.rk_node.specs.Boxes.{fresh_at, scrubbed_node}
@@ -30,7 +31,7 @@ none_later x (y ∷ ys) all =
       | inr here ↦ absurd (not_self x (subst (λ other. is_lower x other ≡ true) (sym (same_from_hit x y here)) all.0))
     ]
 
-pub once-rising : (id : BlockId) (xs : List BlockId) → IsRising xs → count id xs ≤ 1
+pub once-rising : (id : BlockId) (xs : List BlockId) → AreInOrder xs → count id xs ≤ 1
 once-rising id [] rising = omega (arith, count-nil id)
 once-rising id (x ∷ xs) rising =
     elim (cases_lt (hit id x) 1) [
@@ -48,11 +49,11 @@ all_later : (home i from n : ℕ) → i < from → AllByRecursion (λ other. is_
 all_later home i from zero h = tt
 all_later home i from (suc n) h = (before-next home i from h, all_later home i (from + 1) n (omega arith))
 
-rising-from : (home from n : ℕ) → IsRising (map (name home) (range_with_len from n))
+rising-from : (home from n : ℕ) → AreInOrder (map (name home) (range_with_len from n))
 rising-from home from zero = tt
 rising-from home from (suc n) = (all_later home from (from + 1) n (omega arith), rising-from home (from + 1) n)
 
-pub rising-home : (home : ℕ) → IsRising (blocks_of_home home)
+pub rising-home : (home : ℕ) → AreInOrder (blocks_of_home home)
 rising-home home = rising-from home 0 home_blocks
 
 -- ---- nodes without a process that was started
@@ -61,7 +62,7 @@ rising-home home = rising-from home 0 home_blocks
 pub record IsIdle (node : Node) : Type 0 where
   pub processes : node.processes ≡ replicate process_count unborn_process
   pub polling_ids : node.polling_ids ≡ []
-  pub store : IsRising node.store
+  pub store : AreInOrder node.store
 
 idle-process : (node : Node) (pid : ℕ) → IsIdle node → process_at node pid ≡ unborn_process
 idle-process node pid idle =
@@ -78,7 +79,7 @@ idle-blocks node idle =
 
 well_unborn : (pid : ℕ) → IsWellProcess None pid unborn_process
 well_unborn pid = record {
-  registers = length-replicate {A = ℕ} register_count 0;
+  registers = length-replicate {A = ℕ} REGISTER_COUNT 0;
   windows = omega arith;
   unborn_used = λ h. refl;
   stopped_holds = λ h. absurd (both_ways _ refl h);

@@ -9,37 +9,37 @@ use Rattle.ce_solo.proofs.Nodes.{IsWell}
 use Rattle.ce_solo.proofs.Words.{IsDone}
 use Rattle.ce_solo.proofs.Calls.{kernel-done}
 use Rattle.ce_solo.proofs.Says.{now_in_turn}
-use Rattle.rk_process.specs.declared.paused.Pause.{Pause}
-use Rattle.rk_process.specs.declared.paused.Pause.TheVariants.{Call, Stopped}
-use Rattle.rk_process.specs.Runs.{reached_at}
+use Rattle.rk_process.specs.declared.pause.Pause.{Pause}
+use Rattle.rk_process.specs.declared.pause.Pause.TheVariants.{Call, Stopped}
+use Rattle.rk_process.specs.Runs.{turn_end_of}
 use Rattle.rk_node.specs.declared.node.Node.{Node}
 use Rattle.rk_node.specs.declared.turn.Turn.{Turn}
 use Rattle.rk_node.specs.declared.turn.CallEnd.{CallEnd}
 use Rattle.rk_node.specs.declared.turn.CallEnd.TheVariants.{GoesOn, Leaves, TurnEnds}
-use Rattle.rk_node.specs.Standing.{node_of, turn_of}
+use Rattle.rk_node.specs.Standing.{node_model, turn_of}
 use Rattle.rk_node.specs.Ready.{IsInTurn, IsHearing}
 use Rattle.rk_node.specs.Wording.{outcome_of, saying_of_end, end_out, HasBatch, HasMade, HasGoneOnIn}
 use Rattle.rk_node.proofs.Limits.{sound_of}
 use Rattle.rk_node.proofs.Processes.{length-processes}
 use Rattle.rk_node.proofs.Running.{came_to, IsKept, IsKeptBy, kernel-apart, with_stopped-apart, runs-reached, reached-kept, well-after}
 
-within : (node : Node) (turn : Turn) → turn.pid.number < length (node_of node).processes
+within : (node : Node) (turn : Turn) → turn.pid.number < length (node_model node).processes
 within node turn = omega (arith, length-processes node, turn.pid.within)
 
 -- what a run keeps, whatever it came to
-kept_at : (n : ℕ) (p : Process) (paused : Pause) (left : ℕ) (p' : Process) → IsKeptBy n p (reached_at paused left p') → IsKept p p' × (left ≤ n)
+kept_at : (n : ℕ) (p : Process) (paused : Pause) (left : ℕ) (p' : Process) → IsKeptBy n p (turn_end_of paused left p') → IsKept p p' × (left ≤ n)
 kept_at n p Call left p' kept = (kept.0, let less = kept.1 in omega (arith, less))
 kept_at n p (Stopped cause) left p' kept = kept
 
 -- so it leaves no more instructions than there were
-pub left-kept : (n left : ℕ) (p p' : Process) (paused : Pause) → turn_end n p ≡ reached_at paused left p' → left ≤ n
+pub left-kept : (n left : ℕ) (p p' : Process) (paused : Pause) → turn_end n p ≡ turn_end_of paused left p' → left ≤ n
 left-kept n left p p' paused came = (kept_at n p paused left p' (subst (IsKeptBy n p) came (reached-kept n p))).1
 
 module _ (before after : Node) (turn turn' : Turn) (ready : IsInTurn before (turn_of turn))
-    (same : node_of after ≡ model.with_process (node_of before) turn.pid.number (model.process_at (node_of after) turn.pid.number))
+    (same : node_model after ≡ model.with_process (node_model before) turn.pid.number (model.process_at (node_model after) turn.pid.number))
     (same_pid : turn'.pid ≡ turn.pid) (same_calls : turn'.calls ≡ turn.calls) where
   abbrev p' : Process
-  p' = model.process_at (node_of after) turn.pid.number
+  p' = model.process_at (node_model after) turn.pid.number
 
   abbrev at : model.Turn
   at = record (turn_of turn) { instructions_left = turn'.instructions_left }
@@ -47,41 +47,41 @@ module _ (before after : Node) (turn turn' : Turn) (ready : IsInTurn before (tur
   at_is : turn_of turn' ≡ at
   at_is = λ i. record { pid = (same_pid i).number; instructions_left = turn'.instructions_left; calls = same_calls i }
 
-  pub in_turn-run : (paused : Pause) → turn_end turn.instructions_left (model.process_at (node_of before) turn.pid.number) ≡ reached_at paused turn'.instructions_left p'
+  pub in_turn-run : (paused : Pause) → turn_end turn.instructions_left (model.process_at (node_model before) turn.pid.number) ≡ turn_end_of paused turn'.instructions_left p'
       → after.batch ≡ before.batch → IsInTurn after (turn_of turn')
   in_turn-run paused came batch =
-      let p = model.process_at (node_of before) turn.pid.number in
+      let p = model.process_at (node_model before) turn.pid.number in
       let kept = kept_at turn.instructions_left p paused turn'.instructions_left p' (subst (IsKeptBy turn.instructions_left p) came (reached-kept turn.instructions_left p)) in
-      let well = well-after (node_of before) (turn_of turn) turn'.instructions_left p' ready.well (sound_of turn) kept.1 kept.0 in
-      let well' : IsWell (Some at) (node_of after) = subst (IsWell (Some at)) (sym same) well in
+      let well = well-after (node_model before) (turn_of turn) turn'.instructions_left p' ready.well (sound_of turn) kept.1 kept.0 in
+      let well' : IsWell (Some at) (node_model after) = subst (IsWell (Some at)) (sym same) well in
       record {
-        well = subst (λ (t : model.Turn). IsWell (Some t) (node_of after)) (sym at_is) well';
+        well = subst (λ (t : model.Turn). IsWell (Some t) (node_model after)) (sym at_is) well';
         batch = batch ∙ ready.batch;
       }
 
-  pub said-called : (last : Node) (turn'' : Turn) (outcome : CallEnd) → turn_end turn.instructions_left (model.process_at (node_of before) turn.pid.number) ≡ at_call turn'.instructions_left p'
+  pub said-called : (last : Node) (turn'' : Turn) (outcome : CallEnd) → turn_end turn.instructions_left (model.process_at (node_model before) turn.pid.number) ≡ at_call turn'.instructions_left p'
       → HasMade kernel.kernel after last (turn_of turn') (turn_of turn'') outcome → turn''.instructions_left ≡ turn'.instructions_left
-      → saying_of_end outcome (node_of last) (turn_of turn'') ≡ turn_saying turn.instructions_left (node_of before) (turn_of turn)
+      → saying_of_end outcome (node_model last) (turn_of turn'') ≡ turn_saying turn.instructions_left (node_model before) (turn_of turn)
   said-called last turn'' outcome came made same_left =
-      ap (λ n. after_call (turn_saying n) (outcome_of outcome (node_of last) (turn_of turn''))) same_left
+      ap (λ n. after_call (turn_saying n) (outcome_of outcome (node_model last) (turn_of turn''))) same_left
       ∙ ap (after_call (turn_saying turn'.instructions_left))
       (made.did
-      ∙ ap (λ (t : model.Turn). kernel.kernel (node_of after) t (model.process_at (node_of after) t.pid)) at_is
+      ∙ ap (λ (t : model.Turn). kernel.kernel (node_model after) t (model.process_at (node_model after) t.pid)) at_is
       ∙ ap (λ n. kernel.kernel n at p') same
-      ∙ kernel-apart p' (node_of before) at p')
-      ∙ sym (runs-reached turn.instructions_left (node_of before) (turn_of turn) (within before turn) ∙ ap (came_to (node_of before) (turn_of turn)) came)
+      ∙ kernel-apart p' (node_model before) at p')
+      ∙ sym (runs-reached turn.instructions_left (node_model before) (turn_of turn) (within before turn) ∙ ap (came_to (node_model before) (turn_of turn)) came)
 
-  pub said-stopped : (last : Node) (outcome : CallEnd) (cause : Stop) → turn_end turn.instructions_left (model.process_at (node_of before) turn.pid.number) ≡ at_stop turn'.instructions_left p' cause
+  pub said-stopped : (last : Node) (outcome : CallEnd) (cause : Stop) → turn_end turn.instructions_left (model.process_at (node_model before) turn.pid.number) ≡ at_stop turn'.instructions_left p' cause
       → HasMade (λ node turn p. kernel.stop_outcome node turn p cause) after last (turn_of turn') (turn_of turn') outcome
-      → saying_of_end outcome (node_of last) (turn_of turn') ≡ turn_saying turn.instructions_left (node_of before) (turn_of turn)
+      → saying_of_end outcome (node_model last) (turn_of turn') ≡ turn_saying turn.instructions_left (node_model before) (turn_of turn)
   said-stopped last outcome cause came made =
       ap (after_call (turn_saying turn'.instructions_left)) made.did
-      ∙ ap (λ (t : model.Turn). idle_saying (model.with_stopped (node_of after) t.pid (model.process_at (node_of after) t.pid) cause)) at_is
+      ∙ ap (λ (t : model.Turn). idle_saying (model.with_stopped (node_model after) t.pid (model.process_at (node_model after) t.pid) cause)) at_is
       ∙ ap (λ n. idle_saying (model.with_stopped n turn.pid.number p' cause)) same
-      ∙ ap idle_saying (with_stopped-apart p' (node_of before) turn.pid.number p' cause)
-      ∙ sym (runs-reached turn.instructions_left (node_of before) (turn_of turn) (within before turn) ∙ ap (came_to (node_of before) (turn_of turn)) came)
+      ∙ ap idle_saying (with_stopped-apart p' (node_model before) turn.pid.number p' cause)
+      ∙ sym (runs-reached turn.instructions_left (node_model before) (turn_of turn) (within before turn) ∙ ap (came_to (node_model before) (turn_of turn)) came)
 
-goes_on-done : (after last : Node) (turn' : model.Turn) (left : ℕ) (outcome : CallEnd) → IsDone (node_of after) (outcome_of outcome (node_of last) turn')
+goes_on-done : (after last : Node) (turn' : model.Turn) (left : ℕ) (outcome : CallEnd) → IsDone (node_model after) (outcome_of outcome (node_model last) turn')
     → HasBatch (end_out outcome) last.batch → turn'.instructions_left < left → HasGoneOnIn outcome last turn' left
 goes_on-done after last turn' left GoesOn done batch less =
     (record { well = done.became.well; batch = batch }, less)
@@ -92,7 +92,7 @@ pub goes_on-called : (after last : Node) (turn' turn'' : Turn) (left : ℕ) (out
     → HasMade kernel.kernel after last (turn_of turn') (turn_of turn'') outcome → turn''.instructions_left ≡ turn'.instructions_left → turn'.instructions_left < left
     → HasGoneOnIn outcome last (turn_of turn'') left
 goes_on-called after last turn' turn'' left outcome ready made same less =
-    let node = node_of after in
+    let node = node_model after in
     let turn = turn_of turn' in
     goes_on-done after last (turn_of turn'') left outcome
     (subst (IsDone node) (sym made.did) (kernel-done node turn (model.process_at node turn.pid) (now_in_turn node turn ready.well (sound_of turn'))))
@@ -112,14 +112,14 @@ left-called n left p q came = (subst (IsKeptBy n p) came (reached-kept n p)).1
 
 pub ready-turn : (node : Node) (turn : Turn) → node.turn ≡ Some turn → IsHearing node → node.batch ≡ Some [] → IsInTurn node (turn_of turn)
 ready-turn node turn is ready batch = record {
-  well = subst (λ t. IsWell (option_map turn_of t) (node_of node)) is ready;
+  well = subst (λ t. IsWell (option_map turn_of t) (node_model node)) is ready;
   batch = batch;
 }
 
-pub says-turn : (node : Node) (turn : Turn) → node.turn ≡ Some turn → says (node_of node) ≡ turn_saying turn.instructions_left (node_of node) (turn_of turn)
+pub says-turn : (node : Node) (turn : Turn) → node.turn ≡ Some turn → says (node_model node) ≡ turn_saying turn.instructions_left (node_model node) (turn_of turn)
 unfolding says
-says-turn node turn is = ap (λ t. saying_in (node_of node) (option_map turn_of t)) is
+says-turn node turn is = ap (λ t. saying_in (node_model node) (option_map turn_of t)) is
 
-pub says-idle : (node : Node) → node.turn ≡ None → says (node_of node) ≡ idle_saying (node_of node)
+pub says-idle : (node : Node) → node.turn ≡ None → says (node_model node) ≡ idle_saying (node_model node)
 unfolding says
-says-idle node is = ap (λ t. saying_in (node_of node) (option_map turn_of t)) is
+says-idle node is = ap (λ t. saying_in (node_model node) (option_map turn_of t)) is

@@ -5,7 +5,7 @@ use Rattle.ce_model.specs.declared.process.Status.TheVariants.{Unborn}
 use Rattle.ce_model.specs.Limits.{process_count}
 use Rattle.ce_model.specs.Parcels.{Parcel, mail, is_eligible}
 use Rattle.ce_model.specs.Process.{is_receiving, is_stopped}
-use Rattle.ce_model.specs.Node.{Call, take_call, take_of, ids_of, process_at, blocks_of}
+use Rattle.ce_model.specs.Node.{Call, take_call, take_of, process_set, process_at, blocks_of}
 use Rattle.rk_mail.specs.declared.talk.Hearing.{Hearing}
 use Rattle.rk_mail.specs.declared.talk.Hearing.TheVariants.{Start, Mail, Kill, Poll}
 use Rattle.rk_mail.specs.Items.{parcel_of}
@@ -15,13 +15,13 @@ use Rattle.rk_node.specs.Wording.{call_out}
 use Rattle.rk_node.specs.Boxes.{Box, HasRoomForBlock}
 
 -- the box has said this call, and waits for its answer; a Take is said by a node without a turn
-abbrev pub HasSaid : Box → Call → Type 0
-HasSaid box (take_call asking dead poller) = (box.out ≡ Nothing) × (box.node.turn ≡ None) × (take_call asking dead poller ≡ take_of box.node)
-HasSaid box call = call_out call ≡ box.out
+abbrev pub IsAwaitingAnswer : Box → Call → Type 0
+IsAwaitingAnswer box (take_call asking dead poller) = (box.out ≡ Nothing) × (box.node.turn ≡ None) × (take_call asking dead poller ≡ take_of box.node)
+IsAwaitingAnswer box call = call_out call ≡ box.out
 
 -- a parcel is for a process that waits for a message or has stopped, and its block is new to the box, which has room for it
 pub record IsForBox (box : Box) (parcel : Parcel) : Type 0 where
-  pub eligible : IsTrue (is_eligible (ids_of is_receiving box.node.processes) (ids_of is_stopped box.node.processes) (mail parcel))
+  pub eligible : IsTrue (is_eligible (process_set is_receiving box.node.processes) (process_set is_stopped box.node.processes) (mail parcel))
   pub apart : ¬ (Contains (blocks_of box.node) parcel.block.id)
   pub room : HasRoomForBlock box
 
@@ -37,6 +37,6 @@ IsWork images box other = Unit {0}
 -- the box can hear this answer: it is one to the call that it has said, and its work is the node's
 pub record IsAbleToHear (images : List ImageParts) (box : Box) (heard : Hearing) : Type 0 where
   pub call : Call
-  pub said : HasSaid box call
+  pub said : IsAwaitingAnswer box call
   pub answer : IsAnswerTo call heard
   pub work : IsWork images box heard

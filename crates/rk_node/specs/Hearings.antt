@@ -9,7 +9,7 @@ use Rattle.ce_model.specs.Blocks.{Block}
 use Rattle.ce_model.specs.Space.{mapped_ids}
 use Rattle.ce_model.specs.Node as model
 use Rattle.ce_solo.proofs.Counting.{count}
-use Rattle.xm_block.specs.Stores.{KeptBlock, ids_of}
+use Rattle.xm_block.specs.Stores.{BlockStore, ids_of}
 use Rattle.rk_mail.specs.declared.talk.Hearing.{Hearing}
 use Rattle.rk_mail.specs.declared.talk.Hearing.TheVariants.{Start, Mail, Kill, Poll, Posted}
 use Rattle.rk_node.specs.declared.node.Node.{Node}
@@ -39,5 +39,5 @@ abbrev pub ids_in : ℕ → model.Node → List BlockId
 ids_in pid node = mapped_ids (model.process_at node pid).space
 
 -- no two of these names and of those in a store are the same
-pub record AreApartFrom (ids : List BlockId) (store : KeptBlock) : Type 0 where
+pub record AreApartFrom (ids : List BlockId) (store : BlockStore) : Type 0 where
   pub apart : (id : BlockId) → count id (ids ++ ids_of store.blocks) ≤ 1

@@ -2,16 +2,16 @@
 use Rattle.std.specs.Prelude.{◌≡◌, ℕ, ◌≤◌, List, [], ◌∷◌}
 use Rattle.ce_model.specs.declared.topology.BlockId.{BlockId}
 use Rattle.ce_model.specs.Limits.{greatest_blocks}
-use Rattle.ce_model.specs.Blocks.{put, blocks_of_home}
+use Rattle.ce_model.specs.Blocks.{with_id, blocks_of_home}
 use Rattle.ce_model.specs.Kernel.{with_store}
 use Rattle.ce_solo.proofs.Counting.{count}
 use Rattle.rk_node.specs.declared.out.Out.TheVariants.{Nothing}
 use Rattle.rk_node.specs.Boxes.{Box, IsClean, scrubbed_node}
 
 -- the box once these blocks were put into its store, one after the other
-abbrev pub all_put_home : List BlockId → Box → Box
-all_put_home [] box = box
-all_put_home (id ∷ ids) box = all_put_home ids (record box { node = with_store (put id box.node.store) box.node })
+abbrev pub box_with_all : List BlockId → Box → Box
+box_with_all [] box = box
+box_with_all (id ∷ ids) box = box_with_all ids (record box { node = with_store (with_id id box.node.store) box.node })
 
 -- these are the blocks of a home, in whatever order
 abbrev pub AreBlocksOfHome : ℕ → List BlockId → Type 0
@@ -20,4 +20,4 @@ AreBlocksOfHome home ids = (id : BlockId) → count id ids ≡ count id (blocks_
 -- a box with room for all blocks of the greatest cube is clean once it was scrubbed and the blocks of its home were put home
 abbrev pub ScrubbedIsClean : Type 0
 ScrubbedIsClean = (box : Box) (ids : List BlockId) → box.out ≡ Nothing → greatest_blocks ≤ box.room
-    → AreBlocksOfHome box.node.home ids → IsClean (all_put_home ids (record box { node = scrubbed_node box.node }))
+    → AreBlocksOfHome box.node.home ids → IsClean (box_with_all ids (record box { node = scrubbed_node box.node }))

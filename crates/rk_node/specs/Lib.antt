@@ -1,11 +1,12 @@
 pub mod Answering
+pub mod BlockCalls
 pub mod Boxes
 pub mod Hearings
 pub mod Laws
 pub mod Moves
 pub mod Ready
 pub mod Standing
-pub mod Stocked
-pub mod Taken
+pub mod Tables
 pub mod Whole
+pub mod Withdrawal
 pub mod Wording

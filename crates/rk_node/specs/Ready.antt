@@ -5,7 +5,7 @@ use Rattle.ce_model.specs.declared.topology.BlockId.{BlockId}
 use Rattle.ce_solo.proofs.Counting.{count}
 use Rattle.ce_solo.proofs.Nodes.{IsWell}
 use Rattle.rk_node.specs.declared.node.Node.{Node}
-use Rattle.rk_node.specs.Standing.{node_of}
+use Rattle.rk_node.specs.Standing.{node_model}
 
 -- no block is at two places of the node
 pub record IsOnce (node : model.Node) : Type 0 where
@@ -13,13 +13,13 @@ pub record IsOnce (node : model.Node) : Type 0 where
 
 -- a process of the node is in this turn, and the spare batch is here
 pub record IsInTurn (node : Node) (turn : model.Turn) : Type 0 where
-  pub well : IsWell (Some turn) (node_of node)
+  pub well : IsWell (Some turn) (node_model node)
   pub batch : node.batch ≡ Some []
 
 -- the node can hear an answer
 abbrev pub IsHearing : Node → Type 0
-IsHearing node = IsWell (node_of node).turn (node_of node)
+IsHearing node = IsWell (node_model node).turn (node_model node)
 
 -- there is room for a block more
 abbrev pub HasRoom : Node → Type 0
-HasRoom node = length node.store.blocks + length node.held.mappings < node.room
+HasRoom node = length node.store.blocks + length node.held_blocks.mappings < node.room

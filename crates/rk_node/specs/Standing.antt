@@ -29,13 +29,13 @@ abbrev pub turn_of : Turn → model.Turn
 turn_of turn = record { pid = turn.pid.number; instructions_left = turn.instructions_left; calls = turn.calls }
 
 -- the node of the model, with the names that its blocks have
-abbrev pub node_of : Node → model.Node
-node_of node = record {
+abbrev pub node_model : Node → model.Node
+node_model node = record {
   number = node.relative;
   dim = node.dim;
   home = node.home;
   images = node.images;
-  processes = processes_of node.held.mappings node.processes.items;
+  processes = processes_of node.held_blocks.mappings node.processes.items;
   store = ids_of node.store.blocks;
   polling_ids = node.polling_ids.items;
   turn = option_map turn_of node.turn;

@@ -13,7 +13,7 @@ use Rattle.rk_node.specs.declared.out.Out.{Out}
 use Rattle.rk_node.specs.declared.out.Out.TheVariants as out
 use Rattle.rk_node.specs.declared.turn.CallEnd.{CallEnd}
 use Rattle.rk_node.specs.declared.turn.CallEnd.TheVariants.{GoesOn, Leaves, TurnEnds}
-use Rattle.rk_node.specs.Standing.{node_of}
+use Rattle.rk_node.specs.Standing.{node_model}
 use Rattle.rk_node.specs.Ready.{IsInTurn}
 
 -- what a call came to, with the node and the turn that it left
@@ -54,7 +54,7 @@ say_out (Some say) = call_out (call_said say)
 
 -- the call makes of a node, in this turn, what the word of the kernel does
 pub record HasMade (word : model.Node → model.Turn → Process → kernel.CallOutcome) (before after : Node) (turn turn' : model.Turn) (outcome : CallEnd) : Type 0 where
-  pub did : outcome_of outcome (node_of after) turn' ≡ word (node_of before) turn (model.process_at (node_of before) turn.pid)
+  pub did : outcome_of outcome (node_model after) turn' ≡ word (node_model before) turn (model.process_at (node_model before) turn.pid)
   pub batch : HasBatch (end_out outcome) after.batch
   pub room : after.room ≡ before.room
 

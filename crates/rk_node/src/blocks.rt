@@ -1,13 +1,14 @@
 ghost use Rattle.std.specs.Prelude.{◌≡◌, ◌<◌, ◌≤◌, ◌||◌, not, nat_lt, length, slice_get, if◌then◌else◌, IsTrue, IsSome, IfSome, Some, None, []};
 ghost use Rattle.ce_model.specs.Limits.{window_count, block_room};
-ghost use Rattle.ce_model.specs.Space.{window_start, window_of, is_window_start, has_unused_window, named_in, block_named};
+ghost use Rattle.ce_model.specs.Space.{window_start, window_of, is_window_start, has_unused_window, block_at_window, block_named};
 ghost use Rattle.ce_model.specs.Node.{process_at, with_process};
-ghost use Rattle.ce_model.specs.Kernel.{process_left_behind, return_outcome, stop_outcome, free_outcome, map_outcome, xmalloc, xfree, xlength};
-ghost use Rattle.xm_owner.specs.Holdings.{held_at};
-ghost use Rattle.rk_node.specs.Standing.{node_of, turn_of};
+ghost use Rattle.ce_model.specs.Kernel.{process_left_behind, return_outcome, stop_outcome, free_outcome, map_outcome, xmalloc};
+ghost use Rattle.xm_owner.specs.Holdings.{block_held_at};
+ghost use Rattle.rk_node.specs.Standing.{node_model, turn_of};
 ghost use Rattle.rk_node.specs.Ready.{IsInTurn, HasRoom};
 ghost use Rattle.rk_node.specs.Moves.{with_mapped, IsNamed};
 ghost use Rattle.rk_node.specs.Wording.{HasMade};
+ghost use Rattle.rk_node.specs.BlockCalls.{length_outcome, HasMadeAt};
 
 use crate::node::Node;
 use crate::pid::Pid;
@@ -19,8 +20,8 @@ impl Node {
     /// The block at a window of a process that the address names, by its window: the address is the start of a window that
     /// holds one.
     pub fn block_named(&self, pid: Pid, address: u32) -> Result<u32, Stop>
-        ensures { IsNamed (held_at self.now.held.mappings pid.number)
-            (block_named (process_at (node_of self.now) pid.number).space address) result }
+        ensures { IsNamed (block_held_at self.now.held_blocks.mappings pid.number)
+            (block_named (process_at (node_model self.now) pid.number).space address) result }
     {
         match window_at(address) {
             Some(window) => self.block_at(pid, window, address),
@@ -31,15 +32,15 @@ impl Node {
     /// The block at the window that begins at an address, by its window.
     fn block_at(&self, pid: Pid, window: u32, address: u32) -> Result<u32, Stop>
         requires { window ≡ window_of address }
-        ensures { IsNamed (held_at self.now.held.mappings pid.number)
-            (named_in
-            (slice_get (process_at (node_of self.now) pid.number).space.windows window) address)
+        ensures { IsNamed (block_held_at self.now.held_blocks.mappings pid.number)
+            (block_at_window
+            (slice_get (process_at (node_model self.now) pid.number).space.windows window) address)
             result }
     {
         if window >= self.processes[pid.number as usize].windows() {
             return Err(Stop::NotABlock(address));
         }
-        match self.held.get(pid.number, window) {
+        match self.held_blocks.get(pid.number, window) {
             Some(_) => Ok(window),
             None => Err(Stop::Gone(address)),
         }
@@ -47,7 +48,7 @@ impl Node {
 
     /// A further window of the process can be used.
     pub fn has_unused_window(&self, pid: Pid) -> bool
-        ensures { result ≡ has_unused_window (process_at (node_of self.now) pid.number).space }
+        ensures { result ≡ has_unused_window (process_at (node_model self.now) pid.number).space }
     {
         self.processes[pid.number as usize].windows() < WINDOW_COUNT
     }
@@ -56,31 +57,31 @@ impl Node {
     pub fn map(&mut self, pid: Pid, block: Block) -> u32
         requires room { HasRoom self.old }
         requires unused { IsTrue
-            (has_unused_window (process_at (node_of self.old) pid.number).space) }
+            (has_unused_window (process_at (node_model self.old) pid.number).space) }
         ensures start { result
-            ≡ window_start (length (process_at (node_of self.old) pid.number).space.windows) }
-        ensures node { node_of self.new ≡ with_process (node_of self.old) pid.number
-            (with_mapped block (process_at (node_of self.old) pid.number)) }
+            ≡ window_start (length (process_at (node_model self.old) pid.number).space.windows) }
+        ensures node { node_model self.new ≡ with_process (node_model self.old) pid.number
+            (with_mapped block (process_at (node_model self.old) pid.number)) }
         ensures batch { self.new.batch ≡ self.old.batch }
         ensures room { self.new.room ≡ self.old.room }
     {
         let process = &mut self.processes[pid.number as usize];
         let window = process.give_window();
-        self.held.map(pid.number, window, block);
+        self.held_blocks.map(pid.number, window, block);
         window_start(window)
     }
 
     /// Takes the block out of a window of a process, which holds one.
     pub fn take_out(&mut self, pid: Pid, window: u32) -> Block
-        requires { IsSome (held_at self.old.held.mappings pid.number window) }
-        ensures block { held_at self.old.held.mappings pid.number window ≡ Some result }
-        ensures node { node_of self.new ≡ with_process (node_of self.old) pid.number
-            (process_left_behind window (process_at (node_of self.old) pid.number)) }
+        requires { IsSome (block_held_at self.old.held_blocks.mappings pid.number window) }
+        ensures block { block_held_at self.old.held_blocks.mappings pid.number window ≡ Some result }
+        ensures node { node_model self.new ≡ with_process (node_model self.old) pid.number
+            (process_left_behind window (process_at (node_model self.old) pid.number)) }
         ensures room { HasRoom self.new }
         ensures batch { self.new.batch ≡ self.old.batch }
         ensures size { self.new.room ≡ self.old.room }
     {
-        match self.held.unmap(pid.number, window) {
+        match self.held_blocks.unmap(pid.number, window) {
             Some(block) => block,
             None => unreachable!(),
         }
@@ -124,7 +125,7 @@ impl Node {
     #[tactic(auto, unfolding(ce_model::specs::Limits::block_room))]
     fn cannot_map(&self, pid: Pid, length: u32) -> bool
         ensures { result ≡ (nat_lt block_room length
-            || not (has_unused_window (process_at (node_of self.now) pid.number).space)) }
+            || not (has_unused_window (process_at (node_model self.now) pid.number).space)) }
     {
         length > BLOCK_ROOM || !self.has_unused_window(pid)
     }
@@ -134,7 +135,7 @@ impl Node {
         requires ready { IsInTurn self.old (turn_of turn) }
         requires length { length ≤ block_room }
         requires unused { IsTrue
-            (has_unused_window (process_at (node_of self.old) turn.pid.number).space) }
+            (has_unused_window (process_at (node_model self.old) turn.pid.number).space) }
         ensures { HasMade (λ node turn p. map_outcome node turn p length node.store)
             self.old self.new (turn_of turn) (turn_of turn) result }
     {
@@ -148,50 +149,32 @@ impl Node {
         }
     }
 
-    /// xfree: the block goes to the store.
-    pub fn xfree(&mut self, turn: Turn) -> CallEnd
-        requires { IsInTurn self.old (turn_of turn) }
-        ensures { HasMade xfree self.old self.new (turn_of turn) (turn_of turn) result }
-    {
-        match self.block_named(turn.pid, self.argument(turn.pid, 0)) {
-            Ok(window) => self.free_outcome(turn, window),
-            Err(cause) => self.stop_outcome(turn, cause),
-        }
-    }
-
-    /// The block at a window goes to the store, and the answer is 0.
+    /// xfree of the block at a window: it goes to the store, and the answer is 0.
     pub fn free_outcome(&mut self, turn: Turn, window: u32) -> CallEnd
         requires ready { IsInTurn self.old (turn_of turn) }
-        requires held { IsSome (held_at self.old.held.mappings turn.pid.number window) }
-        ensures { IfSome (held_at self.old.held.mappings turn.pid.number window)
-            (λ block. HasMade (λ node turn p. free_outcome node turn p (window, block))
-            self.old self.new (turn_of turn) (turn_of turn) result) }
+        requires held { IsSome (block_held_at self.old.held_blocks.mappings turn.pid.number window) }
+        ensures { HasMadeAt window free_outcome self.old self.new (turn_of turn) result }
     {
         let block = self.take_out(turn.pid, window);
         self.give(block);
         self.return_outcome(turn, 0)
     }
 
-    /// xlength: the block's length.
-    pub fn xlength(&mut self, turn: Turn) -> CallEnd
+    /// xlength of the block at a window: the answer is its length.
+    pub fn length_outcome(&mut self, turn: Turn, window: u32) -> CallEnd
         requires { IsInTurn self.old (turn_of turn) }
-        ensures { HasMade xlength self.old self.new (turn_of turn) (turn_of turn) result }
+        ensures { HasMadeAt window length_outcome self.old self.new (turn_of turn) result }
     {
-        match self.block_named(turn.pid, self.argument(turn.pid, 0)) {
-            Ok(window) => {
-                let length = self.length_at(turn.pid, window);
-                self.return_outcome(turn, length)
-            }
-            Err(cause) => self.stop_outcome(turn, cause),
-        }
+        let length = self.length_at(turn.pid, window);
+        self.return_outcome(turn, length)
     }
 
     /// The length of the block at a window, which holds one.
     fn length_at(&self, pid: Pid, window: u32) -> u32
-        ensures { IfSome (held_at self.now.held.mappings pid.number window)
+        ensures { IfSome (block_held_at self.now.held_blocks.mappings pid.number window)
             (λ block. result ≡ length block.bytes) }
     {
-        match self.held.get(pid.number, window) {
+        match self.held_blocks.get(pid.number, window) {
             Some(block) => block.length(),
             None => 0,
         }

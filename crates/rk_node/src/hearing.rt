@@ -6,8 +6,8 @@ ghost use Rattle.ce_model.specs.Node.{process_at, blocks_of};
 ghost use Rattle.ce_model.specs.Hearing.{mail_of, kill_of, answer_of, with_turn, with_answered_turn, with_received, node_after_hearing};
 ghost use Rattle.ce_solo.proofs.Counting.{count};
 ghost use Rattle.rk_mail.specs.Items.{parcel_of};
-ghost use Rattle.rk_mail.specs.Talk.{heard_as};
-ghost use Rattle.rk_node.specs.Standing.{node_of};
+ghost use Rattle.rk_mail.specs.Talk.{hearing_model};
+ghost use Rattle.rk_node.specs.Standing.{node_model};
 ghost use Rattle.rk_node.specs.Ready.{IsHearing, HasRoom};
 ghost use Rattle.rk_node.specs.Hearings.{IsWorkOf, HasRoomToHear, batch_after};
 
@@ -23,10 +23,10 @@ impl Node {
     /// What the node becomes by the answer to its call.
     pub fn hears(&mut self, images: &[Image], heard: Hearing)
         requires ready { IsHearing self.old }
-        requires work { IsWorkOf images.now (node_of self.old) heard }
+        requires work { IsWorkOf images.now (node_model self.old) heard }
         requires room { HasRoomToHear heard self.old }
-        ensures node { node_of self.new
-            ≡ node_after_hearing images.now (node_of self.old) (heard_as heard) }
+        ensures node { node_model self.new
+            ≡ node_after_hearing images.now (node_model self.old) (hearing_model heard) }
         ensures batch { self.new.batch ≡ batch_after heard self.old.batch }
         ensures room { self.new.room ≡ self.old.room }
     {
@@ -52,8 +52,8 @@ impl Node {
 
     /// A turn of a process begins.
     fn begin_turn(&mut self, pid: Pid)
-        ensures node { node_of self.new
-            ≡ with_turn (node_of self.old) pid.number (process_at (node_of self.old) pid.number) }
+        ensures node { node_model self.new
+            ≡ with_turn (node_model self.old) pid.number (process_at (node_model self.old) pid.number) }
         ensures batch { self.new.batch ≡ self.old.batch }
         ensures room { self.new.room ≡ self.old.room }
     {
@@ -68,8 +68,8 @@ impl Node {
 
     /// A turn begins of a process that is answered by this number.
     fn begin_answered_turn(&mut self, pid: Pid, value: u32)
-        ensures node { node_of self.new ≡ with_answered_turn (node_of self.old) pid.number
-            (process_at (node_of self.old) pid.number) value }
+        ensures node { node_model self.new ≡ with_answered_turn (node_model self.old) pid.number
+            (process_at (node_model self.old) pid.number) value }
         ensures batch { self.new.batch ≡ self.old.batch }
         ensures room { self.new.room ≡ self.old.room }
     {
@@ -79,10 +79,10 @@ impl Node {
 
     /// An image is started as a process.
     fn start(&mut self, pid: Pid, image: &Image)
-        requires unborn { (process_at (node_of self.old) pid.number).status ≡ Status.Unborn }
-        requires unused { (process_at (node_of self.old) pid.number).space.windows ≡ [] }
-        ensures node { node_of self.new
-            ≡ with_turn (node_of self.old) pid.number (started_process image.now) }
+        requires unborn { (process_at (node_model self.old) pid.number).status ≡ Status.Unborn }
+        requires unused { (process_at (node_model self.old) pid.number).space.windows ≡ [] }
+        ensures node { node_model self.new
+            ≡ with_turn (node_model self.old) pid.number (started_process image.now) }
         ensures batch { self.new.batch ≡ self.old.batch }
         ensures room { self.new.room ≡ self.old.room }
     {
@@ -97,9 +97,9 @@ impl Node {
         requires idle { self.old.turn ≡ None }
         requires pid { parcel.to.pid < process_count }
         requires room { HasRoom self.old }
-        requires apart { count parcel.block.id (blocks_of (node_of self.old)) ≡ 0 }
-        ensures node { node_of self.new
-            ≡ node_after_hearing [] (node_of self.old) (mail_of (parcel_of parcel)) }
+        requires apart { count parcel.block.id (blocks_of (node_model self.old)) ≡ 0 }
+        ensures node { node_model self.new
+            ≡ node_after_hearing [] (node_model self.old) (mail_of (parcel_of parcel)) }
         ensures batch { self.new.batch ≡ self.old.batch }
         ensures room { self.new.room ≡ self.old.room }
     {
@@ -120,9 +120,9 @@ impl Node {
         requires idle { self.old.turn ≡ None }
         requires pid { parcel.to.pid < process_count }
         requires room { HasRoom self.old }
-        requires apart { count parcel.block.id (blocks_of (node_of self.old)) ≡ 0 }
-        ensures node { node_of self.new ≡ with_received (node_of self.old) (parcel_of parcel)
-            (process_at (node_of self.old) parcel.to.pid) }
+        requires apart { count parcel.block.id (blocks_of (node_model self.old)) ≡ 0 }
+        ensures node { node_model self.new ≡ with_received (node_model self.old) (parcel_of parcel)
+            (process_at (node_model self.old) parcel.to.pid) }
         ensures batch { self.new.batch ≡ self.old.batch }
         ensures room { self.new.room ≡ self.old.room }
     {
@@ -141,8 +141,8 @@ impl Node {
     /// A process is stopped, unless it has stopped already.
     fn end_process(&mut self, pid: Pid)
         requires { IsHearing self.old }
-        ensures node { node_of self.new
-            ≡ node_after_hearing [] (node_of self.old) (kill_of pid.number) }
+        ensures node { node_model self.new
+            ≡ node_after_hearing [] (node_model self.old) (kill_of pid.number) }
         ensures batch { self.new.batch ≡ self.old.batch }
         ensures room { self.new.room ≡ self.old.room }
     {
@@ -153,9 +153,8 @@ impl Node {
 
     /// The call of the turn's process is answered.
     fn answer_call(&mut self, value: u32)
-        requires { IsHearing self.old }
-        ensures node { node_of self.new
-            ≡ node_after_hearing [] (node_of self.old) (answer_of value) }
+        ensures node { node_model self.new
+            ≡ node_after_hearing [] (node_model self.old) (answer_of value) }
         ensures batch { self.new.batch ≡ self.old.batch }
         ensures room { self.new.room ≡ self.old.room }
     {
@@ -167,8 +166,7 @@ impl Node {
 
     /// The batch comes back, and the message's sender is answered.
     fn regain_batch(&mut self, batch: Batch)
-        requires { IsHearing self.old }
-        ensures node { node_of self.new ≡ node_after_hearing [] (node_of self.old) (answer_of 0) }
+        ensures node { node_model self.new ≡ node_after_hearing [] (node_model self.old) (answer_of 0) }
         ensures batch { self.new.batch ≡ Some batch }
         ensures room { self.new.room ≡ self.old.room }
     {

@@ -1,12 +1,16 @@
 ghost use Rattle.std.specs.Prelude.{◌≡◌, IsTrue};
-ghost use Rattle.ce_model.specs.Kernel.{kernel_call, call_outcome, kernel};
+ghost use Rattle.ce_model.specs.Kernel.{mynode, mypid, nnodes, exit, kernel_call, is_counted_at, call_outcome, kernel};
 ghost use Rattle.rk_node.specs.Standing.{turn_of};
 ghost use Rattle.rk_node.specs.Ready.{IsInTurn};
 ghost use Rattle.rk_node.specs.Wording.{HasMade};
-ghost use Rattle.rk_node.specs.Moves.{mynode, mypid, nnodes, exit, is_counted_at};
+ghost use Rattle.rk_node.specs.BlockCalls.{block_outcome};
 
 use crate::node::Node;
-use crate::turn::{CallEnd, Turn};
+use crate::turn::{BlockCall, CallEnd, Turn};
+use ce_model::calls::{
+    CKILL, EXIT, MYNODE, MYPID, NNODES, NOTE, NUMBER_ARGUMENT, SPAWN, XFREE, XLENGTH, XMALLOC,
+    XMSEND, XRECV, XRECVB, XSEND,
+};
 use ce_model::{Stop, TURN_CALLS};
 
 impl Node {
@@ -17,18 +21,18 @@ impl Node {
             result }
         ensures left { turn.new.instructions_left ≡ turn.old.instructions_left }
     {
-        let number = self.argument(turn.pid, 7);
+        let number = self.argument(turn.pid, NUMBER_ARGUMENT);
         match number {
-            1 => self.xmalloc(*turn),
-            2 => self.xfree(*turn),
-            3 => self.xlength(*turn),
-            4 | 5 | 8 | 9 | 14 => self.counted_call(number, turn),
-            6 => self.xrecv(*turn),
-            7 => self.xrecvb(*turn),
-            10 => self.mynode(*turn),
-            11 => self.mypid(*turn),
-            12 => self.nnodes(*turn),
-            13 => self.exit(*turn),
+            XMALLOC => self.xmalloc(*turn),
+            XFREE => self.call_on_block(BlockCall::Free, *turn),
+            XLENGTH => self.call_on_block(BlockCall::Length, *turn),
+            XSEND | XMSEND | SPAWN | CKILL | NOTE => self.counted_call(number, turn),
+            XRECV => self.xrecv(*turn),
+            XRECVB => self.xrecvb(*turn),
+            MYNODE => self.mynode(*turn),
+            MYPID => self.mypid(*turn),
+            NNODES => self.nnodes(*turn),
+            EXIT => self.exit(*turn),
             _ => self.stop_outcome(*turn, Stop::NoCall(number)),
         }
     }
@@ -46,11 +50,28 @@ impl Node {
         }
         turn.calls += 1;
         match number {
-            4 => self.xsend(*turn),
-            5 => self.xmsend(*turn),
-            8 => self.spawn(*turn),
-            9 => self.ckill(*turn),
+            XSEND => self.call_on_block(BlockCall::Send, *turn),
+            XMSEND => self.call_on_block(BlockCall::SendToSeveral, *turn),
+            SPAWN => self.spawn(*turn),
+            CKILL => self.ckill(*turn),
             _ => self.note(*turn),
+        }
+    }
+
+    /// A call that names a block: where it names none, the process stops.
+    fn call_on_block(&mut self, call: BlockCall, turn: Turn) -> CallEnd
+        requires { IsInTurn self.old (turn_of turn) }
+        ensures { HasMade (block_outcome call)
+            self.old self.new (turn_of turn) (turn_of turn) result }
+    {
+        match self.block_named(turn.pid, self.argument(turn.pid, 0)) {
+            Ok(window) => match call {
+                BlockCall::Free => self.free_outcome(turn, window),
+                BlockCall::Length => self.length_outcome(turn, window),
+                BlockCall::Send => self.send_outcome(turn, window),
+                BlockCall::SendToSeveral => self.xmsend_block(turn, window),
+            },
+            Err(cause) => self.stop_outcome(turn, cause),
         }
     }
 

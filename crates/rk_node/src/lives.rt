@@ -1,8 +1,7 @@
-ghost use Rattle.ce_model.specs.Kernel.{spawn, ckill};
+ghost use Rattle.ce_model.specs.Kernel.{spawn, ckill, note};
 ghost use Rattle.rk_node.specs.Standing.{turn_of};
 ghost use Rattle.rk_node.specs.Ready.{IsInTurn};
 ghost use Rattle.rk_node.specs.Wording.{HasMade};
-ghost use Rattle.rk_node.specs.Moves.{note};
 
 use crate::node::Node;
 use crate::turn::{CallEnd, Turn};

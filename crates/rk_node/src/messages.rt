@@ -1,14 +1,16 @@
-ghost use Rattle.std.specs.Prelude.{◌≡◌, ◌+◌, ◌^◌, ◌≤◌, ◌++◌, length, take, drop, zip, IsSome, IfSome, Some, None, []};
+ghost use Rattle.std.specs.Prelude.{◌<◌, ◌≡◌, ◌+◌, ◌^◌, ◌≤◌, ◌++◌, length, take, drop, zip, IsSome, Some, None, []};
 ghost use Rattle.std.specs.List.{list_all};
+ghost use Rattle.ce_model.specs.declared.calls.TheConstants.{NUMBER_ARGUMENT};
 ghost use Rattle.ce_model.specs.Limits.{greatest_targets};
 ghost use Rattle.ce_model.specs.Space.{result_map, loaded_at, memory_place, places_at};
 ghost use Rattle.ce_model.specs.Node.{process_at, is_place};
-ghost use Rattle.ce_model.specs.Kernel.{with_store, is_target, place_named, send_outcome, xsend, copies_outcome, xmsend_block, xmsend, xrecv, xrecvb};
-ghost use Rattle.xm_owner.specs.Holdings.{held_at};
+ghost use Rattle.ce_model.specs.Kernel.{with_store, is_target, place_named, send_outcome, copies_outcome, xmsend_block, xrecv, xrecvb};
+ghost use Rattle.xm_owner.specs.Holdings.{block_held_at};
 ghost use Rattle.rk_mail.specs.Targets.{bytes_of, targets_of};
-ghost use Rattle.rk_node.specs.Standing.{node_of, turn_of};
+ghost use Rattle.rk_node.specs.Standing.{node_model, turn_of};
 ghost use Rattle.rk_node.specs.Ready.{IsInTurn};
 ghost use Rattle.rk_node.specs.Wording.{HasMade};
+ghost use Rattle.rk_node.specs.BlockCalls.{HasMadeAt};
 
 use crate::node::Node;
 use crate::pid::Pid;
@@ -38,15 +40,15 @@ impl Node {
 
     /// A message can be sent to a place of the cube, and to its host.
     pub fn is_target(&self, to: Place) -> bool
-        ensures { result ≡ is_target (node_of self.now) to }
+        ensures { result ≡ is_target (node_model self.now) to }
     {
         self.is_place(to) || (to.node == HOST && to.pid == 0)
     }
 
     /// The place that two arguments of a process's call name.
     pub fn place_named(&self, pid: Pid, index: u32) -> Place
-        requires { index ≤ 6 }
-        ensures { result ≡ place_named (process_at (node_of self.now) pid.number) index }
+        requires { index < NUMBER_ARGUMENT }
+        ensures { result ≡ place_named (process_at (node_model self.now) pid.number) index }
     {
         Place {
             node: self.argument(pid, index),
@@ -75,24 +77,11 @@ impl Node {
         }
     }
 
-    /// xsend: the block leaves the process, for one place.
-    pub fn xsend(&mut self, turn: Turn) -> CallEnd
-        requires { IsInTurn self.old (turn_of turn) }
-        ensures { HasMade xsend self.old self.new (turn_of turn) (turn_of turn) result }
-    {
-        match self.block_named(turn.pid, self.argument(turn.pid, 0)) {
-            Ok(window) => self.send_outcome(turn, window),
-            Err(cause) => self.stop_outcome(turn, cause),
-        }
-    }
-
-    /// Sends the block at a window to the place that the call names, if it is one.
-    fn send_outcome(&mut self, turn: Turn, window: u32) -> CallEnd
+    /// xsend of the block at a window: it leaves the process for the place that the call names, if it is one.
+    pub fn send_outcome(&mut self, turn: Turn, window: u32) -> CallEnd
         requires ready { IsInTurn self.old (turn_of turn) }
-        requires held { IsSome (held_at self.old.held.mappings turn.pid.number window) }
-        ensures { IfSome (held_at self.old.held.mappings turn.pid.number window)
-            (λ block. HasMade (λ node turn p. send_outcome node turn p (window, block))
-            self.old self.new (turn_of turn) (turn_of turn) result) }
+        requires held { IsSome (block_held_at self.old.held_blocks.mappings turn.pid.number window) }
+        ensures { HasMadeAt window send_outcome self.old self.new (turn_of turn) result }
     {
         let to = self.place_named(turn.pid, 1);
         if !self.is_target(to) {
@@ -105,24 +94,11 @@ impl Node {
         self.leave_outcome(turn, Say::Send { pid, batch })
     }
 
-    /// xmsend: the block leaves the process for several places, each further one of which gets a copy.
-    pub fn xmsend(&mut self, turn: Turn) -> CallEnd
-        requires { IsInTurn self.old (turn_of turn) }
-        ensures { HasMade xmsend self.old self.new (turn_of turn) (turn_of turn) result }
-    {
-        match self.block_named(turn.pid, self.argument(turn.pid, 0)) {
-            Ok(window) => self.xmsend_block(turn, window),
-            Err(cause) => self.stop_outcome(turn, cause),
-        }
-    }
-
-    /// Reads the whole list of places, and sends the block at a window to them.
-    fn xmsend_block(&mut self, turn: Turn, window: u32) -> CallEnd
+    /// xmsend of the block at a window: the whole list of places is read, and the block is sent to them.
+    pub fn xmsend_block(&mut self, turn: Turn, window: u32) -> CallEnd
         requires ready { IsInTurn self.old (turn_of turn) }
-        requires held { IsSome (held_at self.old.held.mappings turn.pid.number window) }
-        ensures { IfSome (held_at self.old.held.mappings turn.pid.number window)
-            (λ block. HasMade (λ node turn p. xmsend_block node turn p (window, block))
-            self.old self.new (turn_of turn) (turn_of turn) result) }
+        requires held { IsSome (block_held_at self.old.held_blocks.mappings turn.pid.number window) }
+        ensures { HasMadeAt window xmsend_block self.old self.new (turn_of turn) result }
     {
         let count = self.argument(turn.pid, 1);
         if count > GREATEST_TARGETS {
@@ -138,7 +114,7 @@ impl Node {
 
     /// Reads places, one behind the other from an address on, or why a word of theirs can't be read.
     fn read_places(&self, pid: Pid, address: u32, places: &mut [Place]) -> Result<(), Stop>
-        ensures { places_at (process_at (node_of self.now) pid.number).space address
+        ensures { places_at (process_at (node_model self.now) pid.number).space address
             (length places.old) ≡ result_map (λ _. places.new) result }
     {
         let mut at = address;
@@ -154,7 +130,7 @@ impl Node {
 
     /// The place at an address: a word for the node, and behind it one for the process id.
     fn place_at(&self, pid: Pid, address: u32) -> Result<Place, Stop>
-        ensures { result ≡ memory_place (process_at (node_of self.now) pid.number).space address }
+        ensures { result ≡ memory_place (process_at (node_model self.now) pid.number).space address }
     {
         match self.word_at(pid, address) {
             Ok(node) => match self.word_at(pid, address.wrapping_add(4)) {
@@ -167,21 +143,21 @@ impl Node {
 
     /// The word at an address of a process.
     fn word_at(&self, pid: Pid, address: u32) -> Result<u32, Stop>
-        ensures { result ≡ loaded_at (process_at (node_of self.now) pid.number).space address 4 }
+        ensures { result ≡ loaded_at (process_at (node_model self.now) pid.number).space address 4 }
     {
         let process = &self.processes[pid.number as usize];
-        process.load_word(pid.number, &self.held, address)
+        process.load_word(pid.number, &self.held_blocks, address)
     }
 
     /// Sends the block at a window to these places: the first gets the block, each further one a copy in the store's least
     /// block.
     fn copies_outcome(&mut self, turn: Turn, window: u32, places: &[Place]) -> CallEnd
         requires ready { IsInTurn self.old (turn_of turn) }
-        requires held { IsSome (held_at self.old.held.mappings turn.pid.number window) }
+        requires held { IsSome (block_held_at self.old.held_blocks.mappings turn.pid.number window) }
         requires few { length places.now ≤ greatest_targets }
-        ensures { IfSome (held_at self.old.held.mappings turn.pid.number window)
-            (λ block. HasMade (λ node turn p. copies_outcome node turn p (window, block) places.now)
-            self.old self.new (turn_of turn) (turn_of turn) result) }
+        ensures { HasMadeAt window
+            (λ node turn p found. copies_outcome node turn p found places.now)
+            self.old self.new (turn_of turn) result }
     {
         let Some((first, others)) = places.split_first() else {
             return self.free_outcome(turn, window);
@@ -202,7 +178,7 @@ impl Node {
 
     /// A message can be sent to each of these places.
     fn are_targets(&self, places: &[Place]) -> bool
-        ensures { result ≡ list_all (is_target (node_of self.now)) places.now }
+        ensures { result ≡ list_all (is_target (node_model self.now)) places.now }
     {
         places.iter().all(|to| self.is_target(*to))
     }
@@ -212,10 +188,10 @@ impl Node {
         requires some { 1 ≤ length batch.old }
         requires few { length batch.old + length places.now ≤ greatest_targets }
         requires enough { length places.now ≤ length self.old.store.blocks }
-        ensures node { node_of self.new
-            ≡ with_store (drop (length places.now) (node_of self.old).store) (node_of self.old) }
+        ensures node { node_model self.new
+            ≡ with_store (drop (length places.now) (node_model self.old).store) (node_model self.old) }
         ensures targets { targets_of batch.new ≡ targets_of batch.old
-            ++ zip places.now (take (length places.now) (node_of self.old).store) }
+            ++ zip places.now (take (length places.now) (node_model self.old).store) }
         ensures bytes { bytes_of batch.new ≡ bytes_of batch.old }
         ensures batch { self.new.batch ≡ self.old.batch }
         ensures room { self.new.room ≡ self.old.room }

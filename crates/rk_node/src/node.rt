@@ -1,21 +1,20 @@
 ghost use Rattle.std.specs.Prelude.{◌≡◌, ◌==◌, ◌≤◌, replicate, position, IfOk};
 ghost use Rattle.std.specs.VecDeque.{deque_capacity};
-ghost use Rattle.ce_model.specs.Limits.{process_count, home_blocks};
+ghost use Rattle.ce_model.specs.declared.calls.TheConstants.{NUMBER_ARGUMENT};
+ghost use Rattle.ce_model.specs.Limits.{greatest_dim, process_count, home_blocks};
 ghost use Rattle.rk_process.specs.Seen.{unborn_own};
-ghost use Rattle.rk_node.specs.Stocked.{IsStocked, IsStocked-prop};
+ghost use Rattle.rk_node.specs.Tables.{IsStocked, IsStocked-prop};
 
 use crate::pid::Pid;
 use crate::turn::Turn;
 use ce_model::{NoMemory, PROCESS_COUNT, Status, Stop};
 use rk_mail::Batch;
 use rk_process::Process;
+use rv_model::{A0, Register};
 use std::alloc::Global;
 use std::collections::VecDeque;
 use xm_block::{Block, Store};
 use xm_owner::HeldBlocks;
-
-/// The register of a kernel call's first argument.
-const A0: u32 = 10;
 
 /// A node: its number in its cube, the cube's dimension, the home of its blocks, for how many blocks it has room, how many
 /// images there are, its processes by id, the blocks that they hold, its store, the ids in `xrecv`, longest first, its turn,
@@ -30,21 +29,23 @@ pub(crate) struct Node {
     pub dim: u32,
     pub images: u32,
     pub processes: Vec<Process>,
-    pub held: HeldBlocks,
+    pub held_blocks: HeldBlocks,
     pub store: Store,
     pub polling_ids: VecDeque<u32>,
     pub turn: Option<Turn>,
     pub batch: Option<Batch>,
-    ghost stocked: { IsStocked room dim (deque_capacity polling_ids) processes.items held store } by { IsStocked-prop },
+    ghost few_nodes: { dim ≤ greatest_dim },
+    ghost poll_room: { process_count ≤ deque_capacity polling_ids },
+    ghost stocked: { IsStocked room processes.items held_blocks store } by { IsStocked-prop },
 }
 
 impl Node {
-    ghost use Rattle.ce_model.specs.Blocks.{put};
+    ghost use Rattle.ce_model.specs.Blocks.{with_id};
     ghost use Rattle.ce_model.specs.Process.{argument, with_answer};
     ghost use Rattle.ce_model.specs.Node.{process_at, with_process, without_poller, with_stopped};
     ghost use Rattle.ce_model.specs.Kernel.{with_store};
     ghost use Rattle.ce_solo.proofs.Counting.{count};
-    ghost use Rattle.rk_node.specs.Standing.{node_of};
+    ghost use Rattle.rk_node.specs.Standing.{node_model};
     ghost use Rattle.rk_node.specs.Ready.{IsOnce, HasRoom};
     ghost use Rattle.rk_node.specs.Moves.{with_status, released_node, IsNew};
 
@@ -60,7 +61,7 @@ impl Node {
             dim: 0,
             images: 0,
             processes: unborn_processes(alloc)?,
-            held: HeldBlocks::new(alloc, room)?,
+            held_blocks: HeldBlocks::new(alloc, room)?,
             store: Store::of_home(alloc, home, room)?,
             polling_ids: VecDeque::with_capacity(alloc, PROCESS_COUNT as usize)?,
             turn: None,
@@ -70,23 +71,26 @@ impl Node {
 
     /// An argument of a process's call: of 0 to 7, in a0 to a7.
     pub fn argument(&self, pid: Pid, index: u32) -> u32
-        requires { index ≤ 7 }
-        ensures { result ≡ argument (process_at (node_of self.now) pid.number) index }
+        requires { index ≤ NUMBER_ARGUMENT }
+        ensures { result ≡ argument (process_at (node_model self.now) pid.number) index }
     {
-        self.processes[pid.number as usize].reg(A0 + index)
+        let register = Register {
+            number: A0 + index as u8,
+        };
+        self.processes[pid.number as usize].register(register)
     }
 
     /// What a process does at this moment.
     pub fn status(&self, pid: Pid) -> Status
-        ensures { result ≡ (process_at (node_of self.now) pid.number).status }
+        ensures { result ≡ (process_at (node_model self.now) pid.number).status }
     {
         self.processes[pid.number as usize].status()
     }
 
     /// Answers a process's call.
     pub fn answer(&mut self, pid: Pid, value: u32)
-        ensures node { node_of self.new ≡ with_process (node_of self.old) pid.number
-            (with_answer value (process_at (node_of self.old) pid.number)) }
+        ensures node { node_model self.new ≡ with_process (node_model self.old) pid.number
+            (with_answer value (process_at (node_model self.old) pid.number)) }
         ensures batch { self.new.batch ≡ self.old.batch }
         ensures room { self.new.room ≡ self.old.room }
     {
@@ -96,8 +100,8 @@ impl Node {
 
     /// Says what a process does from now on.
     pub fn set_status(&mut self, pid: Pid, status: Status)
-        ensures node { node_of self.new ≡ with_process (node_of self.old) pid.number
-            (with_status status (process_at (node_of self.old) pid.number)) }
+        ensures node { node_model self.new ≡ with_process (node_model self.old) pid.number
+            (with_status status (process_at (node_model self.old) pid.number)) }
         ensures batch { self.new.batch ≡ self.old.batch }
         ensures room { self.new.room ≡ self.old.room }
     {
@@ -108,9 +112,9 @@ impl Node {
     /// Puts a block into the store.
     pub fn give(&mut self, block: Block)
         requires room { HasRoom self.old }
-        requires apart { count block.id (node_of self.old).store ≡ 0 }
-        ensures node { node_of self.new
-            ≡ with_store (put block.id (node_of self.old).store) (node_of self.old) }
+        requires apart { count block.id (node_model self.old).store ≡ 0 }
+        ensures node { node_model self.new
+            ≡ with_store (with_id block.id (node_model self.old).store) (node_model self.old) }
         ensures batch { self.new.batch ≡ self.old.batch }
         ensures room { self.new.room ≡ self.old.room }
     {
@@ -119,17 +123,17 @@ impl Node {
 
     /// Moves all blocks of a process to the store.
     fn release(&mut self, pid: Pid)
-        requires { IsOnce (node_of self.old) }
-        ensures node { node_of self.new ≡ released_node pid.number (node_of self.old) }
+        requires { IsOnce (node_model self.old) }
+        ensures node { node_model self.new ≡ released_node pid.number (node_model self.old) }
         ensures batch { self.new.batch ≡ self.old.batch }
         ensures room { self.new.room ≡ self.old.room }
     {
-        self.held.drain(pid.number, &mut self.store);
+        self.held_blocks.drain(pid.number, &mut self.store);
     }
 
     /// Takes a process out of the list of those that poll.
     pub fn leave_polling(&mut self, pid: Pid)
-        ensures node { node_of self.new ≡ record (node_of self.old) {
+        ensures node { node_model self.new ≡ record (node_model self.old) {
           polling_ids = without_poller pid.number self.old.polling_ids.items;
         } }
         ensures batch { self.new.batch ≡ self.old.batch }
@@ -145,9 +149,9 @@ impl Node {
 
     /// Stops a process: its blocks go to the store, it polls no longer, and the turn is over.
     pub fn stop(&mut self, pid: Pid, cause: Stop)
-        requires { IsOnce (node_of self.old) }
-        ensures node { node_of self.new ≡ with_stopped (node_of self.old) pid.number
-            (process_at (node_of self.old) pid.number) cause }
+        requires { IsOnce (node_model self.old) }
+        ensures node { node_model self.new ≡ with_stopped (node_model self.old) pid.number
+            (process_at (node_model self.old) pid.number) cause }
         ensures batch { self.new.batch ≡ self.old.batch }
         ensures room { self.new.room ≡ self.old.room }
     {

@@ -1,16 +1,16 @@
 //! The box of a node.
 ghost use Rattle.std.specs.Prelude.{◌≡◌, ◌+◌, ◌^◌, ◌<◌, ◌≤◌, length, Contains, IfOk, [], None};
 ghost use Rattle.ce_model.specs.Limits.{process_count, greatest_dim, greatest_images, greatest_blocks};
-ghost use Rattle.ce_model.specs.Blocks.{put, put_all};
+ghost use Rattle.ce_model.specs.Blocks.{with_id, with_ids};
 ghost use Rattle.ce_model.specs.Node.{process_at, blocks_of};
 ghost use Rattle.ce_model.specs.Kernel.{with_store};
 ghost use Rattle.ce_model.specs.Saying.{says};
 ghost use Rattle.ce_model.specs.Hearing.{node_after_hearing};
 ghost use Rattle.xm_block.specs.Stores.{ids_of};
-ghost use Rattle.rk_mail.specs.Talk.{call_said, heard_as};
+ghost use Rattle.rk_mail.specs.Talk.{call_said, hearing_model};
 ghost use Rattle.rk_node.specs.Boxes.{IsClean, HasRoomForBlock, fresh_at, scrubbed_node};
-ghost use Rattle.rk_node.specs.Answering.{HasSaid, IsAbleToHear};
-ghost use Rattle.rk_node.specs.Taken.{HasTakenOut};
+ghost use Rattle.rk_node.specs.Answering.{IsAwaitingAnswer, IsAbleToHear};
+ghost use Rattle.rk_node.specs.Withdrawal.{HasTakenOut};
 ghost use Rattle.rk_node.specs.Hearings.{AreApartFrom};
 
 use crate::node::Node;
@@ -34,13 +34,13 @@ pub struct NodeBox {
 
 impl Model for NodeBox {
     ghost use Rattle.rk_node.specs.Boxes.{Box};
-    ghost use Rattle.rk_node.specs.Standing.{node_of};
+    ghost use Rattle.rk_node.specs.Standing.{node_model};
     ghost use Rattle.rk_node.specs.Whole.{IsWhole};
 
     ghost Value = { Box };
 
     ghost view = { λ inside. record {
-      node = node_of inside.node;
+      node = node_model inside.node;
       room = inside.node.room;
       out = inside.out;
     } };
@@ -86,7 +86,7 @@ impl NodeBox {
         ensures call { call_said result ≡ (says self.old.node).call }
         ensures node { self.new.node ≡ (says self.old.node).node }
         ensures room { self.new.room ≡ self.old.room }
-        ensures said { HasSaid self.new (call_said result) }
+        ensures said { IsAwaitingAnswer self.new (call_said result) }
         ensures blocks { HasTakenOut self.old.node self.new.node (call_said result) }
     {
         let said = self.node.says();
@@ -99,7 +99,7 @@ impl NodeBox {
         requires images { length images.now ≡ self.old.node.images }
         requires heard { IsAbleToHear images.now self.old heard }
         ensures node { self.new.node
-            ≡ node_after_hearing images.now self.old.node (heard_as heard) }
+            ≡ node_after_hearing images.now self.old.node (hearing_model heard) }
         ensures room { self.new.room ≡ self.old.room }
         ensures out { self.new.out ≡ Out.Nothing }
     {
@@ -123,7 +123,7 @@ impl NodeBox {
         requires apart { AreApartFrom (blocks_of self.old.node) out.old }
         ensures after { self.new ≡ record self.old { node = scrubbed_node self.old.node } }
         ensures moved { ids_of out.new.blocks
-            ≡ put_all (blocks_of self.old.node) (ids_of out.old.blocks) }
+            ≡ with_ids (blocks_of self.old.node) (ids_of out.old.blocks) }
         ensures spare { out.new.spare + length (blocks_of self.old.node) ≡ out.old.spare }
     {
         self.node.scrub(out);
@@ -135,7 +135,7 @@ impl NodeBox {
         requires apart { ¬ (Contains (blocks_of self.old.node) block.id) }
         requires room { HasRoomForBlock self.old }
         ensures { self.new ≡ record self.old {
-          node = with_store (put block.id self.old.node.store) self.old.node;
+          node = with_store (with_id block.id self.old.node.store) self.old.node;
         } }
     {
         self.node.give(block);

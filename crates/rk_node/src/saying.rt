@@ -1,11 +1,12 @@
 ghost use Rattle.std.specs.Prelude.{◌≡◌, ℕ, ◌^◌, ◌<◌, ◌≤◌, List, length, Some, []};
+ghost use Rattle.ce_model.specs.Limits.{process_count};
 ghost use Rattle.ce_model.specs.Process.{turn_end, is_receiving, is_stopped};
-ghost use Rattle.ce_model.specs.Node.{process_at, with_process, ids_of, take_of};
+ghost use Rattle.ce_model.specs.Node.{process_at, with_process, process_set, take_of};
 ghost use Rattle.ce_model.specs.Saying.{turn_saying, says};
 ghost use Rattle.rk_mail.specs.Talk.{call_said};
 ghost use Rattle.xm_owner.specs.Holdings.{Mapping};
-ghost use Rattle.rk_process.specs.Runs.{reached_at};
-ghost use Rattle.rk_node.specs.Standing.{node_of, turn_of, later_processes};
+ghost use Rattle.rk_process.specs.Runs.{turn_end_of};
+ghost use Rattle.rk_node.specs.Standing.{node_model, turn_of, later_processes};
 ghost use Rattle.rk_node.specs.Ready.{IsInTurn, IsHearing};
 ghost use Rattle.rk_node.specs.Wording.{HasBatch, call_out, end_out, say_out, saying_of_say, saying_of_end, HasGoneOnIn};
 
@@ -20,8 +21,8 @@ impl Node {
     pub fn says(&mut self) -> Say
         requires ready { IsHearing self.old }
         requires batch { self.old.batch ≡ Some [] }
-        ensures call { call_said result ≡ (says (node_of self.old)).call }
-        ensures node { node_of self.new ≡ (says (node_of self.old)).node }
+        ensures call { call_said result ≡ (says (node_model self.old)).call }
+        ensures node { node_model self.new ≡ (says (node_model self.old)).node }
         ensures batch { HasBatch (call_out (call_said result)) self.new.batch }
         ensures room { self.new.room ≡ self.old.room }
     {
@@ -35,9 +36,9 @@ impl Node {
     fn say_in_turn(&mut self, turn: Turn) -> Say
         requires { IsInTurn self.old (turn_of turn) }
         ensures call { call_said result
-            ≡ (turn_saying turn.instructions_left (node_of self.old) (turn_of turn)).call }
-        ensures node { node_of self.new
-            ≡ (turn_saying turn.instructions_left (node_of self.old) (turn_of turn)).node }
+            ≡ (turn_saying turn.instructions_left (node_model self.old) (turn_of turn)).call }
+        ensures node { node_model self.new
+            ≡ (turn_saying turn.instructions_left (node_model self.old) (turn_of turn)).node }
         ensures batch { HasBatch (call_out (call_said result)) self.new.batch }
         ensures room { self.new.room ≡ self.old.room }
     {
@@ -50,8 +51,8 @@ impl Node {
     /// Runs the turn to the next call that leaves the node; None where the turn ends before.
     pub fn run_turn(&mut self, begun: Turn) -> Option<Say>
         requires { IsInTurn self.old (turn_of begun) }
-        ensures said { saying_of_say result (node_of self.new)
-            ≡ turn_saying begun.instructions_left (node_of self.old) (turn_of begun) }
+        ensures said { saying_of_say result (node_model self.new)
+            ≡ turn_saying begun.instructions_left (node_model self.old) (turn_of begun) }
         ensures batch { HasBatch (say_out result) self.new.batch }
         ensures room { self.new.room ≡ self.old.room }
     {
@@ -68,8 +69,8 @@ impl Node {
     /// Runs the process of the turn to its next call of the kernel, and makes the call.
     fn run_on(&mut self, turn: &mut Turn) -> CallEnd
         requires { IsInTurn self.old (turn_of turn.old) }
-        ensures said { saying_of_end result (node_of self.new) (turn_of turn.new)
-            ≡ turn_saying turn.old.instructions_left (node_of self.old) (turn_of turn.old) }
+        ensures said { saying_of_end result (node_model self.new) (turn_of turn.new)
+            ≡ turn_saying turn.old.instructions_left (node_model self.old) (turn_of turn.old) }
         ensures batch { HasBatch (end_out result) self.new.batch }
         ensures room { self.new.room ≡ self.old.room }
         ensures goes_on { HasGoneOnIn result self.new (turn_of turn.new)
@@ -85,24 +86,28 @@ impl Node {
     fn run_process(&mut self, turn: &mut Turn) -> Pause
         requires { IsInTurn self.old (turn_of turn.old) }
         ensures reached { turn_end turn.old.instructions_left
-            (process_at (node_of self.old) turn.old.pid.number)
-            ≡ reached_at result turn.new.instructions_left
-            (process_at (node_of self.new) turn.old.pid.number) }
-        ensures node { node_of self.new ≡ with_process (node_of self.old) turn.old.pid.number
-            (process_at (node_of self.new) turn.old.pid.number) }
+            (process_at (node_model self.old) turn.old.pid.number)
+            ≡ turn_end_of result turn.new.instructions_left
+            (process_at (node_model self.new) turn.old.pid.number) }
+        ensures node { node_model self.new ≡ with_process (node_model self.old) turn.old.pid.number
+            (process_at (node_model self.new) turn.old.pid.number) }
         ensures pid { turn.new.pid ≡ turn.old.pid }
         ensures calls { turn.new.calls ≡ turn.old.calls }
         ensures batch { self.new.batch ≡ self.old.batch }
         ensures room { self.new.room ≡ self.old.room }
     {
         let process = &mut self.processes[turn.pid.number as usize];
-        process.run_to_call(turn.pid.number, &mut self.held, &mut turn.instructions_left)
+        process.run_to_call(
+            turn.pid.number,
+            &mut self.held_blocks,
+            &mut turn.instructions_left,
+        )
     }
 
     /// What a node without a turn says: it asks for work.
     #[tactic(auto, using(ce_model::specs::Limits::process_count_lem))]
     pub fn work_request(&self) -> Say
-        ensures { call_said result ≡ take_of (node_of self.now) }
+        ensures { call_said result ≡ take_of (node_model self.now) }
     {
         let (asking, dead) = asking_and_dead(self.processes.as_slice());
         Say::Take {
@@ -115,11 +120,11 @@ impl Node {
 
 /// The ids of the processes that wait for a message, and those of the ones that have stopped, one bit each.
 fn asking_and_dead(processes: &[Process]) -> (u32, u32)
-    requires { length processes.now ≤ 31 }
+    requires { length processes.now ≤ process_count }
     ensures asking { (mappings : List Mapping) (pid : ℕ)
-        → result.0 ≡ ids_of is_receiving (later_processes mappings pid processes.now) }
+        → result.0 ≡ process_set is_receiving (later_processes mappings pid processes.now) }
     ensures dead { (mappings : List Mapping) (pid : ℕ)
-        → result.1 ≡ ids_of is_stopped (later_processes mappings pid processes.now) }
+        → result.1 ≡ process_set is_stopped (later_processes mappings pid processes.now) }
     ensures within { (result.0 < 2 ^ length processes.now) × (result.1 < 2 ^ length processes.now) }
 {
     let mut asking = 0;

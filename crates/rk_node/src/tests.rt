@@ -1,7 +1,7 @@
 ghost use Rattle.std.specs.Prelude.{◌≡◌, IfOk, IfSome, [], None};
 ghost use Rattle.ce_model.specs.declared.process.Status.TheVariants.{Unborn};
 ghost use Rattle.ce_model.specs.Node.{take_call, process_at};
-ghost use Rattle.rk_node.specs.Answering.{HasSaid};
+ghost use Rattle.rk_node.specs.Answering.{IsAwaitingAnswer};
 ghost use Rattle.rk_node.specs.Boxes.{fresh_at};
 
 use super::*;
@@ -28,7 +28,7 @@ const GONE: [u32; 11] = [
     0x0004_2303, // lw t1, 0(s0)
 ];
 
-fn gone(alloc: Global) -> Result<Image, Fail> {
+fn gone_image(alloc: Global) -> Result<Image, Fail> {
     let mut bytes = Vec::new(alloc);
     for word in GONE {
         bytes.extend_from_slice(&word.to_le_bytes())?;
@@ -37,8 +37,8 @@ fn gone(alloc: Global) -> Result<Image, Fail> {
 }
 
 // A box of home 0, as the node of a cube of one node with one image, that has asked for its first work.
-fn asking(alloc: Global) -> Result<NodeBox, Fail>
-    ensures said { IfOk result (λ made. HasSaid made (take_call 0 0 None)) }
+fn asking_box(alloc: Global) -> Result<NodeBox, Fail>
+    ensures said { IfOk result (λ made. IsAwaitingAnswer made (take_call 0 0 None)) }
     ensures node { IfOk result (λ made. made.node ≡ fresh_at 0 0 0 1) }
     ensures unborn { IfOk result (λ made. (process_at made.node 0).status ≡ Unborn) }
     ensures images { IfOk result (λ made. made.node.images ≡ 1) }
@@ -70,8 +70,8 @@ fn sent_to_host(batch: &mut Batch) -> Option<(BlockId, [u8; 8])>
 #[test]
 fn a_box_says_and_hears(rt: HostRuntime) -> Result<(), Fail> {
     let alloc = rt.alloc();
-    let images = [gone(alloc)?];
-    let mut node = asking(alloc)?;
+    let images = [gone_image(alloc)?];
+    let mut node = asking_box(alloc)?;
     node.hears(&images, Hearing::Start { pid: 0, image: 0 });
     let Say::Send { pid: 0, mut batch } = node.says() else {
         return Err("no message")?;

@@ -14,6 +14,19 @@ pub(crate) struct Turn {
     ghost counted: { calls ≤ turn_calls },
 }
 
+/// A kernel call that names a block.
+#[derive(Clone, Copy, Debug, PartialEq, Eq)]
+pub(crate) enum BlockCall {
+    /// xfree.
+    Free,
+    /// xlength.
+    Length,
+    /// xsend.
+    Send,
+    /// xmsend.
+    SendToSeveral,
+}
+
 /// What a kernel call comes to.
 #[derive(Drop)]
 pub(crate) enum CallEnd {

@@ -9,7 +9,7 @@ use Rattle.std.proofs.lemmas.List.{length-map}
 use Rattle.ce_model.specs.Limits.{window_base}
 use Rattle.ce_model.specs.Blocks.{Block}
 use Rattle.ce_model.specs.Space.{window_of, offset_of}
-use Rattle.xm_owner.specs.Holdings.{Mapping, MappingTable, held_at, is_at, with_block_at, without_process}
+use Rattle.xm_owner.specs.Holdings.{Mapping, MappingTable, block_held_at, is_at, with_block_at, without_process}
 use Rattle.xm_owner.proofs.Mappings.{changes-with_block}
 use Rattle.rk_process.specs.Seen.{windows_of, place_of, rest_of}
 use Rattle.rv_model.specs.declared.stop.Stop.{Stop}
@@ -18,7 +18,7 @@ use Rattle.rk_process.specs.Windows.{window_found, block_left, windows_left}
 
 pub length-windows_of : (mappings : List Mapping) (pid used : ℕ) → length (windows_of mappings pid used) ≡ used
 unfolding windows_of
-length-windows_of mappings pid used = length-map (range_with_len 0 used) (held_at mappings pid) ∙ length-range_with_len 0 used
+length-windows_of mappings pid used = length-map (range_with_len 0 used) (block_held_at mappings pid) ∙ length-range_with_len 0 used
 
 slice_get-range : (n k : ℕ) → k < n → slice_get (range_with_len 0 n) k ≡ Some k
 slice_get-range n k h =
@@ -26,10 +26,10 @@ slice_get-range n k h =
     slice_get-get_or (range_with_len 0 n) k 0 (omega arith) ∙ ap Some (get_or-range_with_len 0 n k 0 h ∙ omega arith)
 
 -- a window that was used holds what is held there
-pub slice_get-windows_of : (mappings : List Mapping) (pid used k : ℕ) → k < used → slice_get (windows_of mappings pid used) k ≡ Some (held_at mappings pid k)
+pub slice_get-windows_of : (mappings : List Mapping) (pid used k : ℕ) → k < used → slice_get (windows_of mappings pid used) k ≡ Some (block_held_at mappings pid k)
 unfolding windows_of
 slice_get-windows_of mappings pid used k h =
-    slice_get-map (held_at mappings pid) (range_with_len 0 used) k ∙ rw (slice_get-range used k h) refl
+    slice_get-map (block_held_at mappings pid) (range_with_len 0 used) k ∙ rw (slice_get-range used k h) refl
 
 lt-true : (m n : ℕ) → m < n → nat_lt m n ≡ true
 lt-true m n h = grind (arith, nat_tests)
@@ -45,7 +45,7 @@ le-false m n h = grind (arith, nat_tests)
 
 -- the window of an address holds what is held there, where it was used
 pub window_found-of : (mappings : List Mapping) (pid used a : ℕ) → window_found (windows_of mappings pid used) a
-    ≡ (if nat_le window_base a && nat_lt (window_of a) used then Some (held_at mappings pid (window_of a)) else None)
+    ≡ (if nat_le window_base a && nat_lt (window_of a) used then Some (block_held_at mappings pid (window_of a)) else None)
 window_found-of mappings pid used a = elim (cases_lt a window_base) [
   | inl below ↦ rw (lt-true a window_base below, le-false window_base a below) refl
   | inr above ↦ elim (cases_lt (window_of a) used) [
@@ -57,20 +57,20 @@ window_found-of mappings pid used a = elim (cases_lt a window_base) [
 ]
 
 -- the block that a window holds, put there again, changes nothing
-pub with_block_at-same : (pid window : ℕ) (block : Block) (mappings : List Mapping) → held_at mappings pid window ≡ Some block → with_block_at pid window block mappings ≡ mappings
+pub with_block_at-same : (pid window : ℕ) (block : Block) (mappings : List Mapping) → block_held_at mappings pid window ≡ Some block → with_block_at pid window block mappings ≡ mappings
 with_block_at-same pid window block [] held = refl
 with_block_at-same pid window block (mapping ∷ mappings) held = elim (cases_Bool (is_at pid window mapping)) [
-  | inl t ↦ (let first : held_at (mapping ∷ mappings) pid window ≡ Some mapping.block = rw t refl in
+  | inl t ↦ (let first : block_held_at (mapping ∷ mappings) pid window ≡ Some mapping.block = rw t refl in
       let same : mapping.block ≡ block = same_Some mapping.block block (sym first ∙ held) in
       rw (t, ← same) refl)
-  | inr f ↦ (let rest : held_at (mapping ∷ mappings) pid window ≡ held_at mappings pid window = rw f refl in
+  | inr f ↦ (let rest : block_held_at (mapping ∷ mappings) pid window ≡ block_held_at mappings pid window = rw f refl in
       rw f (ap (λ ms. mapping ∷ ms) (with_block_at-same pid window block mappings (sym rest ∙ held))))
 ]
 
 -- where an address lies is where its window's block is held
 pub window_found-at : (mappings : List Mapping) (pid used a : ℕ) (place : Option (ℕ × ℕ))
     → place ≡ (if nat_le window_base a && nat_lt (window_of a) used then Some (window_of a, offset_of a) else None)
-    → window_found (windows_of mappings pid used) a ≡ option_map (λ at. held_at mappings pid at.0) place
+    → window_found (windows_of mappings pid used) a ≡ option_map (λ at. block_held_at mappings pid at.0) place
 window_found-at mappings pid used a place e =
     window_found-of mappings pid used a ∙ rw e (elim (cases_Bool (nat_le window_base a && nat_lt (window_of a) used)) [
       | inl t ↦ rw t refl
@@ -93,13 +93,13 @@ map-set f g v a (suc n) (suc i) h at others =
     rw first (ap (λ xs. f a ∷ xs) (map-set f g v (a + 1) n i (omega arith) (ap g (omega arith) ∙ at) (λ j ne. others j (λ e. ne (omega arith)))))
 
 -- another block in a window that was used
-pub windows_of-set : (mappings : List Mapping) (pid used k : ℕ) (block was : Block) → k < used → held_at mappings pid k ≡ Some was
+pub windows_of-set : (mappings : List Mapping) (pid used k : ℕ) (block was : Block) → k < used → block_held_at mappings pid k ≡ Some was
     → windows_of (with_block_at pid k block mappings) pid used ≡ set (windows_of mappings pid used) k (Some block)
 unfolding windows_of
 windows_of-set mappings pid used k block was h held =
     let change = changes-with_block pid k block was mappings held in
-    map-set (held_at mappings pid) (held_at (with_block_at pid k block mappings) pid) (Some block) 0 used k h
-    (ap (held_at (with_block_at pid k block mappings) pid) (omega arith) ∙ change.there_is)
+    map-set (block_held_at mappings pid) (block_held_at (with_block_at pid k block mappings) pid) (Some block) 0 used k h
+    (ap (block_held_at (with_block_at pid k block mappings) pid) (omega arith) ∙ change.there_is)
     (λ j ne. change.others pid j (λ p w. ne (omega arith)))
 
 -- it leaves all else as it is
@@ -142,11 +142,11 @@ place-tells used a w o e = elim (cases_Bool (nat_le window_base a)) [
 ]
 
 -- a store into the block that a window holds
-module _ (held : MappingTable) (pid used a size n w : ℕ) (was left : Block) (at : w ≡ window_of a) (within : w < used) (here : held_at held.mappings pid w ≡ Some was) where
-  found : window_found (windows_of held.mappings pid used) a ≡ Some (held_at held.mappings pid w) → block_left (window_found (windows_of held.mappings pid used) a) a size n ≡ block_left (Some (Some was)) a size n
+module _ (held : MappingTable) (pid used a size n w : ℕ) (was left : Block) (at : w ≡ window_of a) (within : w < used) (here : block_held_at held.mappings pid w ≡ Some was) where
+  found : window_found (windows_of held.mappings pid used) a ≡ Some (block_held_at held.mappings pid w) → block_left (window_found (windows_of held.mappings pid used) a) a size n ≡ block_left (Some (Some was)) a size n
   found e = ap (λ window. block_left window a size n) (e ∙ ap Some here)
 
-  pub store-done : (r : Result (Unit {0}) Stop) → window_found (windows_of held.mappings pid used) a ≡ Some (held_at held.mappings pid w)
+  pub store-done : (r : Result (Unit {0}) Stop) → window_found (windows_of held.mappings pid used) a ≡ Some (block_held_at held.mappings pid w)
       → OnOk r (block_left (Some (Some was)) a size n ≡ Ok left)
       → OnOk r (windows_left (windows_of held.mappings pid used) a size n ≡ Ok (windows_of (with_block_at pid w left held.mappings) pid used))
   store-done (Err cause) e stored = tt

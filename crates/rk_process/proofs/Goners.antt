@@ -13,7 +13,7 @@ use Rattle.ce_model.specs.Blocks.{Block}
 use Rattle.ce_model.specs.Space.{Space, AccessSite, in_private, in_block, access_site, site_in, window_of, offset_of, loaded_at, stored_at, number_in, with_number_in, result_map, process_access}
 use Rattle.ce_model.specs.Process.{Process, TurnEnd, end_after, moved_process, turn_end}
 use Rattle.rk_process.specs.Windows.{is_within_block}
-use Rattle.rk_process.specs.Lives.{LifeEvent, run, answer, mapping, unmapping, end, run_to, after_event, after_moments, IsWindowGone}
+use Rattle.rk_process.specs.Lives.{LifeEvent, run, answer, mapping, unmapping, end, process_of_end, after_event, after_moments, IsWindowGone}
 use Rattle.rk_process.proofs.Keeping.{IsLeftWith, exec-leaves}
 use Rattle.rk_process.proofs.Reaching.{reached_by, reached_spent}
 
@@ -81,15 +81,15 @@ module _ (k : ℕ) where
   exec-gone = exec-leaves process_access (IsWindowGone k) (λ m left a size n e gone. stored-by m left a size n k (access_site m a size) refl e gone)
 
   led-gone : (onward : Process → TurnEnd) (left : ℕ) (p : Process) (outcome : Outcome Space)
-      → ((q : Process) → IsWindowGone k q.space → IsWindowGone k (run_to (onward q)).space) → IsWindowGone k p.space → IsLeftWith (IsWindowGone k) outcome → IsWindowGone k (run_to (end_after onward left p outcome)).space
+      → ((q : Process) → IsWindowGone k q.space → IsWindowGone k (process_of_end (onward q)).space) → IsWindowGone k p.space → IsLeftWith (IsWindowGone k) outcome → IsWindowGone k (process_of_end (end_after onward left p outcome)).space
   led-gone onward left p (next_state x pc space) goes gone h = goes (moved_process p x pc space) h
   led-gone onward left p (call_state x pc space) goes gone h = h
   led-gone onward left p (stop_state cause) goes gone h = gone
 
-  reached-gone : (left : ℕ) (p : Process) → IsWindowGone k p.space → IsWindowGone k (run_to (turn_end left p)).space
-  reached-gone zero p gone = subst (λ (r : TurnEnd). IsWindowGone k (run_to r).space) (sym (reached_spent zero p refl)) gone
+  reached-gone : (left : ℕ) (p : Process) → IsWindowGone k p.space → IsWindowGone k (process_of_end (turn_end left p)).space
+  reached-gone zero p gone = subst (λ (r : TurnEnd). IsWindowGone k (process_of_end r).space) (sym (reached_spent zero p refl)) gone
   reached-gone (suc left) p gone =
-      subst (λ (r : TurnEnd). IsWindowGone k (run_to r).space) (sym (reached_by (suc left) left p (exec process_access p.regs p.pc p.space) refl refl))
+      subst (λ (r : TurnEnd). IsWindowGone k (process_of_end r).space) (sym (reached_by (suc left) left p (exec process_access p.regs p.pc p.space) refl refl))
       (led-gone (turn_end left) left p (exec process_access p.regs p.pc p.space) (reached-gone left) gone (exec-gone p.regs p.pc p.space gone))
 
   moment-gone : (p : Process) (moment : LifeEvent) → IsWindowGone k p.space → IsWindowGone k (after_event p moment).space

@@ -17,12 +17,12 @@ pub data LifeEvent : Type 0 where
   end : Stop → LifeEvent
 
 -- the process where its run ends
-abbrev pub run_to : TurnEnd → Process
-run_to (at_call left p) = p
-run_to (at_stop left p cause) = p
+abbrev pub process_of_end : TurnEnd → Process
+process_of_end (at_call left p) = p
+process_of_end (at_stop left p cause) = p
 
 abbrev pub after_event : Process → LifeEvent → Process
-after_event p (run left) = run_to (turn_end left p)
+after_event p (run left) = process_of_end (turn_end left p)
 after_event p (answer value) = with_answer value p
 after_event p (mapping block) = record p { space = mapped_space block p.space }
 after_event p (unmapping k) = record p { space = unmapped_space k p.space }

@@ -1,13 +1,14 @@
 -- A process as the model sees it: what it has of its own, and the blocks that its node holds for it.
 use Rattle.std.specs.Prelude.{ℕ, List, [], map, replicate, Option}
 use Rattle.std.specs.List.{range_with_len}
+use Rattle.rv_model.specs.declared.limits.TheConstants.{REGISTER_COUNT}
 use Rattle.rv_model.specs.Private.{with_loaded}
 use Rattle.ce_model.specs.declared.process.Status.{Status}
 use Rattle.ce_model.specs.declared.process.Status.TheVariants.{Unborn}
 use Rattle.ce_model.specs.Blocks.{Block}
 use Rattle.ce_model.specs.Space.{Space}
-use Rattle.ce_model.specs.Process.{Process, register_count}
-use Rattle.xm_owner.specs.Holdings.{Mapping, MappingTable, held_at, without_process}
+use Rattle.ce_model.specs.Process.{Process}
+use Rattle.xm_owner.specs.Holdings.{Mapping, MappingTable, block_held_at, without_process}
 
 -- what a process does, its registers, its pc, its private memory, and how many windows it has used
 pub record Own : Type 0 where
@@ -19,18 +20,18 @@ pub record Own : Type 0 where
 
 -- what the windows of a process hold that has used so many
 unfoldable pub windows_of : List Mapping → ℕ → ℕ → List (Option Block)
-windows_of mappings pid used = map (held_at mappings pid) (range_with_len 0 used)
+windows_of mappings pid used_count = map (block_held_at mappings pid) (range_with_len 0 used_count)
 
 abbrev pub space_of : List ℕ → List Mapping → ℕ → ℕ → Space
-space_of private mappings pid used = record { private = private; windows = windows_of mappings pid used }
+space_of private mappings pid used_count = record { private = private; windows = windows_of mappings pid used_count }
 
 -- the process of this id, with the blocks that are held for it
 abbrev pub owned_process : Own → ℕ → MappingTable → Process
-owned_process own pid held = record {
+owned_process own pid table = record {
   status = own.status;
   regs = own.regs;
   pc = own.pc;
-  space = space_of own.private held.mappings pid own.used_count;
+  space = space_of own.private table.mappings pid own.used_count;
 }
 
 -- where a block is mapped: the process, and its window
@@ -39,22 +40,22 @@ place_of mapping = (mapping.pid, mapping.window)
 
 -- all that a process's instructions leave as it is: who it is, how many windows it has used, which windows of its node hold
 -- a block, what the other processes hold, and the room that is left
-pub record Rest : Type 0 where
+pub record ProcessRest : Type 0 where
   pub pid : ℕ
   pub used_count : ℕ
   pub windows : List (ℕ × ℕ)
   pub others : List Mapping
   pub spare : ℕ
 
-abbrev pub rest_of : ℕ → ℕ → MappingTable → Rest
-rest_of pid used held = record {
+abbrev pub rest_of : ℕ → ℕ → MappingTable → ProcessRest
+rest_of pid used_count table = record {
   pid = pid;
-  used_count = used;
-  windows = map place_of held.mappings;
-  others = without_process pid held.mappings;
-  spare = held.spare;
+  used_count = used_count;
+  windows = map place_of table.mappings;
+  others = without_process pid table.mappings;
+  spare = table.spare;
 }
 
 -- what a process has that wasn't started yet
 abbrev pub unborn_own : Own
-unborn_own = record { status = Unborn; regs = replicate register_count 0; pc = 0; private = with_loaded []; used_count = 0 }
+unborn_own = record { status = Unborn; regs = replicate REGISTER_COUNT 0; pc = 0; private = with_loaded []; used_count = 0 }

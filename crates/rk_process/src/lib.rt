@@ -3,11 +3,11 @@
 
 mod law;
 mod memory;
-mod paused;
+mod pause;
 mod process;
 
-pub use law::stays_gone;
-pub use paused::Pause;
+pub use law::windows_stay_gone_law;
+pub use pause::Pause;
 pub use process::Process;
 
 #[cfg(test)]

@@ -1,30 +1,25 @@
 ghost use Rattle.std.specs.Prelude.{◌≡◌, ◌≤◌, ◌<◌, ◌+◌, [], length, IfOk, IsTrue, slice_index, slice_set, ℕ};
-ghost use Rattle.rv_model.specs.Image.{image_room};
+ghost use Rattle.rv_model.specs.declared.limits.TheConstants.{A0, IMAGE_ROOM};
 ghost use Rattle.rv_model.specs.Private.{with_loaded};
 ghost use Rattle.ce_model.specs.Limits.{window_count};
-ghost use Rattle.ce_model.specs.Process.{started_process, turn_end, register_count};
+ghost use Rattle.ce_model.specs.Process.{started_process, turn_end};
 ghost use Rattle.ce_model.specs.Space.{loaded_at};
 ghost use Rattle.xm_owner.specs.Holdings.{MappingTable};
-ghost use Rattle.rk_process.specs.Runs.{reached_at, process_of_parts};
+ghost use Rattle.rk_process.specs.Runs.{turn_end_of, process_of_parts};
 ghost use Rattle.ce_model.specs.declared.process.Status.{Status};
-ghost use Rattle.rk_process.specs.Memories.{memory_seen, memory_rest};
+ghost use Rattle.rk_process.specs.Memories.{memory_space, memory_rest};
 ghost use Rattle.rk_process.specs.Seen.{owned_process, space_of, rest_of, unborn_own};
 
 use crate::Pause;
 use crate::memory::{ProcessMemory, Windows, load_at};
 use ce_model::{NoMemory, Status};
 use rv_image::Image;
-use rv_model::{PRIVATE_END, Stop};
+use rv_model::{AccessSize, PRIVATE_END, Register, Stop};
 use rv_step::{Event, PrivateMemory, Regs, step};
 use std::alloc::Global;
 use std::marker::Model;
 use std::mem;
 use xm_owner::HeldBlocks;
-
-/// The registers of the calling convention: the stack pointer, and that of a kernel call's answer.
-const SP: u8 = 2;
-
-const A0: u8 = 10;
 
 /// A process of a node: its state, its registers, its private memory, and how many windows it has used. The blocks in its
 /// windows are in the map of its node.
@@ -67,7 +62,7 @@ impl Process {
             pc: 0,
             memory: ProcessMemory {
                 private: PrivateMemory::new(alloc)?,
-                held: HeldBlocks::new(alloc, 0)?,
+                held_blocks: HeldBlocks::new(alloc, 0)?,
                 windows: Windows {
                     pid: 0,
                     used_count: 0,
@@ -83,7 +78,7 @@ impl Process {
     #[tactic(auto, unfolding(crate::specs::Seen::windows_of))]
     pub fn start(&mut self, image: &Image)
         requires { self.old.status ≡ Status.Unborn }
-        ensures started { (pid : ℕ) (held : MappingTable) → owned_process self.new pid held
+        ensures started { (pid : ℕ) (table : MappingTable) → owned_process self.new pid table
             ≡ started_process image.now }
         ensures running { self.new.status ≡ Status.Running }
         ensures windows { self.new.used_count ≡ 0 }
@@ -92,7 +87,7 @@ impl Process {
         self.is_blank = false;
         self.memory.windows.used_count = 0;
         self.registers = Regs::new();
-        self.registers.set(SP, PRIVATE_END);
+        self.registers.set(Register::sp(), PRIVATE_END);
         self.pc = image.entry();
         self.status = Status::Running;
     }
@@ -111,12 +106,11 @@ impl Process {
         self.memory.windows.used_count
     }
 
-    /// The value of a register, of 0 to 31.
-    pub fn reg(&self, index: u32) -> u32
-        requires { index < register_count }
-        ensures { result ≡ slice_index self.now.regs index }
+    /// The value of a register.
+    pub fn register(&self, register: Register) -> u32
+        ensures { result ≡ slice_index self.now.regs register.number }
     {
-        self.registers.get(index as u8)
+        self.registers.get(register)
     }
 
     /// Says what the process does from now on.
@@ -126,7 +120,7 @@ impl Process {
         self.status = status;
     }
 
-    /// Uses the next window, and answers its number; fewer than 32,768 were used.
+    /// Uses the next window, and answers its number; fewer than `WINDOW_COUNT` were used.
     #[tactic(auto, unfolding(ce_model::specs::Limits::window_count))]
     pub fn give_window(&mut self) -> u32
         requires { self.old.used_count < window_count }
@@ -142,7 +136,7 @@ impl Process {
     pub fn answer(&mut self, value: u32)
         ensures { self.new ≡ record self.old { regs = slice_set self.old.regs A0 value } }
     {
-        self.registers.set(A0, value);
+        self.registers.set(Register::a0(), value);
     }
 
     /// Makes it a process that wasn't started yet. Memory that holds zeros alone isn't written.
@@ -160,43 +154,49 @@ impl Process {
     }
 
     /// The word that a load of size 4 at this address gives, or why it would stop the process; nothing changes. `pid` is the
-    /// process's id, and `held` its node's map.
-    pub fn load_word(&self, pid: u32, held: &HeldBlocks, addr: u32) -> Result<u32, Stop>
+    /// process's id, and `held_blocks` its node's map.
+    pub fn load_word(&self, pid: u32, held_blocks: &HeldBlocks, addr: u32) -> Result<u32, Stop>
         ensures { result
             ≡ loaded_at
-            (space_of self.now.private held.now.mappings pid self.now.used_count) addr 4 }
+            (space_of self.now.private held_blocks.now.mappings pid self.now.used_count) addr 4 }
     {
         let windows = Windows {
             pid,
             used_count: self.memory.windows.used_count,
         };
-        load_at(&self.memory.private, held, &windows, addr, 4)
+        load_at(
+            &self.memory.private,
+            held_blocks,
+            &windows,
+            addr,
+            AccessSize::word(),
+        )
     }
 
     /// Runs instructions of the process, taking one from `left` for each, up to an ECALL or to its stop. The stop is
-    /// `TurnSpent` exactly where `left` is 0 and one more would run. The process is in its turn; `pid` is its id, and `held`
-    /// its node's map, of which it changes nothing but bytes in its own windows.
-    pub fn run_to_call(&mut self, pid: u32, held: &mut HeldBlocks, left: &mut u32) -> Pause
+    /// `TurnSpent` exactly where `left` is 0 and one more would run. The process is in its turn; `pid` is its id, and
+    /// `held_blocks` its node's map, of which it changes nothing but bytes in its own windows.
+    pub fn run_to_call(&mut self, pid: u32, held_blocks: &mut HeldBlocks, left: &mut u32) -> Pause
         requires { self.old.status ≡ Status.Running }
-        ensures reached { turn_end left.old (owned_process self.old pid held.old)
-            ≡ reached_at result left.new (owned_process self.new pid held.new) }
+        ensures reached { turn_end left.old (owned_process self.old pid held_blocks.old)
+            ≡ turn_end_of result left.new (owned_process self.new pid held_blocks.new) }
         ensures status { self.new.status ≡ self.old.status }
-        ensures rest { rest_of pid self.new.used_count held.new
-            ≡ rest_of pid self.old.used_count held.old }
+        ensures rest { rest_of pid self.new.used_count held_blocks.new
+            ≡ rest_of pid self.old.used_count held_blocks.old }
     {
         self.is_blank = false;
         self.memory.windows.pid = pid;
-        mem::swap(&mut self.memory.held, held);
-        let paused = run(&mut self.registers, &mut self.pc, &mut self.memory, left);
-        mem::swap(&mut self.memory.held, held);
-        paused
+        mem::swap(&mut self.memory.held_blocks, held_blocks);
+        let pause = run(&mut self.registers, &mut self.pc, &mut self.memory, left);
+        mem::swap(&mut self.memory.held_blocks, held_blocks);
+        pause
     }
 }
 
 /// Makes private memory begin with these bytes, and end in zeros. Where it is blank, no zeros are written.
 fn load(private: &mut PrivateMemory, is_blank: bool, loaded: &[u8])
     requires blank { IsTrue is_blank → private.old ≡ with_loaded [] }
-    requires room { length loaded.now ≤ image_room }
+    requires room { length loaded.now ≤ IMAGE_ROOM }
     ensures { private.new ≡ with_loaded loaded.now }
 {
     if is_blank {
@@ -211,9 +211,9 @@ fn load(private: &mut PrivateMemory, is_blank: bool, loaded: &[u8])
 fn run(registers: &mut Regs, pc: &mut u32, memory: &mut ProcessMemory, left: &mut u32) -> Pause
     ensures reached { (status : Status)
         → turn_end left.old
-        (process_of_parts status registers.old.x pc.old (memory_seen memory.old))
-        ≡ reached_at result left.new
-        (process_of_parts status registers.new.x pc.new (memory_seen memory.new)) }
+        (process_of_parts status registers.old.x pc.old (memory_space memory.old))
+        ≡ turn_end_of result left.new
+        (process_of_parts status registers.new.x pc.new (memory_space memory.new)) }
     ensures rest { memory_rest memory.new ≡ memory_rest memory.old }
 {
     let mut at = *pc;

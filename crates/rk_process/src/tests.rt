@@ -1,18 +1,21 @@
 // The instruction words were worked out by hand from the RISC-V unprivileged specification.
 ghost use Rattle.std.specs.Prelude.{◌≡◌, ◌≤◌, ◌<◌, ◌+◌, ℕ, [], None, IfOk};
 ghost use Rattle.ce_model.specs.Limits.{block_room, window_count};
-ghost use Rattle.xm_owner.specs.Holdings.{held_at};
+ghost use Rattle.xm_owner.specs.Holdings.{block_held_at};
 
 use super::*;
 use ce_model::{BlockId, Status};
 use rv_image::Image;
-use rv_model::Stop;
+use rv_model::{A0, Register, Stop};
 use std::alloc::Global;
 use std::test::Fail;
 use xm_block::{Block, Store};
 use xm_owner::HeldBlocks;
 
 const ENTRY: u32 = 0x0001_0000;
+
+// The register of a kernel call's number.
+const A7: u8 = A0 + 7;
 
 fn image(alloc: Global, words: &[u32]) -> Result<Image, Fail> {
     let mut bytes = Vec::new(alloc);
@@ -38,28 +41,28 @@ fn openings(rt: HostRuntime) -> Result<(), Fail> {
 
 #[test]
 fn rules_of_private_memory(rt: HostRuntime) -> Result<(), Fail> {
-    let held = HeldBlocks::new(rt.alloc(), 0)?;
+    let held_blocks = HeldBlocks::new(rt.alloc(), 0)?;
     let process = Process::new(rt.alloc())?;
     assert_eq!(rt;
-        process.load_word(4, &held, 0x0001_0001),
+        process.load_word(4, &held_blocks, 0x0001_0001),
         Err(Stop::Misaligned(0x0001_0001))
     );
-    assert_eq!(rt; process.load_word(4, &held, 0x0001_0000), Ok(0));
+    assert_eq!(rt; process.load_word(4, &held_blocks, 0x0001_0000), Ok(0));
     assert_eq!(rt;
-        process.load_word(4, &held, 0x0000_FFFC),
+        process.load_word(4, &held_blocks, 0x0000_FFFC),
         Err(Stop::Unmapped(0x0000_FFFC))
     );
-    assert_eq!(rt; process.load_word(4, &held, 0x0002_FFFC), Ok(0));
+    assert_eq!(rt; process.load_word(4, &held_blocks, 0x0002_FFFC), Ok(0));
     assert_eq!(rt;
-        process.load_word(4, &held, 0x0003_0000),
+        process.load_word(4, &held_blocks, 0x0003_0000),
         Err(Stop::Unmapped(0x0003_0000))
     );
     assert_eq!(rt;
-        process.load_word(4, &held, 0x7FFF_FFFC),
+        process.load_word(4, &held_blocks, 0x7FFF_FFFC),
         Err(Stop::Unmapped(0x7FFF_FFFC))
     );
     assert_eq!(rt;
-        process.load_word(4, &held, 0x8000_0000),
+        process.load_word(4, &held_blocks, 0x8000_0000),
         Err(Stop::Unmapped(0x8000_0000))
     );
     Ok(())
@@ -68,42 +71,48 @@ fn rules_of_private_memory(rt: HostRuntime) -> Result<(), Fail> {
 #[test]
 #[tactic(auto, unfolding(ce_model::specs::Limits::window_count, ce_model::specs::Limits::block_room))]
 fn rules_of_windows(rt: HostRuntime) -> Result<(), Fail> {
-    let mut held = HeldBlocks::new(rt.alloc(), 1)?;
+    let mut held_blocks = HeldBlocks::new(rt.alloc(), 1)?;
     let mut process = Process::new(rt.alloc())?;
     let mut bytes = block(rt.alloc(), 0)?;
     bytes.fill(&[1, 2, 3, 4, 5, 6, 7, 8]);
-    held.map(4, process.give_window(), bytes);
+    held_blocks.map(4, process.give_window(), bytes);
     assert_eq!(rt; process.windows(), 1);
     assert_eq!(rt;
-        process.load_word(4, &held, 0x8000_0001),
+        process.load_word(4, &held_blocks, 0x8000_0001),
         Err(Stop::Misaligned(0x8000_0001))
     );
-    assert_eq!(rt; process.load_word(4, &held, 0x8000_0000), Ok(0x0403_0201));
-    assert_eq!(rt; process.load_word(4, &held, 0x8000_0004), Ok(0x0807_0605));
     assert_eq!(rt;
-        process.load_word(4, &held, 0x8000_0008),
+        process.load_word(4, &held_blocks, 0x8000_0000),
+        Ok(0x0403_0201)
+    );
+    assert_eq!(rt;
+        process.load_word(4, &held_blocks, 0x8000_0004),
+        Ok(0x0807_0605)
+    );
+    assert_eq!(rt;
+        process.load_word(4, &held_blocks, 0x8000_0008),
         Err(Stop::PastEnd(0x8000_0008))
     );
     assert_eq!(rt;
-        process.load_word(4, &held, 0x8001_0000),
+        process.load_word(4, &held_blocks, 0x8001_0000),
         Err(Stop::Unmapped(0x8001_0000))
     );
     assert_eq!(rt;
-        process.load_word(5, &held, 0x8000_0000),
+        process.load_word(5, &held_blocks, 0x8000_0000),
         Err(Stop::Gone(0x8000_0000))
     );
-    assert!(rt; held.unmap(4, 0).is_some());
-    stays_gone();
+    assert!(rt; held_blocks.unmap(4, 0).is_some());
+    windows_stay_gone_law();
     assert_eq!(rt;
-        process.load_word(4, &held, 0x8000_0001),
+        process.load_word(4, &held_blocks, 0x8000_0001),
         Err(Stop::Misaligned(0x8000_0001))
     );
     assert_eq!(rt;
-        process.load_word(4, &held, 0x8000_0000),
+        process.load_word(4, &held_blocks, 0x8000_0000),
         Err(Stop::Gone(0x8000_0000))
     );
     assert_eq!(rt;
-        process.load_word(4, &held, 0x8000_FFFC),
+        process.load_word(4, &held_blocks, 0x8000_FFFC),
         Err(Stop::Gone(0x8000_FFFC))
     );
     Ok(())
@@ -113,7 +122,7 @@ fn rules_of_windows(rt: HostRuntime) -> Result<(), Fail> {
 #[test]
 #[tactic(auto, unfolding(ce_model::specs::Limits::window_count, ce_model::specs::Limits::block_room))]
 fn sizes(rt: HostRuntime) -> Result<(), Fail> {
-    let mut held = HeldBlocks::new(rt.alloc(), 2)?;
+    let mut held_blocks = HeldBlocks::new(rt.alloc(), 2)?;
     let mut process = Process::new(rt.alloc())?;
     process.start(&image(
         rt.alloc(),
@@ -121,15 +130,18 @@ fn sizes(rt: HostRuntime) -> Result<(), Fail> {
     )?);
     let mut full = block(rt.alloc(), 0)?;
     full.reset(4096);
-    held.map(0, process.give_window(), full);
-    held.map(0, process.give_window(), block(rt.alloc(), 1)?);
+    held_blocks.map(0, process.give_window(), full);
+    held_blocks.map(0, process.give_window(), block(rt.alloc(), 1)?);
     let mut left = 10;
-    let paused = process.run_to_call(0, &mut held, &mut left);
-    assert_eq!(rt; paused, Pause::Stopped(Stop::PastEnd(0x8001_0000)));
+    let pause = process.run_to_call(0, &mut held_blocks, &mut left);
+    assert_eq!(rt; pause, Pause::Stopped(Stop::PastEnd(0x8001_0000)));
     assert_eq!(rt; left, 6);
-    assert_eq!(rt; process.load_word(0, &held, 0x8000_0FFC), Ok(0x0003_0000));
     assert_eq!(rt;
-        process.load_word(0, &held, 0x8000_1000),
+        process.load_word(0, &held_blocks, 0x8000_0FFC),
+        Ok(0x0003_0000)
+    );
+    assert_eq!(rt;
+        process.load_word(0, &held_blocks, 0x8000_1000),
         Err(Stop::PastEnd(0x8000_1000))
     );
     Ok(())
@@ -138,56 +150,62 @@ fn sizes(rt: HostRuntime) -> Result<(), Fail> {
 // li a0, 42; li a7, 14; ecall
 #[test]
 fn run_to_a_call(rt: HostRuntime) -> Result<(), Fail> {
-    let mut held = HeldBlocks::new(rt.alloc(), 0)?;
+    let mut held_blocks = HeldBlocks::new(rt.alloc(), 0)?;
     let mut process = Process::new(rt.alloc())?;
     process.start(&image(rt.alloc(), &[0x02A0_0513, 0x00E0_0893, 0x0000_0073])?);
     assert_eq!(rt; process.status(), Status::Running);
-    assert_eq!(rt; process.reg(2), 0x0003_0000);
+    assert_eq!(rt; process.register(Register::sp()), 0x0003_0000);
     let mut left = 10;
-    let paused = process.run_to_call(0, &mut held, &mut left);
-    assert_eq!(rt; paused, Pause::Call);
+    let pause = process.run_to_call(0, &mut held_blocks, &mut left);
+    assert_eq!(rt; pause, Pause::Call);
     assert_eq!(rt; left, 7);
-    assert_eq!(rt; process.reg(10), 42);
-    assert_eq!(rt; process.reg(17), 14);
+    assert_eq!(rt; process.register(Register::a0()), 42);
+    assert_eq!(rt; process.register(Register { number: A7 }), 14);
     process.answer(7);
-    assert_eq!(rt; process.reg(10), 7);
+    assert_eq!(rt; process.register(Register::a0()), 7);
     process.set_status(Status::Asking);
     assert_eq!(rt; process.status(), Status::Asking);
     process.reset();
     assert_eq!(rt; process.status(), Status::Unborn);
-    assert_eq!(rt; process.reg(10), 0);
-    assert_eq!(rt; process.load_word(0, &held, ENTRY), Ok(0));
+    assert_eq!(rt; process.register(Register::a0()), 0);
+    assert_eq!(rt; process.load_word(0, &held_blocks, ENTRY), Ok(0));
     Ok(())
 }
 
 // lui t0, 0x10; sw sp, 64(t0); ecall. What the process wrote is gone once it is reset and starts anew.
 #[test]
 fn memory_starts_anew(rt: HostRuntime) -> Result<(), Fail> {
-    let mut held = HeldBlocks::new(rt.alloc(), 0)?;
+    let mut held_blocks = HeldBlocks::new(rt.alloc(), 0)?;
     let mut process = Process::new(rt.alloc())?;
     process.start(&image(rt.alloc(), &[0x0001_02B7, 0x0422_A023, 0x0000_0073])?);
     let mut left = 10;
-    assert_eq!(rt; process.run_to_call(0, &mut held, &mut left), Pause::Call);
-    assert_eq!(rt; process.load_word(0, &held, ENTRY + 64), Ok(0x0003_0000));
+    assert_eq!(rt;
+        process.run_to_call(0, &mut held_blocks, &mut left),
+        Pause::Call
+    );
+    assert_eq!(rt;
+        process.load_word(0, &held_blocks, ENTRY + 64),
+        Ok(0x0003_0000)
+    );
     process.reset();
     process.start(&image(rt.alloc(), &[0x0000_0073])?);
-    assert_eq!(rt; process.load_word(0, &held, ENTRY), Ok(0x0000_0073));
-    assert_eq!(rt; process.load_word(0, &held, ENTRY + 4), Ok(0));
-    assert_eq!(rt; process.load_word(0, &held, ENTRY + 64), Ok(0));
+    assert_eq!(rt; process.load_word(0, &held_blocks, ENTRY), Ok(0x0000_0073));
+    assert_eq!(rt; process.load_word(0, &held_blocks, ENTRY + 4), Ok(0));
+    assert_eq!(rt; process.load_word(0, &held_blocks, ENTRY + 64), Ok(0));
     Ok(())
 }
 
 // A loop that jumps to itself. With nothing left it stops before anything is fetched.
 #[test]
 fn turn_spent(rt: HostRuntime) -> Result<(), Fail> {
-    let mut held = HeldBlocks::new(rt.alloc(), 0)?;
+    let mut held_blocks = HeldBlocks::new(rt.alloc(), 0)?;
     let mut process = Process::new(rt.alloc())?;
     process.start(&image(rt.alloc(), &[0x0000_006F])?);
     let mut left = 3;
-    let paused = process.run_to_call(0, &mut held, &mut left);
-    assert_eq!(rt; paused, Pause::Stopped(Stop::TurnSpent));
+    let pause = process.run_to_call(0, &mut held_blocks, &mut left);
+    assert_eq!(rt; pause, Pause::Stopped(Stop::TurnSpent));
     assert_eq!(rt; left, 0);
-    let again = process.run_to_call(0, &mut held, &mut left);
+    let again = process.run_to_call(0, &mut held_blocks, &mut left);
     assert_eq!(rt; again, Pause::Stopped(Stop::TurnSpent));
     Ok(())
 }
@@ -206,14 +224,21 @@ fn fill(alloc: Global, store: &mut Store) -> Result<(), Fail>
 
 // What the kernel does for a process that asks for a block of this length: the least block of the store at its next window.
 #[tactic(auto, unfolding(ce_model::specs::Limits::window_count))]
-fn allocate(process: &mut Process, held: &mut HeldBlocks, store: &mut Store, length: u32) -> u32
+fn allocate(
+    process: &mut Process,
+    held_blocks: &mut HeldBlocks,
+    store: &mut Store,
+    length: u32,
+) -> u32
     requires length { length ≤ block_room }
     requires unused { process.old.used_count < window_count }
-    requires room { 1 ≤ held.old.spare }
-    requires vacant { (k : ℕ) → process.old.used_count ≤ k → held_at held.old.mappings 0 k ≡ None }
+    requires room { 1 ≤ held_blocks.old.spare }
+    requires vacant { (k : ℕ) → process.old.used_count ≤ k
+        → block_held_at held_blocks.old.mappings 0 k ≡ None }
     ensures used { process.new.used_count ≤ process.old.used_count + 1 }
-    ensures room { held.old.spare ≤ held.new.spare + 1 }
-    ensures vacant { (k : ℕ) → process.new.used_count ≤ k → held_at held.new.mappings 0 k ≡ None }
+    ensures room { held_blocks.old.spare ≤ held_blocks.new.spare + 1 }
+    ensures vacant { (k : ℕ) → process.new.used_count ≤ k
+        → block_held_at held_blocks.new.mappings 0 k ≡ None }
     ensures spare { store.old.spare ≤ store.new.spare }
 {
     match store.take_least() {
@@ -221,7 +246,7 @@ fn allocate(process: &mut Process, held: &mut HeldBlocks, store: &mut Store, len
         Some(mut taken) => {
             taken.reset(length);
             let window = process.give_window();
-            held.map(0, window, taken);
+            held_blocks.map(0, window, taken);
             0x8000_0000 + window * 0x1_0000
         }
     }
@@ -230,22 +255,22 @@ fn allocate(process: &mut Process, held: &mut HeldBlocks, store: &mut Store, len
 #[test]
 #[tactic(auto, unfolding(ce_model::specs::Limits::window_count, ce_model::specs::Limits::block_room))]
 fn store(rt: HostRuntime) -> Result<(), Fail> {
-    let mut held = HeldBlocks::new(rt.alloc(), 40)?;
+    let mut held_blocks = HeldBlocks::new(rt.alloc(), 40)?;
     let mut process = Process::new(rt.alloc())?;
     let mut store = Store::new(rt.alloc(), 40)?;
     fill(rt.alloc(), &mut store)?;
     for k in 0..32u32 {
-        let address = allocate(&mut process, &mut held, &mut store, 16);
+        let address = allocate(&mut process, &mut held_blocks, &mut store, 16);
         assert_eq!(rt; address, 2_147_483_648 + 65_536 * k);
     }
-    assert_eq!(rt; allocate(&mut process, &mut held, &mut store, 16), 0);
+    assert_eq!(rt; allocate(&mut process, &mut held_blocks, &mut store, 16), 0);
     assert_eq!(rt; store.count(), 0);
-    match held.unmap(0, 0) {
+    match held_blocks.unmap(0, 0) {
         Some(freed) => store.give(freed),
         None => panic!(rt; "window 0 is empty"),
     }
     assert_eq!(rt;
-        allocate(&mut process, &mut held, &mut store, 16),
+        allocate(&mut process, &mut held_blocks, &mut store, 16),
         2_149_580_800
     );
     assert_eq!(rt; process.windows(), 33);

@@ -6,6 +6,77 @@ pub const WAIT: &str = "\
         li a7, 7\n\
         ecall\n";
 
+/// For a machine of one node with two images: starts the first image as process 1 twice, and asks for an image and for a node
+/// that aren't there; kills process 1 twice, one that wasn't started, and one at a node that isn't there; and sends a block to
+/// a place that is none, and then to the host. It notes each answer, and exits with 9.
+pub const REQUESTS: &str = "\
+        li a0, 0\n\
+        li a1, 0\n\
+        li a2, 1\n\
+        li a7, 8\n\
+        ecall\n\
+        li a7, 14\n\
+        ecall\n\
+        li a0, 0\n\
+        li a7, 8\n\
+        ecall\n\
+        li a7, 14\n\
+        ecall\n\
+        li a0, 2\n\
+        li a7, 8\n\
+        ecall\n\
+        li a7, 14\n\
+        ecall\n\
+        li a0, 2\n\
+        li a1, 1\n\
+        li a7, 8\n\
+        ecall\n\
+        li a7, 14\n\
+        ecall\n\
+        li a0, 0\n\
+        li a1, 1\n\
+        li a7, 9\n\
+        ecall\n\
+        li a7, 14\n\
+        ecall\n\
+        li a0, 0\n\
+        li a7, 9\n\
+        ecall\n\
+        li a7, 14\n\
+        ecall\n\
+        li a0, 0\n\
+        li a1, 5\n\
+        li a7, 9\n\
+        ecall\n\
+        li a7, 14\n\
+        ecall\n\
+        li a0, 1\n\
+        li a1, 0\n\
+        li a7, 9\n\
+        ecall\n\
+        li a7, 14\n\
+        ecall\n\
+        li a0, 4\n\
+        li a7, 1\n\
+        ecall\n\
+        mv s0, a0\n\
+        li a1, 0\n\
+        li a2, 8\n\
+        li a7, 4\n\
+        ecall\n\
+        li a7, 14\n\
+        ecall\n\
+        mv a0, s0\n\
+        li a1, -1\n\
+        li a2, 0\n\
+        li a7, 4\n\
+        ecall\n\
+        li a7, 14\n\
+        ecall\n\
+        li a0, 9\n\
+        li a7, 13\n\
+        ecall\n";
+
 /// Sends a block with the word 7 to the host, and reads the block that it gave away.
 pub const GONE_BLOCK: &str = "\
         li a0, 8\n\

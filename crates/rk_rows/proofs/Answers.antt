@@ -13,7 +13,7 @@ use Rattle.ce_model.specs.Blocks.{blocks_of_home}
 use Rattle.ce_model.specs.Lists.{without_first}
 use Rattle.ce_model.specs.Parcels.{Item, start, mail, kill, is_eligible}
 use Rattle.ce_model.specs.Process.{is_receiving, is_stopped}
-use Rattle.ce_model.specs.Node.{Node, Call, take_call, spawn_call, kill_call, blocks_of, ids_of, take_of}
+use Rattle.ce_model.specs.Node.{Node, Call, take_call, spawn_call, kill_call, blocks_of, process_set, take_of}
 use Rattle.ce_model.specs.Sound.{is_unborn}
 use Rattle.ce_solo.proofs.Counting.{hit-self, count, count-nil, count-one}
 use Rattle.ce_solo.proofs.Items.{parcel_ids}
@@ -22,7 +22,7 @@ use Rattle.ce_solo.proofs.HandedOver.{find-passes}
 use Rattle.rk_mail.specs.declared.talk.Hearing.{Hearing}
 use Rattle.rk_mail.specs.declared.talk.Hearing.TheVariants.{Poll, Idle}
 use Rattle.rk_mail.specs.declared.talk.Hearing.TheVariants as hearing
-use Rattle.rk_mail.specs.Talk.{is_of_take, IsAnswerTo, heard_of_spawn, heard_of_kill}
+use Rattle.rk_mail.specs.Talk.{is_of_take, IsAnswerTo, spawn_hearing, kill_hearing}
 use Rattle.rk_node.specs.Boxes.{Box}
 use Rattle.rk_node.specs.Answering.{IsWork}
 use Rattle.xm_block.proofs.HomeBlocks.{length-blocks_of_home}
@@ -45,10 +45,10 @@ born-is status born e = absurd (both_ways (is_unborn status) born (ap is_unborn 
 
 -- ---- what a Take says
 
-taken-asking : (asking dead : ℕ) (poller : Option ℕ) (node : Node) → take_call asking dead poller ≡ take_of node → asking ≡ ids_of is_receiving node.processes
+taken-asking : (asking dead : ℕ) (poller : Option ℕ) (node : Node) → take_call asking dead poller ≡ take_of node → asking ≡ process_set is_receiving node.processes
 taken-asking asking dead poller node e = cc
 
-taken-dead : (asking dead : ℕ) (poller : Option ℕ) (node : Node) → take_call asking dead poller ≡ take_of node → dead ≡ ids_of is_stopped node.processes
+taken-dead : (asking dead : ℕ) (poller : Option ℕ) (node : Node) → take_call asking dead poller ≡ take_of node → dead ≡ process_set is_stopped node.processes
 taken-dead asking dead poller node e = cc
 
 taken-poller : (asking dead : ℕ) (poller : Option ℕ) (node : Node) → take_call asking dead poller ≡ take_of node → poller ≡ slice_get node.polling_ids 0
@@ -82,7 +82,7 @@ item-for box asking dead poller items (mail parcel) can found =
     let passes : is_eligible asking dead (mail parcel) ≡ true = find-passes (is_eligible asking dead) items (mail parcel) found in
     let waits = taken-ids id (is_eligible asking dead) items (mail parcel) found in
     record {
-      eligible = subst (λ asking. IsTrue (is_eligible asking (ids_of is_stopped box.node.processes) (mail parcel))) (taken-asking asking dead poller box.node is)
+      eligible = subst (λ asking. IsTrue (is_eligible asking (process_set is_stopped box.node.processes) (mail parcel))) (taken-asking asking dead poller box.node is)
           (subst (λ dead. IsTrue (is_eligible asking dead (mail parcel))) (taken-dead asking dead poller box.node is) passes);
       apart = not_contained id (blocks_of box.node) (omega (arith, can.places.places id, own-once id, waits, count-one id id, hit-self id));
       room = few-blocks box (call_ids (take_call asking dead poller)) items can.room can.places;
@@ -132,13 +132,13 @@ call-answers images box call before after heard can answer work none queued = re
 
 -- a spawn is answered by whether the id was never used before
 pub spawn-answers : (images : List ImageParts) (box : Box) (pid image : ℕ) (to : Place) (before after : List Item) (fresh : Bool) → IsAnswerable box (spawn_call pid image to) before
-    → HasQueued [] before after → IsAnsweredAlone images box (heard_of_spawn fresh) after
+    → HasQueued [] before after → IsAnsweredAlone images box (spawn_hearing fresh) after
 spawn-answers images box pid image to before after true can queued = call-answers images box (spawn_call pid image to) before after hearing.Spawned can (inl refl) tt refl queued
 spawn-answers images box pid image to before after false can queued = call-answers images box (spawn_call pid image to) before after hearing.Used can (inr refl) tt refl queued
 
 -- a kill is answered by what it found
 pub kill-answers : (images : List ImageParts) (box : Box) (pid : ℕ) (to : Place) (before after : List Item) (found : KillFound) → IsAnswerable box (kill_call pid to) before
-    → HasQueued [] before after → IsAnsweredAlone images box (heard_of_kill found) after
+    → HasQueued [] before after → IsAnsweredAlone images box (kill_hearing found) after
 kill-answers images box pid to before after Killed can queued = call-answers images box (kill_call pid to) before after hearing.Killed can (inl refl) tt refl queued
 kill-answers images box pid to before after Unused can queued = call-answers images box (kill_call pid to) before after hearing.Unused can (inr (inl refl)) tt refl queued
 kill-answers images box pid to before after Already can queued = call-answers images box (kill_call pid to) before after hearing.Already can (inr (inr refl)) tt refl queued

@@ -1,3 +1,3 @@
-pub mod Counts
 pub mod Answers
-pub mod Steps
+pub mod Counts
+pub mod Exchanges

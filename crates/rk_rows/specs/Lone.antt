@@ -1,5 +1,5 @@
 -- A node that is alone, and what waits for it.
-use Rattle.std.specs.Prelude.{◌≡◌, ℕ, ◌+◌, ◌≤◌, List, [], ◌∷◌, length, map, IfSome}
+use Rattle.std.specs.Prelude.{◌≡◌, ◌+◌, ◌≤◌, List, [], ◌∷◌, length, map, IfSome}
 use Rattle.rv_model.specs.Image.{ImageParts}
 use Rattle.ce_model.specs.declared.topology.Place.{Place}
 use Rattle.ce_model.specs.declared.topology.BlockId.{BlockId}
@@ -17,11 +17,11 @@ use Rattle.ce_solo.proofs.Words.{call_ids}
 use Rattle.rk_mail.specs.declared.talk.Hearing.{Hearing}
 use Rattle.rk_mail.specs.declared.talk.Hearing.TheVariants.{Mail}
 use Rattle.rk_mail.specs.Queue.{Queue}
-use Rattle.rk_mail.specs.Talk.{heard_as}
+use Rattle.rk_mail.specs.Talk.{hearing_model}
 use Rattle.rk_mail.specs.Targets.{targets_of}
 use Rattle.rk_node.specs.declared.out.Out.TheVariants.{Nothing}
 use Rattle.rk_node.specs.Boxes.{Box}
-use Rattle.rk_node.specs.Answering.{HasSaid, IsForBox, IsAbleToHear}
+use Rattle.rk_node.specs.Answering.{IsAwaitingAnswer, IsForBox, IsAbleToHear}
 
 -- the names of the blocks of a message
 abbrev pub batch_ids : List (Place × Block) → List BlockId
@@ -47,7 +47,7 @@ IsFor box other = Unit {0}
 
 -- the box waits for the answer to a call, while these items wait for it
 pub record IsAnswerable (box : Box) (call : Call) (items : List Item) : Type 0 where
-  pub said : HasSaid box call
+  pub said : IsAwaitingAnswer box call
   pub room : greatest_blocks ≤ box.room
   pub places : AreAtOnePlace box.node (call_ids call) items
 
@@ -68,8 +68,8 @@ pub record IsAloneAtRest (box : Box) (list : List ImageParts) (queue : Queue) : 
 -- the box has said what it says, and has heard an answer that it could hear
 pub record HasExchangedAlone (before after : Box) : Type 0 where
   pub images : List ImageParts
-  pub said : Box
-  pub heard : Hearing
-  pub said_is : said.node ≡ (says before.node).node
-  pub can : IsAbleToHear images said heard
-  pub heard_is : after.node ≡ node_after_hearing images said.node (heard_as heard)
+  pub box_after : Box
+  pub hearing : Hearing
+  pub said_is : box_after.node ≡ (says before.node).node
+  pub can : IsAbleToHear images box_after hearing
+  pub heard_is : after.node ≡ node_after_hearing images box_after.node (hearing_model hearing)

@@ -10,15 +10,15 @@ ghost use Rattle.rk_rows.specs.Lone.{heard_ids, batch_ids, HasQueued, IsFor, IsA
 
 use crate::fault::RowFault;
 use crate::transcript::Transcript;
-use ce_model::{HOST, KillFound, PROCESS_COUNT, Place, Status};
-use rk_mail::{Batch, Hearing, Item, Mailbox, Parcel, Say, heard_of_kill, heard_of_spawn};
+use ce_model::{HOME_BLOCKS, HOST, KillFound, PROCESS_COUNT, Place, Status};
+use rk_mail::{Batch, Hearing, Item, Mailbox, Parcel, Say, kill_hearing, spawn_hearing};
 use rk_node::NodeBox;
 use rv_image::Image;
 use std::alloc::Global;
 use xm_block::Block;
 
 /// How many items can wait: a start and a kill for each process id, and a parcel for each block of the node.
-const QUEUE_ROOM: u32 = 48;
+const QUEUE_ROOM: u32 = HOME_BLOCKS + 2 * PROCESS_COUNT;
 
 /// What became of a process id.
 #[derive(Clone, Copy, Debug, PartialEq, Eq)]
@@ -200,12 +200,12 @@ impl LoneDesk {
             Say::Spawn { pid, image, to } => {
                 let is_fresh = self.accept_spawn(image, to.pid)?;
                 self.transcript.spawn(pid, image, to, is_fresh)?;
-                Ok(heard_of_spawn(is_fresh))
+                Ok(spawn_hearing(is_fresh))
             }
             Say::Kill { pid, to } => {
                 let found = self.accept_kill(to.pid)?;
                 self.transcript.kill(pid, to, found)?;
-                Ok(heard_of_kill(found))
+                Ok(kill_hearing(found))
             }
             Say::Note { pid, word } => {
                 self.transcript.note(pid, word)?;

@@ -2,6 +2,7 @@ mod rows;
 
 use super::*;
 use ce_model::{PROCESS_COUNT, Status};
+use ce_text::TEXT_LIMIT;
 use rows::{
     ANSWERS, CALLS_SPENT, CAUSES_OF_CALLS, CAUSES_OF_INSTRUCTIONS, IDLE, JUMPS, KILLED,
     KILLED_LATE, MAIL_FOR_ONE_THAT_ASKS, MAIL_FOR_ONE_THAT_HAS_STOPPED, MAIL_FOR_ONE_THAT_POLLS,
@@ -17,14 +18,14 @@ use std::test::Fail;
 const MOST: u32 = 100;
 
 fn image(alloc: Global, text: &str) -> Result<Image, Fail> {
-    if text.len() >= 1 << 31 {
+    if text.len() >= TEXT_LIMIT {
         return Err("a long text")?;
     }
     Ok(assemble(alloc, text.as_bytes())?)
 }
 
 /// The node once the steps of a row were made.
-fn driven(alloc: Global, row: &Row) -> Result<LoneNode, Fail> {
+fn driven_node(alloc: Global, row: &Row) -> Result<LoneNode, Fail> {
     let mut images = Vec::new(alloc);
     for text in row.images {
         images.push(image(alloc, text)?)?;
@@ -56,7 +57,7 @@ fn status_of(node: &LoneNode, pid: u32) -> Option<Status> {
 /// The node says and hears what the row has, and its processes end so.
 fn holds(rt: &impl Abort, alloc: Global, row: &Row) -> Result<(), Fail> {
     let title = row.title;
-    let node = driven(alloc, row)?;
+    let node = driven_node(alloc, row)?;
     assert_eq!(rt; node.transcript(), row.transcript, "{title}");
     for (pid, status) in row.ends {
         assert_eq!(rt;

@@ -4,7 +4,7 @@ use Rattle.rv_asm.specs.declared.fault.AsmKind.{AsmKind}
 use Rattle.rv_asm.specs.declared.fault.AsmKind.TheVariants.{Operands}
 use Rattle.rv_asm.specs.Faults.{◌>>=◌}
 use Rattle.ce_text.proofs.Splitting.{split_cut, split_behind}
-use Rattle.ce_text.specs.Line.{cut, without_outer_blanks}
+use Rattle.ce_text.specs.Line.{cut_parts, without_outer_blanks}
 use Rattle.rv_asm.specs.Line.{pieces, comma_pieces, is_comma}
 use Rattle.rv_asm.specs.Operand.{one_of, two_of, three_of, one_piece, two_pieces, three_pieces}
 
@@ -13,9 +13,9 @@ unfolding pieces
 map_behind None = refl
 map_behind (Some rest) = refl
 
-pub pieces_cut : (operands : List ℕ) → pieces operands ≡ without_outer_blanks (cut is_comma operands).0 ∷ comma_pieces (cut is_comma operands).1
+pub pieces_cut : (operands : List ℕ) → pieces operands ≡ without_outer_blanks (cut_parts is_comma operands).0 ∷ comma_pieces (cut_parts is_comma operands).1
 unfolding pieces
-pieces_cut operands = ap (map without_outer_blanks) (split_cut is_comma operands) ∙ ap (λ (others : List (List ℕ)). without_outer_blanks (cut is_comma operands).0 ∷ others) (map_behind (cut is_comma operands).1)
+pieces_cut operands = ap (map without_outer_blanks) (split_cut is_comma operands) ∙ ap (λ (others : List (List ℕ)). without_outer_blanks (cut_parts is_comma operands).0 ∷ others) (map_behind (cut_parts is_comma operands).1)
 
 -- ---- how many operands there are, from the first one on
 

@@ -5,10 +5,10 @@ use Rattle.rv_asm.specs.declared.fault.AsmKind.TheVariants.{BadByte, NameTaken, 
 use Rattle.rv_asm.specs.declared.fault.AsmFault.{AsmFault}
 use Rattle.rv_asm.specs.declared.fault.Halt.{Halt}
 use Rattle.rv_asm.specs.declared.fault.Halt.TheVariants as halts
-use Rattle.rv_asm.specs.Faults.{◌>>=◌, halt_at, IsHaltOf, Unless}
-use Rattle.rv_asm.specs.FirstPass.{at_line}
+use Rattle.rv_asm.specs.Faults.{◌>>=◌, halt_fault, IsHaltOf, AsmUnless}
+use Rattle.rv_asm.specs.FirstPass.{judgment_at_line}
 
-pub unless : (kind : AsmKind) (P : Type 0) → P → Unless kind P
+pub unless : (kind : AsmKind) (P : Type 0) → P → AsmUnless kind P
 unless BadByte P p = p
 unless NameTaken P p = p
 unless UnknownWord P p = p
@@ -23,7 +23,7 @@ unless Entry P p = p
 unless (Memory cause) P p = tt
 
 pub stops_all : {A B : Type 0} (halt : Halt) (line : ℕ) (judged : Result A AsmKind) (next : A → Result B AsmFault) (total : Result B AsmFault)
-    → total ≡ (at_line line judged >>= next) → IsHaltOf halt judged → Unless (halt_at halt line).kind (total ≡ Err (halt_at halt line))
+    → total ≡ (judgment_at_line line judged >>= next) → IsHaltOf halt judged → AsmUnless (halt_fault halt line).kind (total ≡ Err (halt_fault halt line))
 stops_all halts.Memory line judged next total e s = tt
 stops_all (halts.Fault kind) line judged next total e s =
-    unless kind (total ≡ Err (record { line = line; kind = kind })) (e ∙ ap (λ r. at_line line r >>= next) s)
+    unless kind (total ≡ Err (record { line = line; kind = kind })) (e ∙ ap (λ r. judgment_at_line line r >>= next) s)

@@ -40,24 +40,24 @@ abbrev pub earlier_kind : AsmKind → AsmKind → AsmKind
 earlier_kind first second = if nat_le (rank first) (rank second) then first else second
 
 -- two judgments of one line: both values, or the fault whose kind is judged first
-unfoldable pub both : {A B : Type 0} → Result A AsmKind → Result B AsmKind → Result (A × B) AsmKind
-both (Ok first) (Ok second) = Ok (first, second)
-both (Ok first) (Err kind) = Err kind
-both (Err kind) (Ok second) = Err kind
-both (Err first) (Err second) = Err (earlier_kind first second)
+unfoldable pub pair_judgment : {A B : Type 0} → Result A AsmKind → Result B AsmKind → Result (A × B) AsmKind
+pair_judgment (Ok first) (Ok second) = Ok (first, second)
+pair_judgment (Ok first) (Err kind) = Err kind
+pair_judgment (Err kind) (Ok second) = Err kind
+pair_judgment (Err first) (Err second) = Err (earlier_kind first second)
 
 -- one more judgment behind those of a line
 unfoldable pub with_judged : {A : Type 0} → Result (List A) AsmKind → Result A AsmKind → Result (List A) AsmKind
-with_judged judged value = both judged value >>= λ parts. Ok (parts.0 ++ parts.1 ∷ [])
+with_judged judged value = pair_judgment judged value >>= λ parts. Ok (parts.0 ++ parts.1 ∷ [])
 
 -- any number of judgments of one line: all values, or the fault whose kind is judged first
-unfoldable pub all_of : {A : Type 0} → List (Result A AsmKind) → Result (List A) AsmKind
-all_of values = fold with_judged (Ok []) values
+unfoldable pub judgment_of_list : {A : Type 0} → List (Result A AsmKind) → Result (List A) AsmKind
+judgment_of_list values = fold with_judged (Ok []) values
 
 -- why a line stops the work, as a fault of this line
-abbrev pub halt_at : Halt → ℕ → AsmFault
-halt_at halts.Memory line = record { line = line; kind = Memory (record {}) }
-halt_at (halts.Fault kind) line = record { line = line; kind = kind }
+abbrev pub halt_fault : Halt → ℕ → AsmFault
+halt_fault halts.Memory line = record { line = line; kind = Memory (record {}) }
+halt_fault (halts.Fault kind) line = record { line = line; kind = kind }
 
 -- what is known of a call that stopped: memory ran out, or the definition has this fault
 abbrev pub IsHaltOf : {A : Type 0} → Halt → Result A AsmKind → Type 0
@@ -65,14 +65,14 @@ IsHaltOf halts.Memory judged = Unit {0}
 IsHaltOf (halts.Fault kind) judged = judged ≡ Err kind
 
 -- what is known of a fault: nothing, where memory ran out
-abbrev pub Unless : AsmKind → Type 0 → Type 0
-Unless (Memory cause) known = Unit {0}
-Unless kind known = known
+abbrev pub AsmUnless : AsmKind → Type 0 → Type 0
+AsmUnless (Memory cause) known = Unit {0}
+AsmUnless kind known = known
 
 -- what a pass answered, seen by `view`, is what the definition says, unless memory ran out
 abbrev pub IsAllSeenAs : {A B : Type 0} → (A → B) → Result A AsmFault → Result B AsmFault → Type 0
 IsAllSeenAs view (Ok x) judged = judged ≡ Ok (view x)
-IsAllSeenAs view (Err fault) judged = Unless fault.kind (judged ≡ Err fault)
+IsAllSeenAs view (Err fault) judged = AsmUnless fault.kind (judged ≡ Err fault)
 
 -- what a call answered, seen by `view`, is what the definition says, unless memory ran out
 abbrev pub IsSeenAs : {A B : Type 0} → (A → B) → Result A Halt → Result B AsmKind → Type 0

@@ -1,7 +1,7 @@
 -- The first pass: each line is judged, and its statements get their places.
 use Rattle.std.specs.Prelude.{◌≡◌, ℕ, ◌+◌, ◌%◌, not, ◌&&◌, ◌==◌, nat_lt, if◌then◌else◌, List, [], ◌∷◌, ◌++◌, Option, Some, None, Result, Ok, Err, bytes_eq, codes}
 use Rattle.std.specs.List.{list_all, list_any}
-use Rattle.rv_model.specs.Image.{image_start, image_room}
+use Rattle.rv_model.specs.declared.limits.TheConstants.{PRIVATE_START, IMAGE_ROOM}
 use Rattle.rv_asm.specs.declared.fault.AsmKind.{AsmKind}
 use Rattle.rv_asm.specs.declared.fault.AsmKind.TheVariants.{BadByte, NameTaken, UnknownWord, Unaligned, TooLarge}
 use Rattle.rv_asm.specs.declared.fault.AsmFault.{AsmFault}
@@ -10,13 +10,13 @@ use Rattle.rv_asm.specs.declared.symbols.Symbol.TheVariants.{Label, Number}
 use Rattle.rv_asm.specs.declared.statement.Statement.{Statement}
 use Rattle.rv_asm.specs.declared.statement.PlacedStatement.{PlacedStatement}
 use Rattle.ce_text.specs.Bytes.{is_plain, is_blank}
-use Rattle.ce_text.specs.Line.{line_texts, cut, without_outer_blanks, before_comment}
+use Rattle.ce_text.specs.Line.{line_texts, cut_parts, without_outer_blanks, before_comment}
 use Rattle.rv_asm.specs.Line.{is_colon, is_comma}
 use Rattle.rv_asm.specs.Name.{is_name}
 use Rattle.rv_asm.specs.Names.{Names, no_names, with_name, is_taken}
 use Rattle.rv_asm.specs.Words.{mnemonic_of}
 use Rattle.rv_asm.specs.declared.fault.Halt.{Halt}
-use Rattle.rv_asm.specs.Faults.{◌>>=◌, refusal, or_fault, both, IsHaltOf}
+use Rattle.rv_asm.specs.Faults.{◌>>=◌, refusal, or_fault, pair_judgment, IsHaltOf}
 use Rattle.rv_asm.specs.Operand.{two_pieces, number, name_piece}
 use Rattle.rv_asm.specs.Sizes.{size_of, lays_words}
 use Rattle.rv_asm.specs.Statements.{statements_of}
@@ -44,7 +44,7 @@ HasLaid (Err halt) laid judged = IsHaltOf halt judged
 unfoldable pub layout_with_statement : ℕ → LayoutSoFar → Statement → Result LayoutSoFar AsmKind
 layout_with_statement line laid statement = do
   aligned ← refusal (lays_words statement && not (laid.size % 4 == 0)) Unaligned
-  fits ← refusal (nat_lt image_room (laid.size + size_of statement)) TooLarge
+  fits ← refusal (nat_lt IMAGE_ROOM (laid.size + size_of statement)) TooLarge
   Ok (layout_of laid.names (laid.statements ++ record { line = line; statement = statement } ∷ []) (laid.size + size_of statement))
 
 unfoldable pub layout_with_all : ℕ → LayoutSoFar → List Statement → Result LayoutSoFar AsmKind
@@ -64,9 +64,9 @@ layout_with_name laid name symbol = do
 -- `.equ name, n`
 unfoldable pub layout_with_number : LayoutSoFar → List ℕ → Result LayoutSoFar AsmKind
 layout_with_number laid operands = do
-  free ← refusal (is_taken laid.names (without_outer_blanks (cut is_comma operands).0)) NameTaken
+  free ← refusal (is_taken laid.names (without_outer_blanks (cut_parts is_comma operands).0)) NameTaken
   parts ← two_pieces operands
-  values ← both (name_piece parts.0) (number laid.names parts.1)
+  values ← pair_judgment (name_piece parts.0) (number laid.names parts.1)
   layout_with_name laid parts.0 (Number values.1)
 
 -- a statement whose mnemonic or directive is another than `.equ`
@@ -86,7 +86,7 @@ unfoldable pub statement : ℕ → LayoutSoFar → List ℕ → Result LayoutSoF
 statement line laid [] = Ok laid
 statement line laid (byte ∷ bytes) = do
   one_colon ← refusal (list_any is_colon (byte ∷ bytes)) UnknownWord
-  let parts = cut is_blank (byte ∷ bytes)
+  let parts = cut_parts is_blank (byte ∷ bytes)
   if bytes_eq parts.0 (codes ".equ") then layout_with_number laid (operands_of parts.1) else layout_with_statements line laid parts.0 (operands_of parts.1)
 
 -- a label, and the statement behind it; or a statement alone
@@ -94,27 +94,27 @@ abbrev pub labelled_statement : ℕ → LayoutSoFar → List ℕ → Option (Lis
 labelled_statement line laid front None = statement line laid (without_outer_blanks front)
 labelled_statement line laid front (Some rest) = do
   named ← refusal (not (is_name (without_outer_blanks front))) UnknownWord
-  defined ← layout_with_name laid (without_outer_blanks front) (Label (image_start + laid.size))
+  defined ← layout_with_name laid (without_outer_blanks front) (Label (PRIVATE_START + laid.size))
   statement line defined (without_outer_blanks rest)
 
 -- one line
 unfoldable pub line_laid : ℕ → LayoutSoFar → List ℕ → Result LayoutSoFar AsmKind
 line_laid number laid line = do
   plain ← refusal (not (list_all is_plain (before_comment line))) BadByte
-  labelled_statement number laid (cut is_colon (before_comment line)).0 (cut is_colon (before_comment line)).1
+  labelled_statement number laid (cut_parts is_colon (before_comment line)).0 (cut_parts is_colon (before_comment line)).1
 
 -- ---- all lines
 
 -- a fault of a line
-abbrev pub at_line : {A : Type 0} → ℕ → Result A AsmKind → Result A AsmFault
-at_line line (Ok x) = Ok x
-at_line line (Err kind) = Err (record { line = line; kind = kind })
+abbrev pub judgment_at_line : {A : Type 0} → ℕ → Result A AsmKind → Result A AsmFault
+judgment_at_line line (Ok x) = Ok x
+judgment_at_line line (Err kind) = Err (record { line = line; kind = kind })
 
 -- lines, of which the first has the number behind this one
 unfoldable pub lines_laid : ℕ → LayoutSoFar → List (List ℕ) → Result LayoutSoFar AsmFault
 lines_laid before laid [] = Ok laid
 lines_laid before laid (line ∷ line_texts) = do
-  one ← at_line (before + 1) (line_laid (before + 1) laid line)
+  one ← judgment_at_line (before + 1) (line_laid (before + 1) laid line)
   lines_laid (before + 1) one line_texts
 
 -- the first pass over a text

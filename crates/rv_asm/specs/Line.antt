@@ -4,17 +4,31 @@ use Rattle.std.specs.List.{slice_split, list_all}
 use Rattle.ce_text.specs.Bytes.{is_blank}
 use Rattle.ce_text.specs.Line.{without_outer_blanks}
 
+-- ---- bytes that part what stands in a line
+
+abbrev pub colon : ℕ
+colon = 58
+
+abbrev pub comma : ℕ
+comma = 44
+
+abbrev pub opening_bracket : ℕ
+opening_bracket = 40
+
+abbrev pub closing_bracket : ℕ
+closing_bracket = 41
+
 abbrev pub is_colon : ℕ → Bool
-is_colon byte = byte == 58
+is_colon byte = byte == colon
 
 abbrev pub is_comma : ℕ → Bool
-is_comma byte = byte == 44
+is_comma byte = byte == comma
 
 abbrev pub is_opening : ℕ → Bool
-is_opening byte = byte == 40
+is_opening byte = byte == opening_bracket
 
 abbrev pub is_closing : ℕ → Bool
-is_closing byte = byte == 41
+is_closing byte = byte == closing_bracket
 
 -- what a token consists of: no blank, no bracket and no comma
 abbrev pub is_token_byte : ℕ → Bool

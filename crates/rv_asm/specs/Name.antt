@@ -1,12 +1,8 @@
 -- Names of labels and numbers.
 use Rattle.std.specs.Prelude.{ℕ, Bool, List}
 use Rattle.ce_text.specs.Name as text
-use Rattle.rv_asm.specs.declared.name.TheConstants.{LONGEST}
+use Rattle.rv_asm.specs.declared.name.TheConstants.{NAME_ROOM}
 
--- how many bytes a name has at most
-abbrev pub longest_name : ℕ
-longest_name = LONGEST
-
--- letters, digits and `_`, no digit first
+-- letters, digits and `_`, no digit first, `NAME_ROOM` bytes at most
 abbrev pub is_name : List ℕ → Bool
-is_name = text.is_name longest_name
+is_name = text.is_name NAME_ROOM

@@ -7,13 +7,13 @@ use Rattle.rv_asm.specs.declared.fault.AsmKind.{AsmKind}
 use Rattle.rv_asm.specs.declared.fault.AsmKind.TheVariants.{Operands, BadRegister, BadNumber, UnknownName}
 use Rattle.rv_asm.specs.declared.symbols.Symbol.{Symbol}
 use Rattle.rv_asm.specs.declared.symbols.Symbol.TheVariants.{Label, Number}
-use Rattle.ce_text.specs.Line.{cut, without_outer_blanks}
+use Rattle.ce_text.specs.Line.{cut_parts, without_outer_blanks}
 use Rattle.rv_asm.specs.Line.{pieces, is_token, is_opening, is_closing}
 use Rattle.rv_asm.specs.Name.{is_name}
 use Rattle.rv_asm.specs.Register.{named_register}
 use Rattle.rv_asm.specs.Literal.{literal_of}
 use Rattle.rv_asm.specs.Names.{Names}
-use Rattle.rv_asm.specs.Faults.{◌>>=◌, refusal, or_fault, both}
+use Rattle.rv_asm.specs.Faults.{◌>>=◌, refusal, or_fault, pair_judgment}
 
 -- a judgment that stands for another one: the same fault, or its value seen by `view`
 abbrev pub IsViewOf : {A B : Type 0} → (A → B) → Result A AsmKind → Result B AsmKind → Type 0
@@ -84,14 +84,14 @@ is_closed None = false
 is_closed (Some rest) = length (without_outer_blanks rest) == 0
 
 -- `n(rs1)`, as its number and its register
-abbrev pub in_brackets : Names → List ℕ → Option (List ℕ) → Result (ℤ × ℕ) AsmKind
-in_brackets names front None = Err Operands
-in_brackets names front (Some behind) = do
-  whole ← refusal (not (is_closed (cut is_closing behind).1)) Operands
-  both (twelve_bits names (without_outer_blanks front)) (register (without_outer_blanks (cut is_closing behind).0))
+abbrev pub bracket_operand : Names → List ℕ → Option (List ℕ) → Result (ℤ × ℕ) AsmKind
+bracket_operand names front None = Err Operands
+bracket_operand names front (Some behind) = do
+  whole ← refusal (not (is_closed (cut_parts is_closing behind).1)) Operands
+  pair_judgment (twelve_bits names (without_outer_blanks front)) (register (without_outer_blanks (cut_parts is_closing behind).0))
 
 unfoldable pub memory : Names → List ℕ → Result (ℤ × ℕ) AsmKind
-memory names piece = in_brackets names (cut is_opening piece).0 (cut is_opening piece).1
+memory names piece = bracket_operand names (cut_parts is_opening piece).0 (cut_parts is_opening piece).1
 
 -- ---- numbers as bits
 

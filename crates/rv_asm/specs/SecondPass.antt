@@ -15,7 +15,7 @@ use Rattle.rv_asm.specs.declared.statement.PlacedStatement.{PlacedStatement}
 use Rattle.rv_asm.specs.Names.{Names}
 use Rattle.rv_asm.specs.Faults.{◌>>=◌, refusal}
 use Rattle.rv_asm.specs.Sizes.{size_of}
-use Rattle.rv_asm.specs.FirstPass.{at_line}
+use Rattle.rv_asm.specs.FirstPass.{judgment_at_line}
 use Rattle.rv_asm.specs.Statements.{two_instructions}
 
 -- a part of an image
@@ -67,6 +67,6 @@ parts_of names address (statements.Zero count) = Ok (Plain (replicate count 0) �
 unfoldable pub second_pass : Names → ℕ → List PlacedStatement → Result (List Part) AsmFault
 second_pass names address [] = Ok []
 second_pass names address (placed ∷ others) = do
-  here ← at_line placed.line (parts_of names address placed.statement)
+  here ← judgment_at_line placed.line (parts_of names address placed.statement)
   there ← second_pass names (address + size_of placed.statement) others
   Ok (here ++ there)

@@ -7,15 +7,15 @@ use Rattle.rv_model.specs.declared.inst.ImmOp.{ImmOp}
 use Rattle.rv_model.specs.declared.inst.ImmOp.TheVariants.{Addi, Slti, Sltiu, Xori, Ori, Andi, Slli, Srli, Srai}
 use Rattle.rv_inst.specs.Valid.{IsRegister, IsImmediateOf, IsValid}
 use Rattle.rv_asm.specs.declared.mnemonic.Mnemonic.{Mnemonic}
-use Rattle.rv_asm.specs.declared.mnemonic.Mnemonic.TheVariants as words
+use Rattle.rv_asm.specs.declared.mnemonic.Mnemonic.TheVariants as mnemonics
 use Rattle.rv_asm.specs.declared.statement.Statement.{Statement}
 use Rattle.rv_asm.specs.declared.statement.Statement.TheVariants as statements
 use Rattle.rv_asm.specs.declared.statement.PlacedStatement.{PlacedStatement}
 
 -- the instruction or the register that a mnemonic stands for is one
 abbrev pub IsSoundMnemonic : Mnemonic → Type 0
-IsSoundMnemonic (words.Plain inst) = IsValid inst
-IsSoundMnemonic (words.Jump rd) = IsRegister rd
+IsSoundMnemonic (mnemonics.Plain inst) = IsValid inst
+IsSoundMnemonic (mnemonics.Jump rd) = IsRegister rd
 IsSoundMnemonic mnemonic = Unit {0}
 
 -- what a statement says of registers and numbers can be encoded

@@ -5,7 +5,7 @@ use Rattle.rv_model.specs.Words.{dec}
 use Rattle.rv_asm.specs.declared.fault.AsmKind.{AsmKind}
 use Rattle.rv_asm.specs.declared.fault.AsmFault.{AsmFault}
 use Rattle.rv_asm.specs.declared.fault.Halt.{Halt}
-use Rattle.rv_asm.specs.Faults.{IsHaltOf, Unless}
+use Rattle.rv_asm.specs.Faults.{IsHaltOf, AsmUnless}
 use Rattle.rv_asm.specs.SecondPass.{Part, Instruction, Plain}
 
 -- Bytes that lay out parts: an instruction is the word that decodes to it, little-endian.
@@ -27,4 +27,4 @@ HasAppended (Err halt) old new judged = IsHaltOf halt judged
 -- the same of a call that answers bytes
 abbrev pub AreGivenParts : {A : Type 0} → (A → List ℕ) → Result A AsmFault → Result (List Part) AsmFault → Type 0
 AreGivenParts view (Ok out) judged = (parts : List Part) × (judged ≡ Ok parts) × IsSpellingOf parts (view out)
-AreGivenParts view (Err fault) judged = Unless fault.kind (judged ≡ Err fault)
+AreGivenParts view (Err fault) judged = AsmUnless fault.kind (judged ≡ Err fault)

@@ -1,18 +1,17 @@
 -- What each statement means.
 use Rattle.std.specs.Prelude.{ℕ, ◌+◌, ◌*◌, ◌/◌, ◌-◌, ◌^◌, ◌%◌, Bool, not, ◌||◌, nat_lt, nat_le, if◌then◌else◌, List, [], ◌∷◌, map, Option, Some, None, Result, Ok, ℤ, pos, unsigned_abs}
-use Rattle.rv_model.specs.declared.limits.TheConstants.{GREATEST_UPPER}
+use Rattle.rv_model.specs.declared.limits.TheConstants.{GREATEST_UPPER, LEAST_IMMEDIATE, IMAGE_ROOM}
 use Rattle.rv_model.specs.declared.inst.Inst.{Inst}
 use Rattle.rv_model.specs.declared.inst.Inst.TheVariants as insts
 use Rattle.rv_model.specs.declared.inst.ImmOp.{ImmOp}
 use Rattle.rv_model.specs.declared.inst.ImmOp.TheVariants.{Addi}
-use Rattle.rv_model.specs.Image.{image_room}
 use Rattle.rv_model.specs.Words.{sign_extended}
 use Rattle.rv_asm.specs.declared.fault.AsmKind.{AsmKind}
 use Rattle.rv_asm.specs.declared.fault.AsmKind.TheVariants.{Operands, BadNumber}
 use Rattle.rv_asm.specs.declared.symbols.Symbol.{Symbol}
 use Rattle.rv_asm.specs.declared.symbols.Symbol.TheVariants.{Label, Number}
 use Rattle.rv_asm.specs.declared.mnemonic.Mnemonic.{Mnemonic}
-use Rattle.rv_asm.specs.declared.mnemonic.Mnemonic.TheVariants as words
+use Rattle.rv_asm.specs.declared.mnemonic.Mnemonic.TheVariants as mnemonics
 use Rattle.rv_asm.specs.declared.statement.TheConstants.{GREATEST_BYTE, LEAST_BYTE}
 use Rattle.rv_asm.specs.declared.statement.Statement.{Statement}
 use Rattle.rv_asm.specs.declared.statement.Statement.TheVariants as statements
@@ -20,10 +19,14 @@ use Rattle.rv_asm.specs.Line.{pieces, is_token}
 use Rattle.rv_asm.specs.Name.{is_name}
 use Rattle.rv_asm.specs.Literal.{literal_of}
 use Rattle.rv_asm.specs.Names.{Names}
-use Rattle.rv_asm.specs.Faults.{◌>>=◌, refusal, or_fault, both, all_of}
+use Rattle.rv_asm.specs.Faults.{◌>>=◌, refusal, or_fault, pair_judgment, judgment_of_list}
 use Rattle.rv_asm.specs.Operand.{no_piece, one_piece, two_pieces, three_pieces, register, number, number_in_range, name_piece, memory, wrapped_word, byte_of, least_immediate, greatest_immediate}
 
 -- ---- `li` and `la`
+
+-- how many numbers below 0 the I format holds, and as many from 0 on
+abbrev immediate_reach : ℕ
+immediate_reach = unsigned_abs LEAST_IMMEDIATE
 
 -- the low 12 bits of a word, sign-extended
 abbrev pub low_part : ℕ → ℤ
@@ -31,15 +34,15 @@ low_part word = sign_extended 12 (word % 4096)
 
 -- what is left of a word without its low part, modulo 2^32: a multiple of 4,096
 abbrev pub high_part : ℕ → ℕ
-high_part word = (word + 2048) / 4096 % 2 ^ 20 * 4096
+high_part word = (word + immediate_reach) / 4096 % 2 ^ 20 * 4096
 
 -- `lui rd, high` and `addi rd, rd, low`
 abbrev pub two_instructions : ℕ → ℕ → List Inst
 two_instructions rd word = insts.Lui rd (high_part word) ∷ insts.OpImm Addi rd rd (low_part word) ∷ []
 
--- the word, as a signed number, is from -2,048 to 2,047
+-- the I format can hold the word, as a signed number
 abbrev pub is_short : ℕ → Bool
-is_short word = nat_lt word 2048 || nat_le (2 ^ 32 - 2048) word
+is_short word = nat_lt word immediate_reach || nat_le (2 ^ 32 - immediate_reach) word
 
 -- the instructions that put a word into a register
 abbrev pub load_word : ℕ → ℕ → List Inst
@@ -51,14 +54,14 @@ load_word rd word = if is_short word then insts.OpImm Addi rd 0 (low_part word) 
 unfoldable pub register_upper : Names → List ℕ → Result (ℕ × ℕ) AsmKind
 register_upper names operands = do
   parts ← two_pieces operands
-  values ← both (register parts.0) (number_in_range (pos 0) GREATEST_UPPER (number names parts.1))
+  values ← pair_judgment (register parts.0) (number_in_range (pos 0) GREATEST_UPPER (number names parts.1))
   Ok (values.0, unsigned_abs values.1 * 4096)
 
 -- `rd, n(rs1)`, as rd, n and rs1
 unfoldable pub register_memory : Names → List ℕ → Result (ℕ × ℤ × ℕ) AsmKind
 register_memory names operands = do
   parts ← two_pieces operands
-  values ← both (register parts.0) (memory names parts.1)
+  values ← pair_judgment (register parts.0) (memory names parts.1)
   Ok (values.0, values.1.0, values.1.1)
 
 -- the number of an operation on a register and a number
@@ -69,41 +72,41 @@ immediate names op piece = number_in_range (least_immediate op) (greatest_immedi
 unfoldable pub registers_immediate : Names → ImmOp → List ℕ → Result (ℕ × ℕ × ℤ) AsmKind
 registers_immediate names op operands = do
   parts ← three_pieces operands
-  values ← both (both (register parts.0) (register parts.1)) (immediate names op parts.2)
+  values ← pair_judgment (pair_judgment (register parts.0) (register parts.1)) (immediate names op parts.2)
   Ok (values.0.0, values.0.1, values.1)
 
 -- `rd, rs1, rs2`
 unfoldable pub three_registers : List ℕ → Result (ℕ × ℕ × ℕ) AsmKind
 three_registers operands = do
   parts ← three_pieces operands
-  values ← both (both (register parts.0) (register parts.1)) (register parts.2)
+  values ← pair_judgment (pair_judgment (register parts.0) (register parts.1)) (register parts.2)
   Ok (values.0.0, values.0.1, values.1)
 
 -- `rd, rs`
 unfoldable pub two_registers : List ℕ → Result (ℕ × ℕ) AsmKind
 two_registers operands = do
   parts ← two_pieces operands
-  both (register parts.0) (register parts.1)
+  pair_judgment (register parts.0) (register parts.1)
 
 -- `rd, n`, with n modulo 2^32
 unfoldable pub register_word : Names → List ℕ → Result (ℕ × ℕ) AsmKind
 register_word names operands = do
   parts ← two_pieces operands
-  values ← both (register parts.0) (number names parts.1)
+  values ← pair_judgment (register parts.0) (number names parts.1)
   Ok (values.0, wrapped_word values.1)
 
 -- `rd, label`
 unfoldable pub register_label : List ℕ → Result (ℕ × List ℕ) AsmKind
 register_label operands = do
   parts ← two_pieces operands
-  values ← both (register parts.0) (name_piece parts.1)
+  values ← pair_judgment (register parts.0) (name_piece parts.1)
   Ok (values.0, parts.1)
 
 -- `rs1, rs2, label`
 unfoldable pub registers_label : List ℕ → Result (ℕ × ℕ × List ℕ) AsmKind
 registers_label operands = do
   parts ← three_pieces operands
-  values ← both (both (register parts.0) (register parts.1)) (name_piece parts.2)
+  values ← pair_judgment (pair_judgment (register parts.0) (register parts.1)) (name_piece parts.2)
   Ok (values.0.0, values.0.1, parts.2)
 
 -- `label`
@@ -134,57 +137,57 @@ byte_value names piece = do
 unfoldable pub zero_count : Names → List ℕ → Result ℕ AsmKind
 zero_count names operands = do
   part ← one_piece operands
-  n ← number_in_range (pos 0) (pos image_room) (number names part)
+  n ← number_in_range (pos 0) (pos IMAGE_ROOM) (number names part)
   Ok (unsigned_abs n)
 
 -- ---- the table
 
 -- What a mnemonic and its operands lay, one after the other.
 unfoldable pub statements_of : Mnemonic → Names → List ℕ → Result (List Statement) AsmKind
-statements_of (words.Plain inst) names operands = do
+statements_of (mnemonics.Plain inst) names operands = do
   nothing ← no_piece operands
   Ok (statements.Inst inst ∷ [])
-statements_of words.Lui names operands = do
+statements_of mnemonics.Lui names operands = do
   it ← register_upper names operands
   Ok (statements.Inst (insts.Lui it.0 it.1) ∷ [])
-statements_of words.Auipc names operands = do
+statements_of mnemonics.Auipc names operands = do
   it ← register_upper names operands
   Ok (statements.Inst (insts.Auipc it.0 it.1) ∷ [])
-statements_of words.Jalr names operands = do
+statements_of mnemonics.Jalr names operands = do
   it ← register_memory names operands
   Ok (statements.Inst (insts.Jalr it.0 it.2 it.1) ∷ [])
-statements_of (words.Load op) names operands = do
+statements_of (mnemonics.Load op) names operands = do
   it ← register_memory names operands
   Ok (statements.Inst (insts.Load op it.0 it.2 it.1) ∷ [])
-statements_of (words.Store op) names operands = do
+statements_of (mnemonics.Store op) names operands = do
   it ← register_memory names operands
   Ok (statements.Inst (insts.Store op it.2 it.0 it.1) ∷ [])
-statements_of (words.OpImm op) names operands = do
+statements_of (mnemonics.OpImm op) names operands = do
   it ← registers_immediate names op operands
   Ok (statements.Inst (insts.OpImm op it.0 it.1 it.2) ∷ [])
-statements_of (words.Op op) names operands = do
+statements_of (mnemonics.Op op) names operands = do
   it ← three_registers operands
   Ok (statements.Inst (insts.Op op it.0 it.1 it.2) ∷ [])
-statements_of words.Mv names operands = do
+statements_of mnemonics.Mv names operands = do
   it ← two_registers operands
   Ok (statements.Inst (insts.OpImm Addi it.0 it.1 (pos 0)) ∷ [])
-statements_of words.Li names operands = do
+statements_of mnemonics.Li names operands = do
   it ← register_word names operands
   Ok (map (λ inst. statements.Inst inst) (load_word it.0 it.1))
-statements_of words.Jal names operands = do
+statements_of mnemonics.Jal names operands = do
   it ← register_label operands
   Ok (statements.Jal it.0 it.1 ∷ [])
-statements_of (words.Jump rd) names operands = do
+statements_of (mnemonics.Jump rd) names operands = do
   it ← one_label operands
   Ok (statements.Jal rd it ∷ [])
-statements_of (words.Branch op) names operands = do
+statements_of (mnemonics.Branch op) names operands = do
   it ← registers_label operands
   Ok (statements.Branch op it.0 it.1 it.2 ∷ [])
-statements_of words.La names operands = do
+statements_of mnemonics.La names operands = do
   it ← register_label operands
   Ok (statements.La it.0 it.1 ∷ [])
-statements_of words.Word names operands = all_of (map (word_value names) (pieces operands))
-statements_of words.Byte names operands = all_of (map (byte_value names) (pieces operands))
-statements_of words.Zero names operands = do
+statements_of mnemonics.Word names operands = judgment_of_list (map (word_value names) (pieces operands))
+statements_of mnemonics.Byte names operands = judgment_of_list (map (byte_value names) (pieces operands))
+statements_of mnemonics.Zero names operands = do
   it ← zero_count names operands
   Ok (statements.Zero it ∷ [])

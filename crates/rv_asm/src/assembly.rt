@@ -1,6 +1,7 @@
 //! The image that a text describes.
 
-ghost use Rattle.std.specs.Prelude.{◌≡◌, ◌^◌, ◌<◌, length};
+ghost use Rattle.std.specs.Prelude.{◌≡◌, ◌<◌, length};
+ghost use Rattle.ce_text.specs.declared.limits.TheConstants.{TEXT_LIMIT};
 ghost use Rattle.ce_text.specs.Names.{meanings_of};
 ghost use Rattle.rv_asm.specs.Assembly.{entry_of, IsAssemblyOf};
 
@@ -27,7 +28,7 @@ fn entry_of(symbols: &Symbols) -> u32
 /// where it finds no fault, the second judges them for `UnknownName` of a label and `TooFar`; `Entry` comes last.
 /// `Memory` may come at any point.
 pub fn assemble(alloc: Global, text: &[u8]) -> Result<Image, AsmFault>
-    requires { length text.now < 2 ^ 31 }
+    requires { length text.now < TEXT_LIMIT }
     ensures { IsAssemblyOf text.now result }
 {
     let layout = first_pass(alloc, text)?;

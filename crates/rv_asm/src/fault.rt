@@ -28,7 +28,7 @@ pub enum AsmKind {
     UnknownName,
     /// An instruction or a `.word` would stand at an address that is not a multiple of 4.
     Unaligned,
-    /// There are more than 122,880 bytes so far.
+    /// There are more than `IMAGE_ROOM` bytes so far.
     TooLarge,
     /// A jump or a branch does not reach its label, or the label lies at an odd distance.
     TooFar,
@@ -94,11 +94,11 @@ pub enum Halt {
 }
 
 impl Halt {
-    ghost use Rattle.rv_asm.specs.Faults.{halt_at};
+    ghost use Rattle.rv_asm.specs.Faults.{halt_fault};
 
     /// As a fault of this line.
     pub fn at(self, line: u32) -> AsmFault
-        ensures { result ≡ halt_at self line }
+        ensures { result ≡ halt_fault self line }
     {
         let kind = match self {
             Halt::Memory => AsmKind::Memory(NoMemory),

@@ -1,9 +1,10 @@
 //! The first pass: each line is judged, and its statements get their places.
 
-ghost use Rattle.std.specs.Prelude.{◌≡◌, ◌^◌, ◌<◌, length, Some, option_map};
+ghost use Rattle.std.specs.Prelude.{◌≡◌, ◌<◌, length, Some, option_map};
+ghost use Rattle.ce_text.specs.declared.limits.TheConstants.{TEXT_LIMIT};
 ghost use Rattle.rv_asm.specs.Sizes.{size_of, lays_words};
 ghost use Rattle.rv_asm.specs.Sound.{IsSoundStatement, AreSound};
-ghost use Rattle.rv_asm.specs.LaidOut.{laid_out};
+ghost use Rattle.rv_asm.specs.LaidOut.{layout_view};
 ghost use Rattle.rv_asm.specs.FirstPass.{layout_with_statement, layout_with_all, layout_with_name, layout_with_number, layout_with_statements, statement, labelled_statement, line_laid, operands_of, HasLaid, first_pass};
 ghost use Rattle.rv_asm.specs.Faults.{IsAllSeenAs};
 
@@ -52,8 +53,8 @@ impl<'a> Layout<'a> {
     #[tactic(auto, unfolding(crate::specs::FirstPass::layout_with_statement))]
     fn place(&mut self, line: u32, statement: Statement<'a>) -> Result<(), Halt>
         requires { IsSoundStatement statement }
-        ensures { HasLaid result (laid_out self.new)
-            (layout_with_statement line (laid_out self.old) statement.entry) }
+        ensures { HasLaid result (layout_view self.new)
+            (layout_with_statement line (layout_view self.old) statement.entry) }
     {
         if lays_words(&statement) && self.size % 4 != 0 {
             return Err(Halt::Fault(AsmKind::Unaligned));
@@ -69,8 +70,8 @@ impl<'a> Layout<'a> {
 
     fn place_all(&mut self, line: u32, statements: Vec<Statement<'a>>) -> Result<(), Halt>
         requires { AreSound statements.items }
-        ensures { HasLaid result (laid_out self.new)
-            (layout_with_all line (laid_out self.old) statements.entry.items) }
+        ensures { HasLaid result (layout_view self.new)
+            (layout_with_all line (layout_view self.old) statements.entry.items) }
     {
         for statement in statements {
             self.place(line, statement)?;
@@ -81,8 +82,8 @@ impl<'a> Layout<'a> {
     /// Gives a name a meaning, and `NameTaken` where it has one.
     #[tactic(auto, unfolding(crate::specs::FirstPass::layout_with_name))]
     fn define(&mut self, name: &[u8], symbol: Symbol) -> Result<(), Halt>
-        ensures { HasLaid result (laid_out self.new)
-            (layout_with_name (laid_out self.old) name.now symbol) }
+        ensures { HasLaid result (layout_view self.new)
+            (layout_with_name (layout_view self.old) name.now symbol) }
     {
         if self.symbols.meaning(name).is_some() {
             return Err(Halt::Fault(AsmKind::NameTaken));
@@ -94,8 +95,8 @@ impl<'a> Layout<'a> {
     /// `.equ name, n`
     #[tactic(auto, unfolding(crate::specs::FirstPass::layout_with_number))]
     fn equ(&mut self, operands: &[u8]) -> Result<(), Halt>
-        ensures { HasLaid result (laid_out self.new)
-            (layout_with_number (laid_out self.old) operands.now) }
+        ensures { HasLaid result (layout_view self.new)
+            (layout_with_number (layout_view self.old) operands.now) }
     {
         let first = cut_at(operands, b',').0;
         if self.symbols.meaning(without_outer_blanks(first)).is_some() {
@@ -109,8 +110,8 @@ impl<'a> Layout<'a> {
     /// A statement whose mnemonic or directive is another than `.equ`.
     #[tactic(auto, unfolding(crate::specs::FirstPass::layout_with_statements))]
     fn lay(&mut self, line: u32, front: &[u8], operands: &'a [u8]) -> Result<(), Halt>
-        ensures { HasLaid result (laid_out self.new)
-            (layout_with_statements line (laid_out self.old) front.now operands.now) }
+        ensures { HasLaid result (layout_view self.new)
+            (layout_with_statements line (layout_view self.old) front.now operands.now) }
     {
         let mnemonic = mnemonic_of(front).ok_or(AsmKind::UnknownWord)?;
         let statements = statements_of(self.alloc, mnemonic, &self.symbols, operands)?;
@@ -120,8 +121,8 @@ impl<'a> Layout<'a> {
     /// What a line has behind its label: nothing, or a mnemonic and its operands.
     #[tactic(auto, unfolding(crate::specs::FirstPass::statement))]
     fn statement(&mut self, line: u32, bytes: &'a [u8]) -> Result<(), Halt>
-        ensures { HasLaid result (laid_out self.new)
-            (statement line (laid_out self.old) bytes.now) }
+        ensures { HasLaid result (layout_view self.new)
+            (statement line (layout_view self.old) bytes.now) }
     {
         if bytes.is_empty() {
             return Ok(());
@@ -138,8 +139,8 @@ impl<'a> Layout<'a> {
     }
 
     fn labelled_statement(&mut self, line: u32, front: &'a [u8], rest: &'a [u8]) -> Result<(), Halt>
-        ensures { HasLaid result (laid_out self.new)
-            (labelled_statement line (laid_out self.old) front.now (Some rest.now)) }
+        ensures { HasLaid result (layout_view self.new)
+            (labelled_statement line (layout_view self.old) front.now (Some rest.now)) }
     {
         let label = without_outer_blanks(front);
         if !is_name(label) {
@@ -153,8 +154,8 @@ impl<'a> Layout<'a> {
     /// One line.
     #[tactic(auto, unfolding(crate::specs::FirstPass::line_laid))]
     fn line(&mut self, number: u32, bytes: &'a [u8]) -> Result<(), Halt>
-        ensures { HasLaid result (laid_out self.new)
-            (line_laid number (laid_out self.old) bytes.now) }
+        ensures { HasLaid result (layout_view self.new)
+            (line_laid number (layout_view self.old) bytes.now) }
     {
         let code = before_comment(bytes);
         if !are_plain(code) {
@@ -168,11 +169,11 @@ impl<'a> Layout<'a> {
     }
 }
 
-/// The layout of a text of fewer than 2^31 bytes, or its first fault of the first pass.
+/// The layout of a text of fewer than `TEXT_LIMIT` bytes, or its first fault of the first pass.
 #[tactic(auto, unfolding(crate::specs::FirstPass::first_pass))]
 pub fn first_pass(alloc: Global, text: &[u8]) -> Result<Layout<'_>, AsmFault>
-    requires { length text.now < 2 ^ 31 }
-    ensures { IsAllSeenAs laid_out result (first_pass text.now) }
+    requires { length text.now < TEXT_LIMIT }
+    ensures { IsAllSeenAs layout_view result (first_pass text.now) }
 {
     let mut layout = Layout {
         alloc,

@@ -7,7 +7,7 @@ ghost use Rattle.rv_asm.specs.Operand.{wrapped_word, byte_of};
 ghost use Rattle.rv_asm.specs.Statements.{register_upper, register_memory, immediate, registers_immediate, three_registers, register_label, registers_label};
 
 use crate::fault::Judged;
-use crate::name::Name;
+use crate::label::Label;
 use crate::operand::{
     memory, name_piece, number, number_in_range, pair, register, three_pieces, twelve_bits,
     two_pieces,
@@ -93,22 +93,22 @@ pub fn three_registers(operands: &[u8]) -> Judged<(u8, u8, u8)>
 
 /// `rd, label`
 #[tactic(auto, unfolding(crate::specs::Statements::register_label))]
-pub fn register_label(operands: &[u8]) -> Judged<(u8, Name<'_>)>
+pub fn register_label(operands: &[u8]) -> Judged<(u8, Label<'_>)>
     ensures value { result ≡ register_label operands.now }
     ensures small { IfOk result (λ it. IsRegister it.0) }
 {
     let (rd, label) = two_pieces(operands)?;
     let (rd, ()) = pair(register(rd), name_piece(label))?;
-    Ok((rd, Name::of(label)))
+    Ok((rd, Label::of(label)))
 }
 
 /// `rs1, rs2, label`
 #[tactic(auto, unfolding(crate::specs::Statements::registers_label))]
-pub fn registers_label(operands: &[u8]) -> Judged<(u8, u8, Name<'_>)>
+pub fn registers_label(operands: &[u8]) -> Judged<(u8, u8, Label<'_>)>
     ensures value { result ≡ registers_label operands.now }
     ensures small { IfOk result (λ it. IsRegister it.0 × IsRegister it.1) }
 {
     let (rs1, rs2, label) = three_pieces(operands)?;
     let ((rs1, rs2), ()) = pair(pair(register(rs1), register(rs2)), name_piece(label))?;
-    Ok((rs1, rs2, Name::of(label)))
+    Ok((rs1, rs2, Label::of(label)))
 }

@@ -1,7 +1,7 @@
 //! What is laid out in the first pass.
 
 ghost use Rattle.std.specs.Prelude.{◌≡◌, ◌≤◌, sum_by};
-ghost use Rattle.rv_model.specs.Image.{image_room};
+ghost use Rattle.rv_model.specs.declared.limits.TheConstants.{IMAGE_ROOM};
 ghost use Rattle.rv_asm.specs.Sizes.{size_of};
 ghost use Rattle.rv_asm.specs.Sound.{ArePlacedSound, ArePlacedSound-prop};
 
@@ -18,6 +18,6 @@ pub struct Layout<'a> {
     /// How many bytes the statements take.
     pub size: u32,
     ghost counted: { size ≡ sum_by (λ placed. size_of placed.statement) statements.items },
-    ghost fits: { size ≤ image_room },
+    ghost fits: { size ≤ IMAGE_ROOM },
     ghost sound: { ArePlacedSound statements.items } by { ArePlacedSound-prop statements.items },
 }

@@ -5,6 +5,7 @@ mod assembly;
 mod fault;
 mod first_pass;
 mod forms;
+mod label;
 mod layout;
 mod line;
 mod literal;

@@ -5,6 +5,7 @@ ghost use Rattle.rv_asm.specs.Sound.{IsSoundMnemonic};
 ghost use Rattle.rv_asm.specs.Words.{mnemonic_of};
 
 use ce_text::look_up;
+use rv_model::opcodes::FENCE_WORD;
 use rv_model::{BranchOp, ImmOp, Inst, LoadOp, RegOp, StoreOp};
 
 /// What a mnemonic or a directive asks for. `.equ`, which lays nothing, is not among them.
@@ -84,7 +85,7 @@ const MNEMONICS: [(&str, Mnemonic); 50] = [
     ("and", Mnemonic::Op(RegOp::And)),
     ("sub", Mnemonic::Op(RegOp::Sub)),
     ("sra", Mnemonic::Op(RegOp::Sra)),
-    ("fence", Mnemonic::Plain(Inst::Fence { word: 0x0FF0_000F })),
+    ("fence", Mnemonic::Plain(Inst::Fence { word: FENCE_WORD })),
     ("ecall", Mnemonic::Plain(Inst::Ecall)),
     ("ebreak", Mnemonic::Plain(Inst::Ebreak)),
     (
@@ -115,7 +116,7 @@ const MNEMONICS: [(&str, Mnemonic); 50] = [
 ];
 
 /// The mnemonic or directive with this text.
-#[tactic(auto, unfolding(crate::specs::Words::mnemonic_of, crate::specs::Words::mnemonics))]
+#[tactic(auto, unfolding(crate::specs::Words::mnemonic_of, crate::specs::Words::mnemonic_table))]
 pub fn mnemonic_of(text: &[u8]) -> Option<Mnemonic>
     ensures value { result ≡ mnemonic_of text.now }
     ensures sound { IfSome result IsSoundMnemonic }

@@ -2,10 +2,10 @@
 
 ghost use Rattle.std.specs.Prelude.{◌≡◌, ◌∷◌, [], ◌≤ℤ◌, ◌<◌, length, Some, Ok, IfOk, IfSome, option_map};
 ghost use Rattle.rv_inst.specs.Valid.{IsRegister, IsTwelveBits};
-ghost use Rattle.rv_asm.specs.Faults.{both};
+ghost use Rattle.rv_asm.specs.Faults.{pair_judgment};
 ghost use Rattle.rv_asm.specs.Line.{pieces, comma_pieces};
 ghost use Rattle.ce_text.specs.Names.{meanings_of};
-ghost use Rattle.rv_asm.specs.Operand.{IsViewOf, no_piece, one_piece, two_pieces, three_pieces, register, number, number_in_range, name_piece, twelve_bits, in_brackets, memory};
+ghost use Rattle.rv_asm.specs.Operand.{IsViewOf, no_piece, one_piece, two_pieces, three_pieces, register, number, number_in_range, name_piece, twelve_bits, bracket_operand, memory};
 
 use crate::fault::{AsmKind, Judged};
 use crate::line::is_token;
@@ -17,9 +17,9 @@ use ce_text::{cut_at, without_outer_blanks};
 use rv_model::{GREATEST_IMMEDIATE, LEAST_IMMEDIATE};
 
 /// Two judgments of one line: both values, or the fault whose kind is judged first.
-#[tactic(auto, unfolding(crate::specs::Faults::both))]
+#[tactic(auto, unfolding(crate::specs::Faults::pair_judgment))]
 pub fn pair<A: Drop, B: Drop>(first: Judged<A>, second: Judged<B>) -> Judged<(A, B)>
-    ensures joined { result ≡ both first second }
+    ensures joined { result ≡ pair_judgment first second }
     ensures parts { IfOk result (λ pair. (first ≡ Ok pair.0) × (second ≡ Ok pair.1)) }
 {
     match (first, second) {
@@ -161,8 +161,8 @@ pub fn twelve_bits(symbols: &Symbols, piece: &[u8]) -> Judged<i64>
     )
 }
 
-fn in_brackets(symbols: &Symbols, front: &[u8], behind: &[u8]) -> Judged<(i64, u8)>
-    ensures value { result ≡ in_brackets (meanings_of symbols.now) front.now (Some behind.now) }
+fn bracket_operand(symbols: &Symbols, front: &[u8], behind: &[u8]) -> Judged<(i64, u8)>
+    ensures value { result ≡ bracket_operand (meanings_of symbols.now) front.now (Some behind.now) }
     ensures small { IfOk result (λ it. IsTwelveBits it.0 × IsRegister it.1) }
 {
     let (inner, rest) = cut_at(behind, b')');
@@ -188,6 +188,6 @@ pub fn memory(symbols: &Symbols, piece: &[u8]) -> Judged<(i64, u8)>
 {
     match cut_at(piece, b'(') {
         (_, None) => Err(AsmKind::Operands),
-        (front, Some(behind)) => in_brackets(symbols, front, behind),
+        (front, Some(behind)) => bracket_operand(symbols, front, behind),
     }
 }

@@ -2,8 +2,9 @@
 
 ghost use Rattle.std.specs.Prelude.{◌≡◌, ◌+◌, ◌≤◌, ◌∷◌, [], ◌++◌, replicate, vec_len, pos, neg_ℤ, ◌≤ℤ◌, ◌<ℤ◌, Ok, IfOk, OnOk};
 ghost use Rattle.std.specs.Int.{w32, to_le_bytes};
+ghost use Rattle.rv_model.specs.declared.limits.TheConstants.{PRIVATE_START, IMAGE_ROOM};
 ghost use Rattle.rv_inst.specs.Valid.{IsRegister, IsEven, IsValid};
-ghost use Rattle.rv_model.specs.Image.{image_start, image_room};
+ghost use Rattle.rv_model.specs.declared.inst.Inst.TheVariants as insts;
 ghost use Rattle.ce_text.specs.Names.{meanings_of};
 ghost use Rattle.rv_asm.specs.Sizes.{size_of};
 ghost use Rattle.rv_asm.specs.Sound.{IsSoundStatement};
@@ -12,17 +13,17 @@ ghost use Rattle.rv_asm.specs.Spelling.{HasAppended, AreGivenParts};
 ghost use Rattle.rv_asm.specs.declared.statement.Statement.TheVariants as statements;
 
 use crate::fault::{AsmFault, AsmKind, Halt, Judged};
+use crate::label::Label;
 use crate::layout::Layout;
-use crate::name::Name;
 use crate::statement::{Statement, two_instructions};
 use crate::symbols::{Symbol, Symbols};
 use rv_inst::encode;
-use rv_model::{BRANCH_REACH, BranchOp, Inst, JUMP_REACH, PRIVATE_START};
+use rv_model::{BRANCH_REACH, BranchOp, Inst, JUMP_REACH, PRIVATE_START, Register};
 use std::alloc::{AllocError, Global};
 
 /// The address of a label, and `UnknownName` where no line has it.
 #[tactic(auto, unfolding(crate::specs::SecondPass::address_of))]
-fn address_of(symbols: &Symbols, label: &Name<'_>) -> Judged<u32>
+fn address_of(symbols: &Symbols, label: &Label<'_>) -> Judged<u32>
     ensures { result ≡ address_of (meanings_of symbols.now) label.now }
 {
     match symbols.meaning(label.as_slice()) {
@@ -45,6 +46,18 @@ fn offset_to(reach: u32, address: u32, target: u32) -> Judged<i32>
         return Err(AsmKind::TooFar);
     }
     Ok(offset as i32)
+}
+
+/// A branch by an offset.
+fn branch(op: BranchOp, rs1: u8, rs2: u8, offset: i32) -> Inst
+    ensures { result ≡ insts.Branch op rs1 rs2 offset }
+{
+    Inst::Branch {
+        op,
+        rs1,
+        rs2,
+        offset,
+    }
 }
 
 fn put_word(out: &mut Vec<u8>, word: u32) -> Result<(), AllocError>
@@ -79,17 +92,16 @@ fn put_statement(
     statement: &Statement<'_>,
 ) -> Result<(), Halt>
     requires sound { IsSoundStatement statement.now }
-    requires room { vec_len out.old ≤ image_room }
+    requires room { vec_len out.old ≤ IMAGE_ROOM }
     ensures parts { HasAppended result out.old.items out.new.items
-        (parts_of (meanings_of symbols.now) (image_start + vec_len out.old) statement.now) }
+        (parts_of (meanings_of symbols.now) (PRIVATE_START + vec_len out.old) statement.now) }
     ensures size { OnOk result (vec_len out.new ≡ vec_len out.old + size_of statement.now) }
 {
     let address = PRIVATE_START + out.len() as u32;
     match statement {
         Statement::Inst(inst) => put(out, *inst),
         Statement::Jal { rd, label } => {
-            let target = address_of(symbols, label)?;
-            let offset = offset_to(JUMP_REACH, address, target)?;
+            let offset = offset_to(JUMP_REACH, address, address_of(symbols, label)?)?;
             put(out, Inst::Jal { rd: *rd, offset })
         }
         Statement::Branch {
@@ -98,21 +110,12 @@ fn put_statement(
             rs2,
             label,
         } => {
-            let target = address_of(symbols, label)?;
-            let offset = offset_to(BRANCH_REACH, address, target)?;
-            let (op, rs1, rs2) = (*op, *rs1, *rs2);
-            put(
-                out,
-                Inst::Branch {
-                    op,
-                    rs1,
-                    rs2,
-                    offset,
-                },
-            )
+            let offset = offset_to(BRANCH_REACH, address, address_of(symbols, label)?)?;
+            put(out, branch(*op, *rs1, *rs2, offset))
         }
         Statement::La { rd, label } => {
-            let (high, low) = two_instructions(*rd, address_of(symbols, label)?);
+            let rd = Register { number: *rd };
+            let (high, low) = two_instructions(rd, address_of(symbols, label)?);
             put(out, high)?;
             put(out, low)
         }
@@ -126,7 +129,7 @@ fn put_statement(
 /// The bytes of a layout, or its first fault of the second pass.
 pub fn second_pass(alloc: Global, layout: &Layout<'_>) -> Result<Vec<u8>, AsmFault>
     ensures parts { AreGivenParts (λ out. out.items) result
-        (second_pass (meanings_of layout.now.symbols) image_start layout.now.statements.items) }
+        (second_pass (meanings_of layout.now.symbols) PRIVATE_START layout.now.statements.items) }
     ensures size { IfOk result (λ out. vec_len out ≡ layout.now.size) }
 {
     let mut out = Vec::new(alloc);

@@ -1,11 +1,11 @@
 //! What each statement means.
 
 ghost use Rattle.std.specs.Prelude.{◌≡◌, ◌∷◌, [], map, IfOk, Ok};
-ghost use Rattle.rv_inst.specs.Valid.{IsRegister, IsTwelveBits, IsUpper, IsValid};
+ghost use Rattle.rv_inst.specs.Valid.{IsTwelveBits, IsUpper, IsValid};
 ghost use Rattle.rv_asm.specs.Sound.{IsSoundMnemonic, IsSoundStatement, AreSound};
-ghost use Rattle.rv_asm.specs.Faults.{IsSeenAs, all_of, with_judged};
+ghost use Rattle.rv_asm.specs.Faults.{IsSeenAs, judgment_of_list, with_judged};
 ghost use Rattle.ce_text.specs.Names.{meanings_of};
-ghost use Rattle.rv_asm.specs.Statements.{low_part, high_part, two_instructions, load_word, word_value, byte_value, statements_of};
+ghost use Rattle.rv_asm.specs.Statements.{low_part, high_part, two_instructions, is_short, load_word, word_value, byte_value, statements_of};
 ghost use Rattle.rv_asm.specs.Line.{pieces};
 ghost use Rattle.rv_asm.specs.Views.{datum_value, list_judgment};
 ghost use Rattle.rv_model.specs.declared.inst.Inst.TheVariants as insts;
@@ -17,16 +17,17 @@ use crate::forms::{
     byte_of, register_label, register_memory, register_upper, registers_immediate, registers_label,
     three_registers, word_of,
 };
+use crate::label::Label;
 use crate::line::is_token;
 use crate::literal::literal_of;
 use crate::mnemonic::Mnemonic;
-use crate::name::{Name, is_name};
+use crate::name::is_name;
 use crate::operand::{
     first_piece, name_piece, no_piece, number, number_in_range, one_piece, pair, register,
     two_pieces,
 };
 use crate::symbols::{Symbol, Symbols};
-use rv_model::{BranchOp, IMAGE_ROOM, ImmOp, Inst};
+use rv_model::{BranchOp, GREATEST_IMMEDIATE, IMAGE_ROOM, ImmOp, Inst, LEAST_IMMEDIATE, Register};
 use std::alloc::{AllocError, Global};
 
 /// The least number of a `.byte`.
@@ -43,24 +44,24 @@ pub enum Statement<'a> {
     /// `jal rd, label`
     Jal {
         rd: u8,
-        label: Name<'a>,
+        label: Label<'a>,
     },
     /// A branch to a label.
     Branch {
         op: BranchOp,
         rs1: u8,
         rs2: u8,
-        label: Name<'a>,
+        label: Label<'a>,
     },
     /// `la rd, label`: two instructions.
     La {
         rd: u8,
-        label: Name<'a>,
+        label: Label<'a>,
     },
     /// Four bytes, little-endian.
     Word(u32),
     /// The address of a label as four bytes, little-endian.
-    Address(Name<'a>),
+    Address(Label<'a>),
     /// One byte.
     Byte(u8),
     /// So many bytes of value 0.
@@ -87,7 +88,11 @@ fn low_part(word: u32) -> i32
     ensures small { IsTwelveBits result }
 {
     let low = (word % 4096) as i32;
-    if low < 2048 { low } else { low - 4096 }
+    if low <= GREATEST_IMMEDIATE {
+        low
+    } else {
+        low - 4096
+    }
 }
 
 /// What is left of a word without its low part, modulo 2^32: a multiple of 4,096.
@@ -95,7 +100,7 @@ fn high_part(word: u32) -> u32
     ensures value { result ≡ high_part word }
     ensures upper { IsUpper result }
 {
-    (word.wrapping_add(2048) / 4096) * 4096
+    (word.wrapping_add(LEAST_IMMEDIATE.unsigned_abs()) / 4096) * 4096
 }
 
 /// `addi rd, rs1, imm`
@@ -107,13 +112,12 @@ fn addi(rd: u8, rs1: u8, imm: i32) -> Inst
 }
 
 /// The two instructions that put any word into a register.
-pub fn two_instructions(rd: u8, word: u32) -> (Inst, Inst)
-    requires { IsRegister rd }
+pub fn two_instructions(rd: Register, word: u32) -> (Inst, Inst)
     ensures high { IsValid result.0 }
     ensures low { IsValid result.1 }
-    ensures pair { result.0 ∷ result.1 ∷ [] ≡ two_instructions rd word }
+    ensures pair { result.0 ∷ result.1 ∷ [] ≡ two_instructions rd.number word }
 {
-    let imm = high_part(word);
+    let (rd, imm) = (rd.number, high_part(word));
     (Inst::Lui { rd, imm }, addi(rd, rd, low_part(word)))
 }
 
@@ -128,15 +132,21 @@ fn one<'a>(alloc: Global, statement: Statement<'a>) -> Result<Vec<Statement<'a>>
     Ok(list)
 }
 
+/// Whether the I format can hold the word, as a signed number.
+fn is_short(word: u32) -> bool
+    ensures { result ≡ is_short word }
+{
+    (LEAST_IMMEDIATE..=GREATEST_IMMEDIATE).contains(&word.cast_signed())
+}
+
 /// The instructions that put a word into a register.
-fn load_word<'a>(alloc: Global, rd: u8, word: u32) -> Result<Vec<Statement<'a>>, Halt>
-    requires { IsRegister rd }
+fn load_word<'a>(alloc: Global, rd: Register, word: u32) -> Result<Vec<Statement<'a>>, Halt>
     ensures value { IsSeenAs (λ list. list.items) result
-        (Ok (map (λ inst. statements.Inst inst) (load_word rd word))) }
+        (Ok (map (λ inst. statements.Inst inst) (load_word rd.number word))) }
     ensures sound { IfOk result (λ list. AreSound list.items) }
 {
-    if word < 2048 || word >= 0xFFFF_F800 {
-        return one(alloc, Statement::Inst(addi(rd, 0, low_part(word))));
+    if is_short(word) {
+        return one(alloc, Statement::Inst(addi(rd.number, 0, low_part(word))));
     }
     let (high, low) = two_instructions(rd, word);
     let mut list = one(alloc, Statement::Inst(high))?;
@@ -159,7 +169,7 @@ fn word_value<'a>(symbols: &Symbols, piece: &'a [u8]) -> Judged<Statement<'a>>
     }
     match symbols.meaning(piece) {
         Some(Symbol::Number(number)) => Ok(Statement::Word(word_of(number))),
-        Some(Symbol::Label(_)) | None => Ok(Statement::Address(Name::of(piece))),
+        Some(Symbol::Label(_)) | None => Ok(Statement::Address(Label::of(piece))),
     }
 }
 
@@ -179,7 +189,7 @@ fn datum_value<'a>(datum: Datum, symbols: &Symbols, piece: &'a [u8]) -> Judged<S
 }
 
 /// One more judgment behind those of a line: the statement joins the list, or the fault is the one that is judged first.
-#[tactic(auto, unfolding(crate::specs::Faults::with_judged, crate::specs::Faults::both))]
+#[tactic(auto, unfolding(crate::specs::Faults::with_judged, crate::specs::Faults::pair_judgment))]
 fn gather<'a>(
     list: &mut Vec<Statement<'a>>,
     fault: Option<AsmKind>,
@@ -210,7 +220,7 @@ fn data<'a>(
     operands: &'a [u8],
 ) -> Result<Vec<Statement<'a>>, Halt>
     ensures value { IsSeenAs (λ list. list.items) result
-        (all_of (map (datum_value datum (meanings_of symbols.now)) (pieces operands.now))) }
+        (judgment_of_list (map (datum_value datum (meanings_of symbols.now)) (pieces operands.now))) }
     ensures sound { IfOk result (λ list. AreSound list.items) }
 {
     let mut list = Vec::new(alloc);
@@ -287,7 +297,7 @@ pub fn statements_of<'a>(
         Mnemonic::Jump { rd } => {
             let label = one_piece(operands)?;
             name_piece(label)?;
-            let label = Name::of(label);
+            let label = Label::of(label);
             one(alloc, Statement::Jal { rd, label })
         }
         Mnemonic::Branch(op) => {
@@ -314,7 +324,7 @@ pub fn statements_of<'a>(
         Mnemonic::Li => {
             let (rd, word) = two_pieces(operands)?;
             let (rd, word) = pair(register(rd), number(symbols, word))?;
-            load_word(alloc, rd, word_of(word))
+            load_word(alloc, Register { number: rd }, word_of(word))
         }
         Mnemonic::Word => data(alloc, Datum::Word, symbols, operands),
         Mnemonic::Byte => data(alloc, Datum::Byte, symbols, operands),

@@ -1,4 +1,5 @@
 use crate::{AsmFault, AsmKind, assemble};
+use ce_text::TEXT_LIMIT;
 use rv_model::NoMemory;
 use std::alloc::Global;
 use std::fmt::Write;
@@ -7,7 +8,7 @@ use std::test::Fail;
 
 /// The loaded bytes of the image that a text gives, or its fault.
 fn bytes_of(alloc: Global, text: &[u8]) -> Result<Vec<u8>, AsmFault> {
-    if text.len() >= 1 << 31 {
+    if text.len() >= TEXT_LIMIT {
         return Ok(Vec::new(alloc));
     }
     let image = assemble(alloc, text)?;
@@ -18,7 +19,11 @@ fn bytes_of(alloc: Global, text: &[u8]) -> Result<Vec<u8>, AsmFault> {
 }
 
 /// Each text is refused at this line, as this kind. Where memory runs out, that is the answer.
-fn refused(rt: &impl Abort, alloc: Global, rows: &[(&str, u32, AsmKind)]) -> Result<(), Fail> {
+fn check_refusals(
+    rt: &impl Abort,
+    alloc: Global,
+    rows: &[(&str, u32, AsmKind)],
+) -> Result<(), Fail> {
     for (text, line, kind) in rows {
         let (line, kind) = (*line, *kind);
         match bytes_of(alloc, text.as_bytes()) {
@@ -36,23 +41,23 @@ fn refused(rt: &impl Abort, alloc: Global, rows: &[(&str, u32, AsmKind)]) -> Res
 }
 
 /// The text gives these bytes.
-fn gives_bytes(rt: &impl Abort, alloc: Global, text: &str, wanted: &[u8]) -> Result<(), Fail> {
+fn check_bytes(rt: &impl Abort, alloc: Global, text: &str, wanted: &[u8]) -> Result<(), Fail> {
     let bytes = bytes_of(alloc, text.as_bytes())?;
     assert_eq!(rt; bytes.as_slice(), wanted, "{text}");
     Ok(())
 }
 
 /// The text gives these words, little-endian.
-fn gives(rt: &impl Abort, alloc: Global, text: &str, words: &[u32]) -> Result<(), Fail> {
+fn check_words(rt: &impl Abort, alloc: Global, text: &str, words: &[u32]) -> Result<(), Fail> {
     let mut wanted = Vec::new(alloc);
     for word in words {
         wanted.extend_from_slice(&word.to_le_bytes())?;
     }
-    gives_bytes(rt, alloc, text, &wanted)
+    check_bytes(rt, alloc, text, &wanted)
 }
 
 /// Each line gives its word, where the lines are one text.
-fn each_gives(rt: &impl Abort, alloc: Global, rows: &[(&str, u32)]) -> Result<(), Fail> {
+fn check_lines(rt: &impl Abort, alloc: Global, rows: &[(&str, u32)]) -> Result<(), Fail> {
     let mut text = String::new(alloc);
     for (line, _) in rows {
         write!(&mut text, "{line}\n")?;
@@ -116,23 +121,23 @@ fn statements(rt: HostRuntime) -> Result<(), Fail> {
         ("ret", 0x0000_8067),
         ("nop", 0x0000_0013),
     ];
-    each_gives(&rt, rt.alloc(), &rows)
+    check_lines(&rt, rt.alloc(), &rows)
 }
 
 /// `li` has one instruction from -2,048 to 2,047 modulo 2^32, and else two; `la` always has two.
 #[test]
 fn large_numbers(rt: HostRuntime) -> Result<(), Fail> {
     let alloc = rt.alloc();
-    gives(&rt, alloc, "li a1, 2047", &[0x7FF0_0593])?;
-    gives(&rt, alloc, "li a1, -2048", &[0x8000_0593])?;
-    gives(&rt, alloc, "li a1, 0xFFFFFFFF", &[0xFFF0_0593])?;
-    gives(&rt, alloc, "li a1, 2048", &[0x0000_15B7, 0x8005_8593])?;
-    gives(&rt, alloc, "li a1, -2049", &[0xFFFF_F5B7, 0x7FF5_8593])?;
-    gives(&rt, alloc, "li a1, 0x12345FFF", &[0x1234_65B7, 0xFFF5_8593])?;
-    gives(&rt, alloc, "li a1, 0x7FFFFFFF", &[0x8000_05B7, 0xFFF5_8593])?;
-    gives(&rt, alloc, "li a1, 0x80000000", &[0x8000_05B7, 0x0005_8593])?;
-    gives(&rt, alloc, "x: la a0, x", &[0x0001_0537, 0x0005_0513])?;
-    gives(
+    check_words(&rt, alloc, "li a1, 2047", &[0x7FF0_0593])?;
+    check_words(&rt, alloc, "li a1, -2048", &[0x8000_0593])?;
+    check_words(&rt, alloc, "li a1, 0xFFFFFFFF", &[0xFFF0_0593])?;
+    check_words(&rt, alloc, "li a1, 2048", &[0x0000_15B7, 0x8005_8593])?;
+    check_words(&rt, alloc, "li a1, -2049", &[0xFFFF_F5B7, 0x7FF5_8593])?;
+    check_words(&rt, alloc, "li a1, 0x12345FFF", &[0x1234_65B7, 0xFFF5_8593])?;
+    check_words(&rt, alloc, "li a1, 0x7FFFFFFF", &[0x8000_05B7, 0xFFF5_8593])?;
+    check_words(&rt, alloc, "li a1, 0x80000000", &[0x8000_05B7, 0x0005_8593])?;
+    check_words(&rt, alloc, "x: la a0, x", &[0x0001_0537, 0x0005_0513])?;
+    check_words(
         &rt,
         alloc,
         "la a0, x\nx: nop",
@@ -144,19 +149,19 @@ fn large_numbers(rt: HostRuntime) -> Result<(), Fail> {
 #[test]
 fn data(rt: HostRuntime) -> Result<(), Fail> {
     let alloc = rt.alloc();
-    gives(
+    check_words(
         &rt,
         alloc,
         ".equ n, -1\nx: .word 1, n, x, y, 0xAbCdEf01\ny:",
         &[1, 0xFFFF_FFFF, 0x1_0000, 0x1_0014, 0xABCD_EF01],
     )?;
-    gives_bytes(
+    check_bytes(
         &rt,
         alloc,
         ".byte -128, 255, 0x7F,-1\n.zero 3",
         &[128, 255, 127, 255, 0, 0, 0],
     )?;
-    gives(
+    check_words(
         &rt,
         alloc,
         "\t# a comment: with , ( ) and \x01\r\n nop # ,\n\nlabel :\n",
@@ -196,9 +201,9 @@ fn programs(rt: HostRuntime) -> Result<(), Fail> {
         ("li a7, 13", 0x00D0_0893),
         ("ecall", 0x0000_0073),
     ];
-    each_gives(&rt, alloc, &sender)?;
-    each_gives(&rt, alloc, &receiver)?;
-    each_gives(&rt, alloc, &waiter)
+    check_lines(&rt, alloc, &sender)?;
+    check_lines(&rt, alloc, &receiver)?;
+    check_lines(&rt, alloc, &waiter)
 }
 
 /// A program that passes a token round a ring of nodes.
@@ -232,7 +237,7 @@ fn ring(rt: HostRuntime) -> Result<(), Fail> {
         ("ecall", 0x0000_0073),
         ("j loop", 0xF9DF_F06F),
     ];
-    each_gives(&rt, rt.alloc(), &rows)
+    check_lines(&rt, rt.alloc(), &rows)
 }
 
 /// The example of docs/ASSEMBLY.md.
@@ -255,7 +260,7 @@ fn example(rt: HostRuntime) -> Result<(), Fail> {
         0x0001_0020,
         0xFFFF_FFFF,
     ];
-    gives(&rt, rt.alloc(), text, &words)
+    check_words(&rt, rt.alloc(), text, &words)
 }
 
 /// Each kind, with a fault of a later kind on its line that does not win.
@@ -294,7 +299,7 @@ fn faults_in_order(rt: HostRuntime) -> Result<(), Fail> {
         ("nop\nstart:", 0, AsmKind::Entry),
         ("j nowhere\nwhat", 2, AsmKind::UnknownWord),
     ];
-    refused(&rt, rt.alloc(), &rows)
+    check_refusals(&rt, rt.alloc(), &rows)
 }
 
 /// The choices of the language, each with a text that is refused.
@@ -356,7 +361,7 @@ fn refused_forms(rt: HostRuntime) -> Result<(), Fail> {
             AsmKind::BadNumber,
         ),
     ];
-    refused(&rt, rt.alloc(), &rows)
+    check_refusals(&rt, rt.alloc(), &rows)
 }
 
 /// The choices of the language, each with a text that is accepted.
@@ -364,37 +369,37 @@ fn refused_forms(rt: HostRuntime) -> Result<(), Fail> {
 fn accepted_forms(rt: HostRuntime) -> Result<(), Fail> {
     let alloc = rt.alloc();
     // Blanks may stand round brackets and before commas.
-    gives(&rt, alloc, "lw a0 , 4 ( sp )", &[0x0041_2503])?;
+    check_words(&rt, alloc, "lw a0 , 4 ( sp )", &[0x0041_2503])?;
     // Names of instructions and registers may be labels.
-    gives(
+    check_words(
         &rt,
         alloc,
         "nop: j nop\na0: j a0",
         &[0x0000_006F, 0x0000_006F],
     )?;
     // Leading zeros, as many as one likes.
-    gives(&rt, alloc, "li a0, 00000000000000000000001", &[0x0010_0513])?;
-    gives(
+    check_words(&rt, alloc, "li a0, 00000000000000000000001", &[0x0010_0513])?;
+    check_words(
         &rt,
         alloc,
         "li a0, 0x00000000000000000000001\nli a0, -0",
         &[0x0010_0513, 0x0000_0513],
     )?;
     // A name of 32 characters is one.
-    gives(
+    check_words(
         &rt,
         alloc,
         "aaaaaaaaaaaaaaaaaaaaaaaaaaaaaaaa: j aaaaaaaaaaaaaaaaaaaaaaaaaaaaaaaa",
         &[0x0000_006F],
     )?;
     // A label may lie at a half word.
-    gives_bytes(
+    check_bytes(
         &rt,
         alloc,
         "j x\n.byte 1, 2\nx: .byte 3, 4",
         &[0x6F, 0, 0x60, 0, 1, 2, 3, 4],
     )?;
-    gives_bytes(
+    check_bytes(
         &rt,
         alloc,
         "beq a0, a1, x\n.byte 1, 2\nx: .byte 3, 4",

@@ -7,15 +7,15 @@ use Rattle.std.proofs.lemmas.List.{map-append}
 use Rattle.std.proofs.lemmas.List.Folds.{list_all-append, list_any-append}
 use Rattle.std.proofs.lemmas.List.Splits.{slice_split-cons_yes, slice_split-cons_no}
 use Rattle.ce_text.specs.Bytes.{is_blank, is_hash, is_plain}
-use Rattle.ce_text.specs.Line.{cut, without_outer_blanks, onto_trimmed, without_front_blanks, without_end_blanks, before_comment}
+use Rattle.ce_text.specs.Line.{cut_parts, without_outer_blanks, onto_trimmed, without_front_blanks, without_end_blanks, before_comment}
 use Rattle.ce_text.proofs.Splitting.{split_cut, split_behind, cut_pieces}
 use Rattle.rv_asm.specs.declared.fault.AsmKind.{AsmKind}
 use Rattle.rv_asm.specs.declared.fault.AsmKind.TheVariants.{BadByte, UnknownWord, Operands}
 use Rattle.rv_asm.specs.declared.mnemonic.Mnemonic.{Mnemonic}
-use Rattle.rv_asm.specs.declared.mnemonic.Mnemonic.TheVariants as words
+use Rattle.rv_asm.specs.declared.mnemonic.Mnemonic.TheVariants as mnemonics
 use Rattle.rv_asm.specs.Line.{is_colon, is_comma, is_opening, is_closing, pieces, comma_pieces}
 use Rattle.rv_asm.specs.Names.{Names}
-use Rattle.rv_asm.specs.Faults.{◌>>=◌, refusal, both}
+use Rattle.rv_asm.specs.Faults.{◌>>=◌, refusal, pair_judgment}
 use Rattle.rv_asm.specs.Operand.{no_piece, one_piece, two_pieces, three_pieces, register, twelve_bits, memory, is_closed}
 use Rattle.rv_asm.specs.Statements.{register_upper, register_memory, registers_immediate, three_registers, two_registers, register_word, register_label, registers_label, one_label, zero_count, statements_of}
 use Rattle.rv_asm.specs.FirstPass.{LayoutSoFar, layout_with_number, layout_with_statements, operands_of, statement, labelled_statement, line_laid}
@@ -137,33 +137,33 @@ by_end number laid blanks (front, Some rest) h = rw (trimmed_end rest blanks h) 
 meant : ℕ → LayoutSoFar → Bool → List ℕ × Option (List ℕ) → Result LayoutSoFar AsmKind
 meant number laid plain parts = refusal (not plain) BadByte >>= λ ok. labelled_statement number laid parts.0 parts.1
 
-meant_line : (number : ℕ) (laid : LayoutSoFar) (line : List ℕ) → line_laid number laid line ≡ meant number laid (list_all is_plain (before_comment line)) (cut is_colon (before_comment line))
+meant_line : (number : ℕ) (laid : LayoutSoFar) (line : List ℕ) → line_laid number laid line ≡ meant number laid (list_all is_plain (before_comment line)) (cut_parts is_colon (before_comment line))
 unfolding line_laid meant
 meant_line number laid line = refl
 
 code_front : (number : ℕ) (laid : LayoutSoFar) (blanks code : List ℕ) → AreBlanks blanks
-    → meant number laid (list_all is_plain (blanks ++ code)) (cut is_colon (blanks ++ code)) ≡ meant number laid (list_all is_plain code) (cut is_colon code)
+    → meant number laid (list_all is_plain (blanks ++ code)) (cut_parts is_colon (blanks ++ code)) ≡ meant number laid (list_all is_plain code) (cut_parts is_colon code)
 unfolding meant
 code_front number laid blanks code h =
     rw (plain_front blanks code h, cut_front is_colon blanks code (no_mark is_colon blanks not_colon h))
-    (ap (λ (it : Result LayoutSoFar AsmKind). refusal (not (list_all is_plain code)) BadByte >>= λ ok. it) (by_front number laid blanks (cut is_colon code) h))
+    (ap (λ (it : Result LayoutSoFar AsmKind). refusal (not (list_all is_plain code)) BadByte >>= λ ok. it) (by_front number laid blanks (cut_parts is_colon code) h))
 
 code_end : (number : ℕ) (laid : LayoutSoFar) (blanks code : List ℕ) → AreBlanks blanks
-    → meant number laid (list_all is_plain (code ++ blanks)) (cut is_colon (code ++ blanks)) ≡ meant number laid (list_all is_plain code) (cut is_colon code)
+    → meant number laid (list_all is_plain (code ++ blanks)) (cut_parts is_colon (code ++ blanks)) ≡ meant number laid (list_all is_plain code) (cut_parts is_colon code)
 unfolding meant
 code_end number laid blanks code h =
     rw (plain_end code blanks h, cut_end is_colon code blanks (no_mark is_colon blanks not_colon h))
-    (ap (λ (it : Result LayoutSoFar AsmKind). refusal (not (list_all is_plain code)) BadByte >>= λ ok. it) (by_end number laid blanks (cut is_colon code) h))
+    (ap (λ (it : Result LayoutSoFar AsmKind). refusal (not (list_all is_plain code)) BadByte >>= λ ok. it) (by_end number laid blanks (cut_parts is_colon code) h))
 
 front_goes_line : (number : ℕ) (laid : LayoutSoFar) (blanks line : List ℕ) → AreBlanks blanks → line_laid number laid (blanks ++ line) ≡ line_laid number laid line
 unfolding before_comment
 front_goes_line number laid blanks line h =
     meant_line number laid (blanks ++ line)
-    ∙ ap (λ (parts : List ℕ × Option (List ℕ)). meant number laid (list_all is_plain parts.0) (cut is_colon parts.0)) (cut_front is_hash blanks line (no_mark is_hash blanks not_hash h))
-    ∙ code_front number laid blanks (cut is_hash line).0 h ∙ sym (meant_line number laid line)
+    ∙ ap (λ (parts : List ℕ × Option (List ℕ)). meant number laid (list_all is_plain parts.0) (cut_parts is_colon parts.0)) (cut_front is_hash blanks line (no_mark is_hash blanks not_hash h))
+    ∙ code_front number laid blanks (cut_parts is_hash line).0 h ∙ sym (meant_line number laid line)
 
 ends_by : (number : ℕ) (laid : LayoutSoFar) (blanks : List ℕ) (parts : List ℕ × Option (List ℕ)) → AreBlanks blanks
-    → meant number laid (list_all is_plain (at_end blanks parts).0) (cut is_colon (at_end blanks parts).0) ≡ meant number laid (list_all is_plain parts.0) (cut is_colon parts.0)
+    → meant number laid (list_all is_plain (at_end blanks parts).0) (cut_parts is_colon (at_end blanks parts).0) ≡ meant number laid (list_all is_plain parts.0) (cut_parts is_colon parts.0)
 ends_by number laid blanks (code, None) h = code_end number laid blanks code h
 ends_by number laid blanks (code, Some comment) h = refl
 
@@ -171,8 +171,8 @@ end_goes_line : (number : ℕ) (laid : LayoutSoFar) (line blanks : List ℕ) →
 unfolding before_comment
 end_goes_line number laid line blanks h =
     meant_line number laid (line ++ blanks)
-    ∙ ap (λ (parts : List ℕ × Option (List ℕ)). meant number laid (list_all is_plain parts.0) (cut is_colon parts.0)) (cut_end is_hash line blanks (no_mark is_hash blanks not_hash h))
-    ∙ ends_by number laid blanks (cut is_hash line) h ∙ sym (meant_line number laid line)
+    ∙ ap (λ (parts : List ℕ × Option (List ℕ)). meant number laid (list_all is_plain parts.0) (cut_parts is_colon parts.0)) (cut_end is_hash line blanks (no_mark is_hash blanks not_hash h))
+    ∙ ends_by number laid blanks (cut_parts is_hash line) h ∙ sym (meant_line number laid line)
 
 pub ends_go : (number : ℕ) (laid : LayoutSoFar) (before line after : List ℕ) → list_all is_blank before ≡ true → list_all is_blank after ≡ true → line_laid number laid (before ++ line ++ after) ≡ line_laid number laid line
 ends_go number laid before line after b a = end_goes_line number laid (before ++ line) after (record { all = a }) ∙ front_goes_line number laid before line (record { all = b })
@@ -196,8 +196,8 @@ plain_colon label before after code b a =
     list_all-append is_plain (label ++ before) (58 ∷ (after ++ code)) ∙ rw (plain_end label before b, plain_front after code a) refl ∙ sym (list_all-append is_plain label (58 ∷ code))
 
 meant_colon : (number : ℕ) (laid : LayoutSoFar) (label before after code : List ℕ) → list_any is_colon label ≡ false → AreBlanks before → AreBlanks after
-    → meant number laid (list_all is_plain (label ++ before ++ 58 ∷ (after ++ code))) (cut is_colon (label ++ before ++ 58 ∷ (after ++ code)))
-    ≡ meant number laid (list_all is_plain (label ++ 58 ∷ code)) (cut is_colon (label ++ 58 ∷ code))
+    → meant number laid (list_all is_plain (label ++ before ++ 58 ∷ (after ++ code))) (cut_parts is_colon (label ++ before ++ 58 ∷ (after ++ code)))
+    ≡ meant number laid (list_all is_plain (label ++ 58 ∷ code)) (cut_parts is_colon (label ++ 58 ∷ code))
 unfolding meant
 meant_colon number laid label before after code e b a =
     rw (
@@ -218,7 +218,7 @@ colon_goes number laid label before after rest hash colon b a =
     code_behind (label ++ before) (after ++ rest) (none_of_both is_hash label before hash (no_mark is_hash before not_hash before_blank))
     ∙ ap (λ (bytes : List ℕ). label ++ before ++ 58 ∷ bytes) (code_blanks after rest after_blank)
     in
-    let judge = λ (bytes : List ℕ). meant number laid (list_all is_plain bytes) (cut is_colon bytes) in
+    let judge = λ (bytes : List ℕ). meant number laid (list_all is_plain bytes) (cut_parts is_colon bytes) in
     meant_line number laid (label ++ before ++ 58 ∷ (after ++ rest)) ∙ ap judge first
     ∙ meant_colon number laid label before after code colon before_blank after_blank
     ∙ ap judge (sym (code_behind label rest hash)) ∙ sym (meant_line number laid (label ++ 58 ∷ rest))
@@ -231,7 +231,7 @@ said number laid colon parts =
     refusal colon UnknownWord >>= λ ok. cond (bytes_eq parts.0 (codes ".equ")) (layout_with_number laid (operands_of parts.1)) (layout_with_statements number laid parts.0 (operands_of parts.1))
 
 said_so : (number : ℕ) (laid : LayoutSoFar) (word : List ℕ) (mark : ℕ) (rest : List ℕ)
-    → statement number laid (word ++ mark ∷ rest) ≡ said number laid (list_any is_colon (word ++ mark ∷ rest)) (cut is_blank (word ++ mark ∷ rest))
+    → statement number laid (word ++ mark ∷ rest) ≡ said number laid (list_any is_colon (word ++ mark ∷ rest)) (cut_parts is_blank (word ++ mark ∷ rest))
 unfolding statement said
 said_so number laid [] mark rest = refl
 said_so number laid (byte ∷ word) mark rest = refl
@@ -287,7 +287,7 @@ split_end_by test byte bytes more true e others =
     ∙ ap (λ (parts : List (List ℕ)). onto_last more ([] ∷ parts)) (sym (split_cut test bytes)) ∙ ap (onto_last more) (sym (slice_split-cons_yes test byte bytes e))
 split_end_by test byte bytes more false e others =
     slice_split-cons_no test byte (bytes ++ more) e ∙ ap (onto_first byte) (others ∙ ap (onto_last more) (split_cut test bytes))
-    ∙ onto_both byte more (cut test bytes).0 (split_behind test (cut test bytes).1)
+    ∙ onto_both byte more (cut_parts test bytes).0 (split_behind test (cut_parts test bytes).1)
     ∙ ap (λ (parts : List (List ℕ)). onto_last more (onto_first byte parts)) (sym (split_cut test bytes)) ∙ ap (onto_last more) (sym (slice_split-cons_no test byte bytes e))
 
 split_end : (test : ℕ → Bool) (bytes more : List ℕ) → list_any test more ≡ false → slice_split test (bytes ++ more) ≡ onto_last more (slice_split test bytes)
@@ -305,7 +305,7 @@ pieces_front : (blanks operands : List ℕ) → AreBlanks blanks → pieces (bla
 pieces_front blanks operands h =
     pieces_cut (blanks ++ operands)
     ∙ ap (λ (parts : List ℕ × Option (List ℕ)). without_outer_blanks parts.0 ∷ comma_pieces parts.1) (cut_front is_comma blanks operands (no_mark is_comma blanks not_comma h))
-    ∙ ap (λ (bytes : List ℕ). bytes ∷ comma_pieces (cut is_comma operands).1) (trimmed_front blanks (cut is_comma operands).0 h) ∙ sym (pieces_cut operands)
+    ∙ ap (λ (bytes : List ℕ). bytes ∷ comma_pieces (cut_parts is_comma operands).1) (trimmed_front blanks (cut_parts is_comma operands).0 h) ∙ sym (pieces_cut operands)
 
 pieces_end : (operands blanks : List ℕ) → AreBlanks blanks → pieces (operands ++ blanks) ≡ pieces operands
 unfolding pieces
@@ -326,23 +326,23 @@ some_piece (byte ∷ first) second = refl
 -- what the operands of a statement mean rests on the pieces between their commas alone
 by_pieces : (mnemonic : Mnemonic) (names : Names) (first second : List ℕ) → no_piece first ≡ no_piece second → pieces first ≡ pieces second → statements_of mnemonic names first ≡ statements_of mnemonic names second
 unfolding statements_of register_upper register_memory registers_immediate three_registers two_registers register_word register_label registers_label one_label zero_count one_piece two_pieces three_pieces
-by_pieces (words.Plain inst) names first second n e = rw n refl
-by_pieces words.Lui names first second n e = rw e refl
-by_pieces words.Auipc names first second n e = rw e refl
-by_pieces words.Jal names first second n e = rw e refl
-by_pieces words.Jalr names first second n e = rw e refl
-by_pieces words.Li names first second n e = rw e refl
-by_pieces words.La names first second n e = rw e refl
-by_pieces words.Mv names first second n e = rw e refl
-by_pieces words.Word names first second n e = rw e refl
-by_pieces words.Byte names first second n e = rw e refl
-by_pieces words.Zero names first second n e = rw e refl
-by_pieces (words.Branch op) names first second n e = rw e refl
-by_pieces (words.Load op) names first second n e = rw e refl
-by_pieces (words.Store op) names first second n e = rw e refl
-by_pieces (words.OpImm op) names first second n e = rw e refl
-by_pieces (words.Op op) names first second n e = rw e refl
-by_pieces (words.Jump rd) names first second n e = rw e refl
+by_pieces (mnemonics.Plain inst) names first second n e = rw n refl
+by_pieces mnemonics.Lui names first second n e = rw e refl
+by_pieces mnemonics.Auipc names first second n e = rw e refl
+by_pieces mnemonics.Jal names first second n e = rw e refl
+by_pieces mnemonics.Jalr names first second n e = rw e refl
+by_pieces mnemonics.Li names first second n e = rw e refl
+by_pieces mnemonics.La names first second n e = rw e refl
+by_pieces mnemonics.Mv names first second n e = rw e refl
+by_pieces mnemonics.Word names first second n e = rw e refl
+by_pieces mnemonics.Byte names first second n e = rw e refl
+by_pieces mnemonics.Zero names first second n e = rw e refl
+by_pieces (mnemonics.Branch op) names first second n e = rw e refl
+by_pieces (mnemonics.Load op) names first second n e = rw e refl
+by_pieces (mnemonics.Store op) names first second n e = rw e refl
+by_pieces (mnemonics.OpImm op) names first second n e = rw e refl
+by_pieces (mnemonics.Op op) names first second n e = rw e refl
+by_pieces (mnemonics.Jump rd) names first second n e = rw e refl
 
 pub comma_goes : (mnemonic : Mnemonic) (names : Names) (first before after second : List ℕ) → list_all is_blank before ≡ true → list_all is_blank after ≡ true
     → statements_of mnemonic names (first ++ before ++ 44 ∷ (after ++ second)) ≡ statements_of mnemonic names (first ++ 44 ∷ second)
@@ -354,7 +354,7 @@ comma_goes mnemonic names first before after second b a =
 
 -- `n(rs1)` from the number and what stands behind the opening bracket
 bracketed : Names → List ℕ → List ℕ × Option (List ℕ) → Result (ℤ × ℕ) AsmKind
-bracketed names number parts = refusal (not (is_closed parts.1)) Operands >>= λ ok. both (twelve_bits names number) (register (without_outer_blanks parts.0))
+bracketed names number parts = refusal (not (is_closed parts.1)) Operands >>= λ ok. pair_judgment (twelve_bits names number) (register (without_outer_blanks parts.0))
 
 inner : (names : Names) (number blanks : List ℕ) (parts : List ℕ × Option (List ℕ)) → AreBlanks blanks → bracketed names number (in_front blanks parts) ≡ bracketed names number parts
 unfolding bracketed
@@ -371,7 +371,7 @@ opening_goes names number before after base e b a =
     let before_blank : AreBlanks before = record { all = b } in
     let after_blank : AreBlanks after = record { all = a } in
     rw (cut_mark is_opening (number ++ before) 40 (after ++ base) (none_of_both is_opening number before e (no_mark is_opening before not_opening before_blank)) refl, cut_mark is_opening number 40 base e refl, trimmed_end number before before_blank, cut_front is_closing after base (no_mark is_closing after not_closing after_blank))
-    (inner names (without_outer_blanks number) after (cut is_closing base) after_blank)
+    (inner names (without_outer_blanks number) after (cut_parts is_closing base) after_blank)
 
 pub closing_goes : (names : Names) (number base before after : List ℕ) → list_any is_opening number ≡ false → list_any is_closing base ≡ false → list_all is_blank before ≡ true → list_all is_blank after ≡ true
     → memory names (number ++ 40 ∷ (base ++ before ++ 41 ∷ after)) ≡ memory names (number ++ 40 ∷ (base ++ 41 ∷ []))

@@ -7,7 +7,7 @@ use Rattle.rv_asm.specs.declared.fault.AsmKind.{AsmKind}
 use Rattle.rv_asm.specs.declared.fault.AsmFault.{AsmFault}
 use Rattle.rv_asm.specs.Faults.{◌>>=◌}
 use Rattle.ce_text.specs.Line.{line_texts}
-use Rattle.rv_asm.specs.FirstPass.{LayoutSoFar, nothing_laid, line_laid, at_line, lines_laid, first_pass}
+use Rattle.rv_asm.specs.FirstPass.{LayoutSoFar, nothing_laid, line_laid, judgment_at_line, lines_laid, first_pass}
 use Rattle.rv_asm_laws.specs.Before.{layout_or_given, layout_of_lines, layout_before, judged_line, IsFirstFault, AreLaid}
 
 -- the judgment of a line of those behind so many, once this is laid
@@ -44,7 +44,7 @@ earlier_by before laid next line these place e h (suc i) lt =
 
 first_by : (before : ℕ) (laid : LayoutSoFar) (line : List ℕ) (these : List (List ℕ)) (fault : AsmFault) (r : Result LayoutSoFar AsmKind) → line_laid (before + 1) laid line ≡ r
     → ((next : LayoutSoFar) → lines_laid (before + 1) next these ≡ Err fault → IsFirst (before + 1) next these fault)
-    → (at_line (before + 1) r >>= λ one. lines_laid (before + 1) one these) ≡ Err fault → IsFirst before laid (line ∷ these) fault
+    → (judgment_at_line (before + 1) r >>= λ one. lines_laid (before + 1) one these) ≡ Err fault → IsFirst before laid (line ∷ these) fault
 first_by before laid line these fault (Err kind) e others h =
     let same : record { line = before + 1; kind = kind } ≡ fault = IfErr-at_err (λ (other : AsmFault). record { line = before + 1; kind = kind } ≡ other) h refl in
     record {
@@ -93,7 +93,7 @@ record AreAll (before : ℕ) (laid : LayoutSoFar) (these : List (List ℕ)) (out
 
 all_by : (before : ℕ) (laid : LayoutSoFar) (line : List ℕ) (these : List (List ℕ)) (out : LayoutSoFar) (r : Result LayoutSoFar AsmKind) → line_laid (before + 1) laid line ≡ r
     → ((next : LayoutSoFar) → lines_laid (before + 1) next these ≡ Ok out → AreAll (before + 1) next these out)
-    → (at_line (before + 1) r >>= λ one. lines_laid (before + 1) one these) ≡ Ok out → AreAll before laid (line ∷ these) out
+    → (judgment_at_line (before + 1) r >>= λ one. lines_laid (before + 1) one these) ≡ Ok out → AreAll before laid (line ∷ these) out
 unfolding layout_of_lines
 all_by before laid line these out (Err kind) e others h = absurd cc
 all_by before laid line these out (Ok next) e others h =

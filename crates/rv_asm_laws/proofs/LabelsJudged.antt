@@ -15,7 +15,7 @@ use Rattle.rv_asm.specs.declared.statement.Statement.TheVariants as statements
 use Rattle.rv_asm.specs.Faults.{◌>>=◌, refusal}
 use Rattle.rv_asm.specs.Names.{Names}
 use Rattle.rv_asm.specs.Sizes.{size_of}
-use Rattle.rv_asm.specs.FirstPass.{at_line}
+use Rattle.rv_asm.specs.FirstPass.{judgment_at_line}
 use Rattle.rv_asm.specs.SecondPass.{Part, is_reached, address_meant, address_of, offset_to, parts_of, second_pass}
 use Rattle.rv_asm_laws.specs.LabelFaults.{is_no_label, is_far, label_fault, numbered_label_fault, IsFirstLabelFault, HasLabels}
 
@@ -75,7 +75,7 @@ fault_in other (Err fault) = fault
 first_by : (names : Names) (address : ℕ) (first : PlacedStatement) (others : List PlacedStatement) (fault : AsmFault) (r : Result (List Part) AsmKind) → parts_of names address first.statement ≡ r
     → (second_pass names (address + size_of first.statement) others ≡ Err fault → IsFirstLabelFault names (address + size_of first.statement) others fault)
     → (rest : Result (List Part) AsmFault) → second_pass names (address + size_of first.statement) others ≡ rest
-    → (at_line first.line r >>= λ here. rest >>= λ there. Ok (here ++ there)) ≡ Err fault → IsFirstLabelFault names address (first ∷ others) fault
+    → (judgment_at_line first.line r >>= λ here. rest >>= λ there. Ok (here ++ there)) ≡ Err fault → IsFirstLabelFault names address (first ∷ others) fault
 unfolding fault_in
 first_by names address first others fault (Err kind) e inner rest f h =
     let same : record { line = first.line; kind = kind } ≡ fault = ap (fault_in fault) h in
@@ -109,7 +109,7 @@ first_label_fault names address (first ∷ others) fault h =
 none_by : (names : Names) (address : ℕ) (first : PlacedStatement) (others : List PlacedStatement) (parts : List Part) (r : Result (List Part) AsmKind) → parts_of names address first.statement ≡ r
     → ((those : List Part) → second_pass names (address + size_of first.statement) others ≡ Ok those → HasLabels names (address + size_of first.statement) others)
     → (rest : Result (List Part) AsmFault) → second_pass names (address + size_of first.statement) others ≡ rest
-    → (at_line first.line r >>= λ here. rest >>= λ there. Ok (here ++ there)) ≡ Ok parts → HasLabels names address (first ∷ others)
+    → (judgment_at_line first.line r >>= λ here. rest >>= λ there. Ok (here ++ there)) ≡ Ok parts → HasLabels names address (first ∷ others)
 none_by names address first others parts (Err kind) e inner rest f h = absurd cc
 none_by names address first others parts (Ok here) e inner (Err other) f h = absurd cc
 none_by names address first others parts (Ok here) e inner (Ok there) f h =

@@ -12,7 +12,7 @@ use Rattle.rv_asm.specs.Faults.{◌>>=◌, refusal}
 use Rattle.ce_text.specs.Line.{without_outer_blanks}
 use Rattle.rv_asm.specs.Names.{with_name, is_taken}
 use Rattle.rv_asm.specs.Sizes.{size_of}
-use Rattle.rv_asm.specs.FirstPass.{LayoutSoFar, layout_of, layout_with_statement, layout_with_all, layout_with_name, layout_with_number, layout_with_statements, statement, labelled_statement, line_laid, at_line}
+use Rattle.rv_asm.specs.FirstPass.{LayoutSoFar, layout_of, layout_with_statement, layout_with_all, layout_with_name, layout_with_number, layout_with_statements, statement, labelled_statement, line_laid, judgment_at_line}
 
 -- what is laid by a judgment, if it is no fault, has the property
 pub record HasLed {E : Type 0} (P : LayoutSoFar → Type 0) (r : Result LayoutSoFar E) : Type 0 where
@@ -36,7 +36,7 @@ led_either : {E : Type 0} (P : LayoutSoFar → Type 0) (test : Bool) (first seco
 led_either P true first second h g = h
 led_either P false first second h g = g
 
-pub led_at_line : (P : LayoutSoFar → Type 0) (number : ℕ) (r : Result LayoutSoFar AsmKind) → HasLed P r → HasLed P (at_line number r)
+pub led_at_line : (P : LayoutSoFar → Type 0) (number : ℕ) (r : Result LayoutSoFar AsmKind) → HasLed P r → HasLed P (judgment_at_line number r)
 led_at_line P number (Ok next) h = led_here P next (h.led next refl)
 led_at_line P number (Err kind) h = led_nowhere P _
 

@@ -6,25 +6,25 @@ use Rattle.std.specs.Result.{result_err}
 use Rattle.std.proofs.lemmas.Bool.{not-false, eqb-true, eq-eqb, ne_eqb, ltb-true, ltb-false, lt-ltb, le-ltb}
 use Rattle.std.proofs.lemmas.List.{length-append}
 use Rattle.std.proofs.lemmas.List.Sums.{sum_by-cons}
+use Rattle.rv_model.specs.declared.limits.TheConstants.{PRIVATE_START, IMAGE_ROOM}
 use Rattle.rv_asm.specs.declared.statement.TheConstants.{GREATEST_BYTE, LEAST_BYTE}
 use Rattle.rv_model.specs.declared.inst.Inst.TheVariants as insts
 use Rattle.rv_model.specs.declared.inst.ImmOp.TheVariants.{Addi}
-use Rattle.rv_model.specs.Image.{image_start, image_room}
 use Rattle.rv_asm.specs.declared.fault.AsmKind.{AsmKind}
 use Rattle.rv_asm.specs.declared.fault.AsmKind.TheVariants.{BadByte, NameTaken, UnknownWord, Unaligned, TooLarge, Operands, BadNumber}
 use Rattle.rv_asm.specs.declared.symbols.Symbol.{Symbol}
 use Rattle.rv_asm.specs.declared.symbols.Symbol.TheVariants.{Label, Number}
 use Rattle.rv_asm.specs.declared.mnemonic.Mnemonic.{Mnemonic}
-use Rattle.rv_asm.specs.declared.mnemonic.Mnemonic.TheVariants as words
+use Rattle.rv_asm.specs.declared.mnemonic.Mnemonic.TheVariants as mnemonics
 use Rattle.rv_asm.specs.declared.statement.Statement.{Statement}
 use Rattle.rv_asm.specs.declared.statement.Statement.TheVariants as statements
 use Rattle.ce_text.specs.Bytes.{is_plain}
-use Rattle.ce_text.specs.Line.{cut, without_outer_blanks, before_comment}
+use Rattle.ce_text.specs.Line.{cut_parts, without_outer_blanks, before_comment}
 use Rattle.rv_asm.specs.Line.{pieces, comma_pieces, is_colon, is_comma, is_token}
 use Rattle.rv_asm.specs.Literal.{literal_of}
 use Rattle.rv_asm.specs.Name.{is_name}
 use Rattle.rv_asm.specs.Names.{Names, with_name, is_taken}
-use Rattle.rv_asm.specs.Faults.{◌>>=◌, refusal, or_fault, both, with_judged, all_of}
+use Rattle.rv_asm.specs.Faults.{◌>>=◌, refusal, or_fault, pair_judgment, with_judged, judgment_of_list}
 use Rattle.rv_asm.specs.Operand.{two_of, two_pieces, name_piece, number, number_in_range, no_piece, wrapped_word, byte_of}
 use Rattle.rv_asm.specs.Sizes.{size_of, lays_words}
 use Rattle.rv_asm.specs.Words.{mnemonic_of}
@@ -48,30 +48,30 @@ unfolding layout_with_name
 define_free laid name symbol e = rw e refl
 
 equ_pieces : (laid : LayoutSoFar) (first : List ℕ) (others : List (List ℕ)) → is_taken laid.names first ≡ false
-    → result_err (two_of (first ∷ others) >>= λ parts. both (name_piece parts.0) (number laid.names parts.1) >>= λ values. layout_with_name laid parts.0 (Number values.1))
+    → result_err (two_of (first ∷ others) >>= λ parts. pair_judgment (name_piece parts.0) (number laid.names parts.1) >>= λ values. layout_with_name laid parts.0 (Number values.1))
     ≡ operands_fault laid.names (a_name ∷ any_number ∷ []) (first ∷ others)
 equ_pieces laid first [] e = wrong laid.names (a_name ∷ any_number ∷ []) (first ∷ []) refl
 equ_pieces laid first (second ∷ []) e =
-    err_total (both (name_piece first) (number laid.names second)) (λ values. layout_with_name laid first (Number values.1)) (λ values. define_free laid first (Number values.1) e)
+    err_total (pair_judgment (name_piece first) (number laid.names second)) (λ values. layout_with_name laid first (Number values.1)) (λ values. define_free laid first (Number values.1) e)
     ∙ err_both (name_piece first) (number laid.names second)
     ∙ rw (name_fault laid.names first, number_fault laid.names second) (joined_two laid.names a_name any_number first second)
 equ_pieces laid first (second ∷ third ∷ others) e = wrong laid.names (a_name ∷ any_number ∷ []) (first ∷ second ∷ third ∷ others) (ne_eqb _ _ (λ h. absurd (omega arith)))
 
-equ_by : (laid : LayoutSoFar) (operands : List ℕ) (taken : Bool) → is_taken laid.names (without_outer_blanks (cut is_comma operands).0) ≡ taken
-    → result_err (refusal taken NameTaken >>= λ free. two_pieces operands >>= λ parts. both (name_piece parts.0) (number laid.names parts.1) >>= λ values. layout_with_name laid parts.0 (Number values.1))
+equ_by : (laid : LayoutSoFar) (operands : List ℕ) (taken : Bool) → is_taken laid.names (without_outer_blanks (cut_parts is_comma operands).0) ≡ taken
+    → result_err (refusal taken NameTaken >>= λ free. two_pieces operands >>= λ parts. pair_judgment (name_piece parts.0) (number laid.names parts.1) >>= λ values. layout_with_name laid parts.0 (Number values.1))
     ≡ cond taken (Some NameTaken) (operands_fault laid.names (a_name ∷ any_number ∷ []) (operand_texts operands))
 unfolding two_pieces
 equ_by laid operands true e = refl
 equ_by laid operands false e =
-    ap (λ (texts : List (List ℕ)). result_err (two_of texts >>= λ parts. both (name_piece parts.0) (number laid.names parts.1) >>= λ values. layout_with_name laid parts.0 (Number values.1))) (pieces_cut operands)
-    ∙ equ_pieces laid (without_outer_blanks (cut is_comma operands).0) (comma_pieces (cut is_comma operands).1) e
+    ap (λ (texts : List (List ℕ)). result_err (two_of texts >>= λ parts. pair_judgment (name_piece parts.0) (number laid.names parts.1) >>= λ values. layout_with_name laid parts.0 (Number values.1))) (pieces_cut operands)
+    ∙ equ_pieces laid (without_outer_blanks (cut_parts is_comma operands).0) (comma_pieces (cut_parts is_comma operands).1) e
     ∙ ap (operands_fault laid.names (a_name ∷ any_number ∷ [])) (sym (pieces_cut operands))
     ∙ written_two laid.names a_name any_number operands
 
 equ_fault : (laid : LayoutSoFar) (operands : List ℕ) → result_err (layout_with_number laid operands)
-    ≡ cond (is_taken laid.names (without_outer_blanks (cut is_comma operands).0)) (Some NameTaken) (operands_fault laid.names (a_name ∷ any_number ∷ []) (operand_texts operands))
+    ≡ cond (is_taken laid.names (without_outer_blanks (cut_parts is_comma operands).0)) (Some NameTaken) (operands_fault laid.names (a_name ∷ any_number ∷ []) (operand_texts operands))
 unfolding layout_with_number
-equ_fault laid operands = equ_by laid operands (is_taken laid.names (without_outer_blanks (cut is_comma operands).0)) refl
+equ_fault laid operands = equ_by laid operands (is_taken laid.names (without_outer_blanks (cut_parts is_comma operands).0)) refl
 
 -- ---- room
 
@@ -85,22 +85,22 @@ AreOf of_words [] = Unit {0}
 AreOf of_words (it ∷ these) = IsOf of_words it × AreOf of_words these
 
 -- more statements behind some that fit, at an aligned place
-more_by : (line : ℕ) (laid : LayoutSoFar) (it : Statement) (these : List Statement) (of_words unaligned large : Bool) → IsOf of_words it → of_words && not (laid.size % 4 == 0) ≡ unaligned → nat_lt image_room (laid.size + size_of it) ≡ large
-    → ((next : LayoutSoFar) → next.size ≡ laid.size + size_of it → next.size ≤ image_room → (of_words ≡ true → next.size % 4 ≡ 0) → result_err (layout_with_all line next these) ≡ cond (nat_lt image_room (next.size + sum_by size_of these)) (Some TooLarge) None)
+more_by : (line : ℕ) (laid : LayoutSoFar) (it : Statement) (these : List Statement) (of_words unaligned large : Bool) → IsOf of_words it → of_words && not (laid.size % 4 == 0) ≡ unaligned → nat_lt IMAGE_ROOM (laid.size + size_of it) ≡ large
+    → ((next : LayoutSoFar) → next.size ≡ laid.size + size_of it → next.size ≤ IMAGE_ROOM → (of_words ≡ true → next.size % 4 ≡ 0) → result_err (layout_with_all line next these) ≡ cond (nat_lt IMAGE_ROOM (next.size + sum_by size_of these)) (Some TooLarge) None)
     → result_err ((refusal unaligned Unaligned >>= λ aligned. refusal large TooLarge >>= λ fits. Ok (layout_of laid.names (laid.statements ++ record { line = line; statement = it } ∷ []) (laid.size + size_of it))) >>= λ one. layout_with_all line one these)
-    ≡ cond unaligned (Some Unaligned) (cond (nat_lt image_room (laid.size + sum_by size_of (it ∷ these))) (Some TooLarge) None)
+    ≡ cond unaligned (Some Unaligned) (cond (nat_lt IMAGE_ROOM (laid.size + sum_by size_of (it ∷ these))) (Some TooLarge) None)
 more_by line laid it these of_words true large of e f others = refl
 more_by line laid it these of_words false true of e f others =
     let over = ltb-true _ _ f in
     let split : sum_by size_of (it ∷ these) ≡ size_of it + sum_by size_of these = sum_by-cons size_of it these in
-    let more : nat_lt image_room (laid.size + sum_by size_of (it ∷ these)) ≡ true = lt-ltb _ _ (omega (arith, split)) in
+    let more : nat_lt IMAGE_ROOM (laid.size + sum_by size_of (it ∷ these)) ≡ true = lt-ltb _ _ (omega (arith, split)) in
     rw more refl
 more_by line laid it these of_words false false of e f others =
     let next = layout_of laid.names (laid.statements ++ record { line = line; statement = it } ∷ []) (laid.size + size_of it) in
     let split : sum_by size_of (it ∷ these) ≡ size_of it + sum_by size_of these = sum_by-cons size_of it these in
     let total : next.size + sum_by size_of these ≡ laid.size + sum_by size_of (it ∷ these) = omega (arith, split) in
     others next refl (ltb-false _ _ f) (λ w. aligned of_words (laid.size) (size_of it) w e (of.whole w))
-    ∙ ap (λ (n : ℕ). cond (nat_lt image_room n) (Some TooLarge) None) total
+    ∙ ap (λ (n : ℕ). cond (nat_lt IMAGE_ROOM n) (Some TooLarge) None) total
   where
     aligned : (of_words : Bool) (size more : ℕ) → of_words ≡ true → of_words && not (size % 4 == 0) ≡ false → more % 4 ≡ 0 → (size + more) % 4 ≡ 0
     aligned false size more w e h = absurd cc
@@ -110,21 +110,21 @@ even : (of_words : Bool) (size : ℕ) → (of_words ≡ true → size % 4 ≡ 0)
 even false size h = refl
 even true size h = let e : (size % 4 == 0) ≡ true = eq-eqb _ _ (h refl) in rw e refl
 
-rest_placed : (line : ℕ) (of_words : Bool) (these : List Statement) (laid : LayoutSoFar) → AreOf of_words these → laid.size ≤ image_room → (of_words ≡ true → laid.size % 4 ≡ 0)
-    → result_err (layout_with_all line laid these) ≡ cond (nat_lt image_room (laid.size + sum_by size_of these)) (Some TooLarge) None
+rest_placed : (line : ℕ) (of_words : Bool) (these : List Statement) (laid : LayoutSoFar) → AreOf of_words these → laid.size ≤ IMAGE_ROOM → (of_words ≡ true → laid.size % 4 ≡ 0)
+    → result_err (layout_with_all line laid these) ≡ cond (nat_lt IMAGE_ROOM (laid.size + sum_by size_of these)) (Some TooLarge) None
 unfolding layout_with_all layout_with_statement
-rest_placed line of_words [] laid are le h = let e : nat_lt image_room (laid.size + 0) ≡ false = le-ltb _ _ (omega arith) in rw e refl
+rest_placed line of_words [] laid are le h = let e : nat_lt IMAGE_ROOM (laid.size + 0) ≡ false = le-ltb _ _ (omega arith) in rw e refl
 rest_placed line of_words (it ∷ these) laid are le h =
-    ap (λ (w : Bool). result_err ((refusal (w && not (laid.size % 4 == 0)) Unaligned >>= λ aligned. refusal (nat_lt image_room (laid.size + size_of it)) TooLarge >>= λ fits. Ok (layout_of laid.names (laid.statements ++ record { line = line; statement = it } ∷ []) (laid.size + size_of it))) >>= λ one. layout_with_all line one these)) are.0.lays
-    ∙ more_by line laid it these of_words (of_words && not (laid.size % 4 == 0)) (nat_lt image_room (laid.size + size_of it)) are.0 refl refl (λ next e small w. rest_placed line of_words these next are.1 small w)
-    ∙ ap (λ (b : Bool). cond b (Some Unaligned) (cond (nat_lt image_room (laid.size + sum_by size_of (it ∷ these))) (Some TooLarge) None)) (even of_words laid.size h)
+    ap (λ (w : Bool). result_err ((refusal (w && not (laid.size % 4 == 0)) Unaligned >>= λ aligned. refusal (nat_lt IMAGE_ROOM (laid.size + size_of it)) TooLarge >>= λ fits. Ok (layout_of laid.names (laid.statements ++ record { line = line; statement = it } ∷ []) (laid.size + size_of it))) >>= λ one. layout_with_all line one these)) are.0.lays
+    ∙ more_by line laid it these of_words (of_words && not (laid.size % 4 == 0)) (nat_lt IMAGE_ROOM (laid.size + size_of it)) are.0 refl refl (λ next e small w. rest_placed line of_words these next are.1 small w)
+    ∙ ap (λ (b : Bool). cond b (Some Unaligned) (cond (nat_lt IMAGE_ROOM (laid.size + sum_by size_of (it ∷ these))) (Some TooLarge) None)) (even of_words laid.size h)
 
 all_placed : (line : ℕ) (of_words : Bool) (it : Statement) (these : List Statement) (laid : LayoutSoFar) → AreOf of_words (it ∷ these)
     → result_err (layout_with_all line laid (it ∷ these)) ≡ room_kind laid.size of_words (sum_by size_of (it ∷ these))
 unfolding layout_with_all layout_with_statement
 all_placed line of_words it these laid are =
-    ap (λ (w : Bool). result_err ((refusal (w && not (laid.size % 4 == 0)) Unaligned >>= λ aligned. refusal (nat_lt image_room (laid.size + size_of it)) TooLarge >>= λ fits. Ok (layout_of laid.names (laid.statements ++ record { line = line; statement = it } ∷ []) (laid.size + size_of it))) >>= λ one. layout_with_all line one these)) are.0.lays
-    ∙ more_by line laid it these of_words (of_words && not (laid.size % 4 == 0)) (nat_lt image_room (laid.size + size_of it)) are.0 refl refl (λ next e small w. rest_placed line of_words these next are.1 small w)
+    ap (λ (w : Bool). result_err ((refusal (w && not (laid.size % 4 == 0)) Unaligned >>= λ aligned. refusal (nat_lt IMAGE_ROOM (laid.size + size_of it)) TooLarge >>= λ fits. Ok (layout_of laid.names (laid.statements ++ record { line = line; statement = it } ∷ []) (laid.size + size_of it))) >>= λ one. layout_with_all line one these)) are.0.lays
+    ∙ more_by line laid it these of_words (of_words && not (laid.size % 4 == 0)) (nat_lt IMAGE_ROOM (laid.size + size_of it)) are.0 refl refl (λ next e small w. rest_placed line of_words these next are.1 small w)
 
 -- ---- what a statement lays is of one kind
 
@@ -159,7 +159,7 @@ AreGathered of_words count (Ok these) = AreOf of_words these × (length these �
 AreGathered of_words count (Err kind) = Unit {0}
 
 gathered_are : (of_words : Bool) (count : ℕ) (so_far : Result (List Statement) AsmKind) (value : Result Statement AsmKind) → AreGathered of_words count so_far → ((it : Statement) → value ≡ Ok it → IsOf of_words it) → AreGathered of_words (count + 1) (with_judged so_far value)
-unfolding with_judged both
+unfolding with_judged pair_judgment
 gathered_are of_words count (Ok these) (Ok it) are h = (pushed of_words these it are.0 (h it refl), omega (arith, are.1, length-append these (it ∷ [])))
 gathered_are of_words count (Ok these) (Err kind) are h = tt
 gathered_are of_words count (Err kind) (Ok it) are h = tt
@@ -173,8 +173,8 @@ all_are of_words judge (text ∷ texts) count so_far h are =
     let same : count + 1 + length texts ≡ count + length (text ∷ texts) = omega arith in
     subst (λ (n : ℕ). AreGathered of_words n (fold with_judged so_far (map judge (text ∷ texts)))) same more
 
-listed_are : (of_words : Bool) (judge : List ℕ → Result Statement AsmKind) (operands : List ℕ) (these : List Statement) → ((text : List ℕ) (it : Statement) → judge text ≡ Ok it → IsOf of_words it) → all_of (map judge (pieces operands)) ≡ Ok these → AreAllOf of_words these
-unfolding all_of
+listed_are : (of_words : Bool) (judge : List ℕ → Result Statement AsmKind) (operands : List ℕ) (these : List Statement) → ((text : List ℕ) (it : Statement) → judge text ≡ Ok it → IsOf of_words it) → judgment_of_list (map judge (pieces operands)) ≡ Ok these → AreAllOf of_words these
+unfolding judgment_of_list
 listed_are of_words judge operands these h e =
     let are = subst (AreGathered of_words (0 + length (pieces operands))) e (all_are of_words judge (pieces operands) 0 (Ok []) h (tt, refl)) in
     record { some = omega (arith, are.1, some_pieces operands); each = are.0 }
@@ -209,23 +209,23 @@ byte_item names text it e = in_one (IsOf false) (number_in_range LEAST_BYTE GREA
 module _ (names : Names) (operands : List ℕ) (these : List Statement) where
   statements_are : (mnemonic : Mnemonic) → statements_of mnemonic names operands ≡ Ok these → AreAllOf (is_of_words mnemonic) these
   unfolding statements_of
-  statements_are (words.Plain inst) e = from_ok (AreAllOf true) (no_piece operands) (λ x. statements.Inst inst ∷ []) these (λ x. one_word _ refl refl) e
-  statements_are words.Lui e = from_ok (AreAllOf true) (register_upper names operands) (λ it. statements.Inst (insts.Lui it.0 it.1) ∷ []) these (λ x. one_word _ refl refl) e
-  statements_are words.Auipc e = from_ok (AreAllOf true) (register_upper names operands) (λ it. statements.Inst (insts.Auipc it.0 it.1) ∷ []) these (λ x. one_word _ refl refl) e
-  statements_are words.Jalr e = from_ok (AreAllOf true) (register_memory names operands) (λ it. statements.Inst (insts.Jalr it.0 it.2 it.1) ∷ []) these (λ x. one_word _ refl refl) e
-  statements_are (words.Load op) e = from_ok (AreAllOf true) (register_memory names operands) (λ it. statements.Inst (insts.Load op it.0 it.2 it.1) ∷ []) these (λ x. one_word _ refl refl) e
-  statements_are (words.Store op) e = from_ok (AreAllOf true) (register_memory names operands) (λ it. statements.Inst (insts.Store op it.2 it.0 it.1) ∷ []) these (λ x. one_word _ refl refl) e
-  statements_are (words.OpImm op) e = from_ok (AreAllOf true) (registers_immediate names op operands) (λ it. statements.Inst (insts.OpImm op it.0 it.1 it.2) ∷ []) these (λ x. one_word _ refl refl) e
-  statements_are (words.Op op) e = from_ok (AreAllOf true) (three_registers operands) (λ it. statements.Inst (insts.Op op it.0 it.1 it.2) ∷ []) these (λ x. one_word _ refl refl) e
-  statements_are words.Mv e = from_ok (AreAllOf true) (two_registers operands) (λ it. statements.Inst (insts.OpImm Addi it.0 it.1 (pos 0)) ∷ []) these (λ x. one_word _ refl refl) e
-  statements_are words.Li e = from_ok (AreAllOf true) (register_word names operands) (λ it. map (λ inst. statements.Inst inst) (load_word it.0 it.1)) these (λ x. li_words (is_short x.1) x.0 x.1) e
-  statements_are words.La e = from_ok (AreAllOf true) (register_label operands) (λ it. statements.La it.0 it.1 ∷ []) these (λ x. one_word _ refl refl) e
-  statements_are words.Jal e = from_ok (AreAllOf true) (register_label operands) (λ it. statements.Jal it.0 it.1 ∷ []) these (λ x. one_word _ refl refl) e
-  statements_are (words.Jump rd) e = from_ok (AreAllOf true) (one_label operands) (λ it. statements.Jal rd it ∷ []) these (λ x. one_word _ refl refl) e
-  statements_are (words.Branch op) e = from_ok (AreAllOf true) (registers_label operands) (λ it. statements.Branch op it.0 it.1 it.2 ∷ []) these (λ x. one_word _ refl refl) e
-  statements_are words.Word e = listed_are true (word_value names) operands these (word_item names) e
-  statements_are words.Byte e = listed_are false (byte_value names) operands these (byte_item names) e
-  statements_are words.Zero e = from_ok (AreAllOf false) (zero_count names operands) (λ it. statements.Zero it ∷ []) these (λ x. record { some = omega arith; each = (byte_is _ refl, tt) }) e
+  statements_are (mnemonics.Plain inst) e = from_ok (AreAllOf true) (no_piece operands) (λ x. statements.Inst inst ∷ []) these (λ x. one_word _ refl refl) e
+  statements_are mnemonics.Lui e = from_ok (AreAllOf true) (register_upper names operands) (λ it. statements.Inst (insts.Lui it.0 it.1) ∷ []) these (λ x. one_word _ refl refl) e
+  statements_are mnemonics.Auipc e = from_ok (AreAllOf true) (register_upper names operands) (λ it. statements.Inst (insts.Auipc it.0 it.1) ∷ []) these (λ x. one_word _ refl refl) e
+  statements_are mnemonics.Jalr e = from_ok (AreAllOf true) (register_memory names operands) (λ it. statements.Inst (insts.Jalr it.0 it.2 it.1) ∷ []) these (λ x. one_word _ refl refl) e
+  statements_are (mnemonics.Load op) e = from_ok (AreAllOf true) (register_memory names operands) (λ it. statements.Inst (insts.Load op it.0 it.2 it.1) ∷ []) these (λ x. one_word _ refl refl) e
+  statements_are (mnemonics.Store op) e = from_ok (AreAllOf true) (register_memory names operands) (λ it. statements.Inst (insts.Store op it.2 it.0 it.1) ∷ []) these (λ x. one_word _ refl refl) e
+  statements_are (mnemonics.OpImm op) e = from_ok (AreAllOf true) (registers_immediate names op operands) (λ it. statements.Inst (insts.OpImm op it.0 it.1 it.2) ∷ []) these (λ x. one_word _ refl refl) e
+  statements_are (mnemonics.Op op) e = from_ok (AreAllOf true) (three_registers operands) (λ it. statements.Inst (insts.Op op it.0 it.1 it.2) ∷ []) these (λ x. one_word _ refl refl) e
+  statements_are mnemonics.Mv e = from_ok (AreAllOf true) (two_registers operands) (λ it. statements.Inst (insts.OpImm Addi it.0 it.1 (pos 0)) ∷ []) these (λ x. one_word _ refl refl) e
+  statements_are mnemonics.Li e = from_ok (AreAllOf true) (register_word names operands) (λ it. map (λ inst. statements.Inst inst) (load_word it.0 it.1)) these (λ x. li_words (is_short x.1) x.0 x.1) e
+  statements_are mnemonics.La e = from_ok (AreAllOf true) (register_label operands) (λ it. statements.La it.0 it.1 ∷ []) these (λ x. one_word _ refl refl) e
+  statements_are mnemonics.Jal e = from_ok (AreAllOf true) (register_label operands) (λ it. statements.Jal it.0 it.1 ∷ []) these (λ x. one_word _ refl refl) e
+  statements_are (mnemonics.Jump rd) e = from_ok (AreAllOf true) (one_label operands) (λ it. statements.Jal rd it ∷ []) these (λ x. one_word _ refl refl) e
+  statements_are (mnemonics.Branch op) e = from_ok (AreAllOf true) (registers_label operands) (λ it. statements.Branch op it.0 it.1 it.2 ∷ []) these (λ x. one_word _ refl refl) e
+  statements_are mnemonics.Word e = listed_are true (word_value names) operands these (word_item names) e
+  statements_are mnemonics.Byte e = listed_are false (byte_value names) operands these (byte_item names) e
+  statements_are mnemonics.Zero e = from_ok (AreAllOf false) (zero_count names operands) (λ it. statements.Zero it ∷ []) these (λ x. record { some = omega arith; each = (byte_is _ refl, tt) }) e
 
 -- ---- a statement
 
@@ -257,12 +257,12 @@ equ_then false kind = or_then_none kind
 module _ (line : ℕ) (laid : LayoutSoFar) (word operands : List ℕ) where
   statement_by : (colon equ_word : Bool)
       → result_err (refusal colon UnknownWord >>= λ so. cond equ_word (layout_with_number laid operands) (layout_with_statements line laid word operands))
-      ≡ cond colon (Some UnknownWord) (cond (equ_word && is_taken laid.names (without_outer_blanks (cut is_comma operands).0)) (Some NameTaken) (cond (not equ_word && is_none (mnemonic_of word)) (Some UnknownWord)
+      ≡ cond colon (Some UnknownWord) (cond (equ_word && is_taken laid.names (without_outer_blanks (cut_parts is_comma operands).0)) (Some NameTaken) (cond (not equ_word && is_none (mnemonic_of word)) (Some UnknownWord)
       (or_then (operand_kind laid.names equ_word (mnemonic_of word) operands) (place_kind laid.names laid.size equ_word (mnemonic_of word) operands))))
   unfolding layout_with_statements
   statement_by true equ_word = refl
   statement_by false true =
-      equ_fault laid operands ∙ equ_then (is_taken laid.names (without_outer_blanks (cut is_comma operands).0)) (operands_fault laid.names (a_name ∷ any_number ∷ []) (operand_texts operands))
+      equ_fault laid operands ∙ equ_then (is_taken laid.names (without_outer_blanks (cut_parts is_comma operands).0)) (operands_fault laid.names (a_name ∷ any_number ∷ []) (operand_texts operands))
   statement_by false false = lay_by line laid (mnemonic_of word) operands
 
 -- the first fault of a statement, in the order of its steps
@@ -270,7 +270,7 @@ abbrev in_steps : Names → ℕ → List ℕ → Option AsmKind
 in_steps names size it = cond (has_colon it) (Some UnknownWord) (cond (takes_name names it) (Some NameTaken) (cond (is_strange it) (Some UnknownWord) (statement_kind names size it)))
 
 nothing_equ : is_equ [] ≡ false
-unfolding cut
+unfolding cut_parts
 nothing_equ = refl
 
 statement_judged : (line : ℕ) (laid : LayoutSoFar) (it : List ℕ) → result_err (statement line laid it) ≡ in_steps laid.names laid.size it
@@ -295,15 +295,15 @@ statement_in_order line laid it = statement_judged line laid it ∙ in_order (ha
 
 module _ (line : ℕ) (laid : LayoutSoFar) (label it : List ℕ) where
   labelled_by : (named taken : Bool) → is_taken laid.names label ≡ taken
-      → result_err (refusal (not named) UnknownWord >>= λ so. refusal taken NameTaken >>= λ free. statement line (layout_of (with_name laid.names label (Label (image_start + laid.size))) laid.statements laid.size) it)
+      → result_err (refusal (not named) UnknownWord >>= λ so. refusal taken NameTaken >>= λ free. statement line (layout_of (with_name laid.names label (Label (PRIVATE_START + laid.size))) laid.statements laid.size) it)
       ≡ cond (not (not named) && (taken || (not (has_colon it) && takes_name (names_with laid (Some label)) it))) (Some NameTaken)
       (cond (not named || (has_colon it || is_strange it)) (Some UnknownWord) (statement_kind (names_with laid (Some label)) laid.size it))
   labelled_by false taken e = refl
   labelled_by true true e = refl
-  labelled_by true false e = statement_in_order line (layout_of (with_name laid.names label (Label (image_start + laid.size))) laid.statements laid.size) it
+  labelled_by true false e = statement_in_order line (layout_of (with_name laid.names label (Label (PRIVATE_START + laid.size))) laid.statements laid.size) it
 
-  flat : (taken : Bool) → ((refusal taken NameTaken >>= λ free. Ok (layout_of (with_name laid.names label (Label (image_start + laid.size))) laid.statements laid.size)) >>= λ defined. statement line defined it)
-      ≡ (refusal taken NameTaken >>= λ free. statement line (layout_of (with_name laid.names label (Label (image_start + laid.size))) laid.statements laid.size) it)
+  flat : (taken : Bool) → ((refusal taken NameTaken >>= λ free. Ok (layout_of (with_name laid.names label (Label (PRIVATE_START + laid.size))) laid.statements laid.size)) >>= λ defined. statement line defined it)
+      ≡ (refusal taken NameTaken >>= λ free. statement line (layout_of (with_name laid.names label (Label (PRIVATE_START + laid.size))) laid.statements laid.size) it)
   flat true = refl
   flat false = refl
 
@@ -321,5 +321,5 @@ plain_by false r = refl
 pub lines_judged : (number : ℕ) (laid : LayoutSoFar) (line : List ℕ) → result_err (line_laid number laid line) ≡ line_fault laid line
 unfolding line_laid line_fault label_of
 lines_judged number laid line =
-    plain_by (list_all is_plain (before_comment line)) (labelled_statement number laid (cut is_colon (before_comment line)).0 (cut is_colon (before_comment line)).1)
-    ∙ ap (λ (kind : Option AsmKind). cond (not (list_all is_plain (before_comment line))) (Some BadByte) kind) (labelled_judged number laid (cut is_colon (before_comment line)))
+    plain_by (list_all is_plain (before_comment line)) (labelled_statement number laid (cut_parts is_colon (before_comment line)).0 (cut_parts is_colon (before_comment line)).1)
+    ∙ ap (λ (kind : Option AsmKind). cond (not (list_all is_plain (before_comment line))) (Some BadByte) kind) (labelled_judged number laid (cut_parts is_colon (before_comment line)))

@@ -6,8 +6,7 @@ use Rattle.std.specs.Cmp.Lexicographic.{bytes_decides}
 use Rattle.std.proofs.lemmas.Bool.{and_parts, or_parts, ltb-false, le-ltb, le-leb}
 use Rattle.std.proofs.lemmas.List.{take_all, append-nil}
 use Rattle.std.proofs.lemmas.Int.{ints}
-use Rattle.rv_model.specs.declared.limits.TheConstants.{GREATEST_IMMEDIATE, GREATEST_UPPER, LEAST_IMMEDIATE}
-use Rattle.rv_model.specs.Image.{image_start, image_room}
+use Rattle.rv_model.specs.declared.limits.TheConstants.{GREATEST_IMMEDIATE, GREATEST_UPPER, LEAST_IMMEDIATE, PRIVATE_START, IMAGE_ROOM}
 use Rattle.rv_model.specs.declared.inst.Inst.{Inst}
 use Rattle.rv_model.specs.declared.inst.Inst.TheVariants as insts
 use Rattle.rv_model.specs.declared.inst.ImmOp.{ImmOp}
@@ -15,7 +14,7 @@ use Rattle.rv_model.specs.declared.inst.ImmOp.TheVariants.{Addi, Slti, Sltiu, Xo
 use Rattle.rv_inst.specs.Valid.{IsValid, IsUpper, IsTwelveBits, IsImmediateOf}
 use Rattle.rv_image.specs.Fault.{is_entry}
 use Rattle.ce_text.specs.Bytes.{is_blank, is_plain}
-use Rattle.ce_text.specs.Line.{cut, without_outer_blanks, line_texts, before_comment, onto_trimmed, without_front_blanks, without_end_blanks}
+use Rattle.ce_text.specs.Line.{cut_parts, without_outer_blanks, line_texts, before_comment, onto_trimmed, without_front_blanks, without_end_blanks}
 use Rattle.rv_asm.specs.declared.fault.AsmKind.{AsmKind}
 use Rattle.rv_asm.specs.declared.mnemonic.Mnemonic.{Mnemonic}
 use Rattle.rv_asm.specs.declared.statement.Statement.{Statement}
@@ -25,12 +24,12 @@ use Rattle.rv_asm.specs.Line.{is_colon, is_token, is_opening, is_closing, pieces
 use Rattle.rv_asm.specs.Names.{Names, no_names}
 use Rattle.ce_text.specs.Table.{look_up}
 use Rattle.rv_asm.specs.Register.{register_names, named_register}
-use Rattle.rv_asm.specs.Words.{mnemonics, mnemonic_of}
-use Rattle.rv_asm.specs.Faults.{◌>>=◌, both}
-use Rattle.rv_asm.specs.Operand.{no_piece, two_pieces, three_pieces, register, number, number_in_range, twelve_bits, memory, in_brackets}
+use Rattle.rv_asm.specs.Words.{mnemonic_table, mnemonic_of}
+use Rattle.rv_asm.specs.Faults.{◌>>=◌, pair_judgment}
+use Rattle.rv_asm.specs.Operand.{no_piece, two_pieces, three_pieces, register, number, number_in_range, twelve_bits, memory, bracket_operand}
 use Rattle.rv_asm.specs.Sizes.{size_of}
 use Rattle.rv_asm.specs.Statements.{register_upper, register_memory, immediate, registers_immediate, three_registers, statements_of}
-use Rattle.rv_asm.specs.FirstPass.{LayoutSoFar, layout_of, nothing_laid, layout_with_statement, layout_with_all, layout_with_statements, statement, labelled_statement, line_laid, at_line, lines_laid, first_pass}
+use Rattle.rv_asm.specs.FirstPass.{LayoutSoFar, layout_of, nothing_laid, layout_with_statement, layout_with_all, layout_with_statements, statement, labelled_statement, line_laid, judgment_at_line, lines_laid, first_pass}
 use Rattle.rv_asm.specs.SecondPass.{Instruction, parts_of, second_pass}
 use Rattle.rv_asm.specs.Assembly.{assembly_of}
 use Rattle.rv_asm_laws.specs.Before.{label_part, label_of}
@@ -82,15 +81,15 @@ unfolding number_in_range
 reads_ranged names low high n text l h w = rw (reads_number names n text w, at_most low n l, at_most n high h) refl
 
 memory_by : (names : Names) (n : ℤ) (rs1 : ℕ) → IsTwelveBits n → (front : List ℕ) (rest : Option (List ℕ)) → is_bracketed rest ≡ true → IsNumberText n (without_outer_blanks front) → IsRegisterText rs1 (base_behind rest)
-    → in_brackets names front rest ≡ Ok (n, rs1)
-unfolding twelve_bits both
+    → bracket_operand names front rest ≡ Ok (n, rs1)
+unfolding twelve_bits pair_judgment
 memory_by names n rs1 small front None e offset base = absurd cc
 memory_by names n rs1 small front (Some behind) e offset base =
-    rw (e, reads_ranged names LEAST_IMMEDIATE GREATEST_IMMEDIATE n (without_outer_blanks front) small.0 small.1 offset, reads_register rs1 (without_outer_blanks (cut is_closing behind).0) base) refl
+    rw (e, reads_ranged names LEAST_IMMEDIATE GREATEST_IMMEDIATE n (without_outer_blanks front) small.0 small.1 offset, reads_register rs1 (without_outer_blanks (cut_parts is_closing behind).0) base) refl
 
 reads_memory : (names : Names) (n : ℤ) (rs1 : ℕ) (text : List ℕ) → IsTwelveBits n → IsMemoryText n rs1 text → memory names text ≡ Ok (n, rs1)
 unfolding memory
-reads_memory names n rs1 text small w = memory_by names n rs1 small (cut is_opening text).0 (cut is_opening text).1 w.closed w.offset w.base
+reads_memory names n rs1 text small w = memory_by names n rs1 small (cut_parts is_opening text).0 (cut_parts is_opening text).1 w.closed w.offset w.base
 
 -- ---- operands
 
@@ -127,7 +126,7 @@ not_negative n = omega (arith, ints)
 
 module _ (names : Names) (operands : List ℕ) where
   reads_upper : (rd imm : ℕ) → IsUpper imm → AreTwo (IsRegisterText rd) (IsUpperText imm) (operand_texts operands) → register_upper names operands ≡ Ok (rd, imm)
-  unfolding register_upper two_pieces both
+  unfolding register_upper two_pieces pair_judgment
   reads_upper rd imm upper h =
       let t = two_texts (IsRegisterText rd) (IsUpperText imm) (operand_texts operands) h in
       let w = t.4 in
@@ -135,7 +134,7 @@ module _ (names : Names) (operands : List ℕ) where
       (ap (λ (n : ℕ). Ok (rd, n)) (sym w.1))
 
   reads_place : (rd rs1 : ℕ) (imm : ℤ) → IsTwelveBits imm → AreTwo (IsRegisterText rd) (IsMemoryText imm rs1) (operand_texts operands) → register_memory names operands ≡ Ok (rd, imm, rs1)
-  unfolding register_memory two_pieces both
+  unfolding register_memory two_pieces pair_judgment
   reads_place rd rs1 imm small h =
       let t = two_texts (IsRegisterText rd) (IsMemoryText imm rs1) (operand_texts operands) h in
       rw (pieces_of operands t.0 (t.1 ∷ []) t.2, reads_register rd t.0 t.3, reads_memory names imm rs1 t.1 small t.4) refl
@@ -154,13 +153,13 @@ module _ (names : Names) (operands : List ℕ) where
 
   reads_with_immediate : (op : ImmOp) (rd rs1 : ℕ) (imm : ℤ) → IsImmediateOf op imm → AreThree (IsRegisterText rd) (IsRegisterText rs1) (IsNumberText imm) (operand_texts operands)
       → registers_immediate names op operands ≡ Ok (rd, rs1, imm)
-  unfolding registers_immediate three_pieces both
+  unfolding registers_immediate three_pieces pair_judgment
   reads_with_immediate op rd rs1 imm small h =
       let t = three_texts (IsRegisterText rd) (IsRegisterText rs1) (IsNumberText imm) (operand_texts operands) h in
       rw (pieces_of operands t.0 (t.1 ∷ t.2 ∷ []) t.3, reads_register rd t.0 t.4, reads_register rs1 t.1 t.5, reads_immediate op imm t.2 small t.6) refl
 
   reads_registers : (rd rs1 rs2 : ℕ) → AreThree (IsRegisterText rd) (IsRegisterText rs1) (IsRegisterText rs2) (operand_texts operands) → three_registers operands ≡ Ok (rd, rs1, rs2)
-  unfolding three_registers three_pieces both
+  unfolding three_registers three_pieces pair_judgment
   reads_registers rd rs1 rs2 h =
       let t = three_texts (IsRegisterText rd) (IsRegisterText rs1) (IsRegisterText rs2) (operand_texts operands) h in
       rw (pieces_of operands t.0 (t.1 ∷ t.2 ∷ []) t.3, reads_register rd t.0 t.4, reads_register rs1 t.1 t.5, reads_register rs2 t.2 t.6) refl
@@ -227,11 +226,11 @@ any_trimmed test bytes e = any_end test (without_front_blanks bytes) (any_front 
 
 -- a line without a label: no colon, and all of it is the statement
 record IsUnlabelled (code : List ℕ) : Type 0 where
-  none : (cut is_colon code).1 ≡ None
-  no_colon : list_any is_colon (without_outer_blanks (cut is_colon code).0) ≡ false
+  none : (cut_parts is_colon code).1 ≡ None
+  no_colon : list_any is_colon (without_outer_blanks (cut_parts is_colon code).0) ≡ false
 
-unlabelled_by : (code : List ℕ) (within : Bool) → nat_lt (position_or_len is_colon code) (length code) ≡ within → label_part (cut is_colon code) ≡ None → IsUnlabelled code
-unfolding cut
+unlabelled_by : (code : List ℕ) (within : Bool) → nat_lt (position_or_len is_colon code) (length code) ≡ within → label_part (cut_parts is_colon code) ≡ None → IsUnlabelled code
+unfolding cut_parts
 unlabelled_by code true lt e =
     let gone = outside (before_first is_colon code) (after_first is_colon code) true (rw lt at e) in
     absurd cc
@@ -261,11 +260,11 @@ unfolding line_laid
 line_is number laid line plain none =
     let code = before_comment line in
     let u = unlabelled line none in
-    let same : statement_text line ≡ without_outer_blanks (cut is_colon code).0 = behind_by (cut is_colon code).0 (cut is_colon code).1 u.none in
-    (ap (list_any is_colon) same ∙ u.no_colon, rw plain (labelled_by number laid (cut is_colon code).0 (cut is_colon code).1 u.none ∙ ap (statement number laid) (sym same)))
+    let same : statement_text line ≡ without_outer_blanks (cut_parts is_colon code).0 = behind_by (cut_parts is_colon code).0 (cut_parts is_colon code).1 u.none in
+    (ap (list_any is_colon) same ∙ u.no_colon, rw plain (labelled_by number laid (cut_parts is_colon code).0 (cut_parts is_colon code).1 u.none ∙ ap (statement number laid) (sym same)))
 
 no_equ : (word : List ℕ) (mnemonic : Mnemonic) (same : Bool) → bytes_eq word (codes ".equ") ≡ same → mnemonic_of word ≡ Some mnemonic → same ≡ false
-unfolding mnemonic_of mnemonics
+unfolding mnemonic_of mnemonic_table
 no_equ word mnemonic true e h =
     let known : mnemonic_of (codes ".equ") ≡ Some mnemonic = ap mnemonic_of (sym ((bytes_decides word (codes ".equ")).0 e)) ∙ h in
     absurd cc
@@ -274,7 +273,7 @@ no_equ word mnemonic false e h = refl
 -- what a statement with a known mnemonic lays
 statement_by : (number : ℕ) (laid : LayoutSoFar) (bytes : List ℕ) (mnemonic : Mnemonic) (these : List Statement) → list_any is_colon bytes ≡ false → mnemonic_of (word_in bytes) ≡ Some mnemonic
     → statements_of mnemonic laid.names (operands_in bytes) ≡ Ok these → statement number laid bytes ≡ layout_with_all number laid these
-unfolding statement layout_with_statements mnemonic_of mnemonics cut
+unfolding statement layout_with_statements mnemonic_of mnemonic_table cut_parts
 statement_by number laid [] mnemonic these colon known e = absurd cc
 statement_by number laid (byte ∷ bytes) mnemonic these colon known e =
     let other : bytes_eq (word_in (byte ∷ bytes)) (codes ".equ") ≡ false = no_equ (word_in (byte ∷ bytes)) mnemonic _ refl known in
@@ -289,12 +288,12 @@ with_instruction number laid inst = layout_of laid.names (laid.statements ++ rec
 -- there is room for so many words
 record HasRoom (laid : LayoutSoFar) (count : ℕ) : Type 0 where
   aligned : laid.size % 4 ≡ 0
-  fits : laid.size + 4 * count ≤ image_room
+  fits : laid.size + 4 * count ≤ IMAGE_ROOM
 
 placed_so : (number : ℕ) (laid : LayoutSoFar) (inst : Inst) (count : ℕ) → HasRoom laid (suc count) → layout_with_all number laid (statements.Inst inst ∷ []) ≡ Ok (with_instruction number laid inst)
 unfolding layout_with_all layout_with_statement with_instruction
 placed_so number laid inst count room =
-    let fits : nat_lt image_room (laid.size + 4) ≡ false = le-ltb _ _ (omega (arith, room.fits)) in
+    let fits : nat_lt IMAGE_ROOM (laid.size + 4) ≡ false = le-ltb _ _ (omega (arith, room.fits)) in
     rw (room.aligned, fits) refl
 
 line_written : (number : ℕ) (laid : LayoutSoFar) (line : List ℕ) (inst : Inst) (count : ℕ) → HasRoom laid (suc count) → IsWrittenAs inst line → line_laid number laid line ≡ Ok (with_instruction number laid inst)
@@ -332,7 +331,7 @@ are_behind_empty : (before : ℕ) (laid : LayoutSoFar) (line : List ℕ) (these 
 unfolding lines_laid
 are_behind_empty before laid line these insts w rest = record {
   placed = rest.placed;
-  laid_are = ap (λ (r : Result LayoutSoFar AsmKind). at_line (before + 1) r >>= λ one. lines_laid (before + 1) one these) (line_empty (before + 1) laid line w) ∙ rest.laid_are;
+  laid_are = ap (λ (r : Result LayoutSoFar AsmKind). judgment_at_line (before + 1) r >>= λ one. lines_laid (before + 1) one these) (line_empty (before + 1) laid line w) ∙ rest.laid_are;
   are = rest.are;
 }
 
@@ -344,7 +343,7 @@ are_behind before laid line these inst insts room w rest =
     record {
       placed = one ∷ rest.placed;
       laid_are =
-          ap (λ (r : Result LayoutSoFar AsmKind). at_line (before + 1) r >>= λ next. lines_laid (before + 1) next these) (line_written (before + 1) laid line inst (length insts) room w)
+          ap (λ (r : Result LayoutSoFar AsmKind). judgment_at_line (before + 1) r >>= λ next. lines_laid (before + 1) next these) (line_written (before + 1) laid line inst (length insts) room w)
           ∙ rest.laid_are
           ∙ ap (λ (placed : List PlacedStatement). Ok (layout_of laid.names placed (laid.size + 4 + 4 * length insts))) (append_assoc laid.statements (one ∷ []) rest.placed)
           ∙ ap (λ (n : ℕ). Ok (layout_of laid.names (laid.statements ++ one ∷ rest.placed) n)) (omega arith);
@@ -371,14 +370,14 @@ parts_so names address [] [] h = refl
 parts_so names address [] (inst ∷ insts) h = absurd h
 parts_so names address (it ∷ placed) [] h = absurd h
 parts_so names address (it ∷ placed) (inst ∷ insts) h =
-    ap (λ (statement : Statement). at_line it.line (parts_of names address statement) >>= λ here. second_pass names (address + size_of statement) placed >>= λ there. Ok (here ++ there)) h.0
+    ap (λ (statement : Statement). judgment_at_line it.line (parts_of names address statement) >>= λ here. second_pass names (address + size_of statement) placed >>= λ there. Ok (here ++ there)) h.0
     ∙ rw (parts_so names (address + 4) placed insts h.1) refl
 
-pub listing_assembles : (text : List ℕ) (insts : List Inst) → IsListing (line_texts text) insts → 0 < length insts → 4 * length insts ≤ image_room
-    → assembly_of text ≡ Ok (record { entry = image_start; parts = map Instruction insts })
+pub listing_assembles : (text : List ℕ) (insts : List Inst) → IsListing (line_texts text) insts → 0 < length insts → 4 * length insts ≤ IMAGE_ROOM
+    → assembly_of text ≡ Ok (record { entry = PRIVATE_START; parts = map Instruction insts })
 unfolding first_pass
 listing_assembles text insts h some fits =
     let all = are_written 0 nothing_laid (line_texts text) insts (record { aligned = refl; fits = omega (arith, fits) }) h in
     let laid = layout_of no_names all.placed (0 + 4 * length insts) in
-    let begins : is_entry image_start (0 + 4 * length insts) ≡ true = le-leb _ _ (omega (arith, some)) in
-    described text laid (map Instruction insts) all.laid_are (parts_so no_names image_start all.placed insts all.are) begins
+    let begins : is_entry PRIVATE_START (0 + 4 * length insts) ≡ true = le-leb _ _ (omega (arith, some)) in
+    described text laid (map Instruction insts) all.laid_are (parts_so no_names PRIVATE_START all.placed insts all.are) begins

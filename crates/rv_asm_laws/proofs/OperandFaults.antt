@@ -6,28 +6,27 @@ use Rattle.std.specs.List.{slice_split}
 use Rattle.std.proofs.lemmas.Bool.{ne_eqb, eq-eqb}
 use Rattle.std.proofs.lemmas.List.{length-map, length-replicate}
 use Rattle.std.proofs.lemmas.List.Splits.{length-slice_split}
-use Rattle.rv_model.specs.declared.limits.TheConstants.{GREATEST_IMMEDIATE, GREATEST_UPPER, LEAST_IMMEDIATE}
+use Rattle.rv_model.specs.declared.limits.TheConstants.{GREATEST_IMMEDIATE, GREATEST_UPPER, LEAST_IMMEDIATE, IMAGE_ROOM}
 use Rattle.rv_asm.specs.declared.statement.TheConstants.{GREATEST_BYTE, LEAST_BYTE}
 use Rattle.rv_model.specs.declared.inst.ImmOp.{ImmOp}
-use Rattle.rv_model.specs.Image.{image_room}
 use Rattle.rv_asm.specs.declared.fault.AsmKind.{AsmKind}
 use Rattle.rv_asm.specs.declared.fault.AsmKind.TheVariants.{Operands, BadRegister, BadNumber}
 use Rattle.rv_asm.specs.declared.symbols.Symbol.{Symbol}
 use Rattle.rv_asm.specs.declared.symbols.Symbol.TheVariants.{Label, Number}
 use Rattle.rv_asm.specs.declared.mnemonic.Mnemonic.{Mnemonic}
-use Rattle.rv_asm.specs.declared.mnemonic.Mnemonic.TheVariants as words
+use Rattle.rv_asm.specs.declared.mnemonic.Mnemonic.TheVariants as mnemonics
 use Rattle.rv_asm.specs.declared.statement.Statement.{Statement}
-use Rattle.ce_text.specs.Line.{cut, without_front_blanks, without_end_blanks, without_outer_blanks}
+use Rattle.ce_text.specs.Line.{cut_parts, without_front_blanks, without_end_blanks, without_outer_blanks}
 use Rattle.rv_asm.specs.Line.{pieces, is_comma, is_token, is_opening, is_closing}
 use Rattle.ce_text.specs.Name as text
 use Rattle.rv_asm.specs.Name.{is_name}
 use Rattle.rv_asm.specs.Register.{named_register}
 use Rattle.rv_asm.specs.Literal.{literal_of}
 use Rattle.rv_asm.specs.Names.{Names}
-use Rattle.rv_asm.specs.Faults.{◌>>=◌, refusal, or_fault, both, with_judged, all_of}
-use Rattle.rv_asm.specs.Operand.{one_of, two_of, three_of, one_piece, two_pieces, three_pieces, no_piece, register, number, number_named, number_in_range, name_piece, twelve_bits, is_closed, in_brackets, memory, least_immediate, greatest_immediate}
+use Rattle.rv_asm.specs.Faults.{◌>>=◌, refusal, or_fault, pair_judgment, with_judged, judgment_of_list}
+use Rattle.rv_asm.specs.Operand.{one_of, two_of, three_of, one_piece, two_pieces, three_pieces, no_piece, register, number, number_named, number_in_range, name_piece, twelve_bits, is_closed, bracket_operand, memory, least_immediate, greatest_immediate}
 use Rattle.rv_asm.specs.Statements.{register_upper, register_memory, immediate, registers_immediate, three_registers, two_registers, register_word, register_label, registers_label, one_label, value_named, word_value, byte_value, zero_count, statements_of}
-use Rattle.rv_asm_laws.specs.Forms.{Form, a_register, any_number, a_number, a_memory, a_name, a_value, number_meant, number_given, is_no_number, is_unknown, is_outside, is_bracketed, base_behind, is_malformed, lacks_register, lacks_number, lacks_name, first_kind, any_operand, operands_fault, operand_texts, statement_fault}
+use Rattle.rv_asm_laws.specs.Forms.{Form, a_register, any_number, a_number, a_memory, a_name, a_value, number_meant, number_given, is_no_number, is_unknown, is_outside, is_bracketed, base_behind, is_malformed, lacks_register, lacks_number, lacks_name, first_kind, has_operand, operands_fault, operand_texts, statement_fault}
 use Rattle.rv_asm_laws.proofs.FirstKinds.{earliest, first_kind-joined, or_assoc, or_false}
 
 -- ---- one operand
@@ -110,8 +109,8 @@ err_ok : {A B : Type 0} (r : Result A AsmKind) (make : A → B) → result_err (
 err_ok (Ok x) make = refl
 err_ok (Err kind) make = refl
 
-pub err_both : {A B : Type 0} (first : Result A AsmKind) (second : Result B AsmKind) → result_err (both first second) ≡ earliest (result_err first) (result_err second)
-unfolding both
+pub err_both : {A B : Type 0} (first : Result A AsmKind) (second : Result B AsmKind) → result_err (pair_judgment first second) ≡ earliest (result_err first) (result_err second)
+unfolding pair_judgment
 err_both (Ok first) (Ok second) = refl
 err_both (Ok first) (Err kind) = refl
 err_both (Err kind) (Ok second) = refl
@@ -133,7 +132,7 @@ bools offset base none number name =
     first_kind-joined (not offset) false number name (not base) none false false ∙ rw (not_both offset base, or_false number, or_false name) refl
 
 brackets_by : (closes : Bool) (names : Names) (offset base : List ℕ)
-    → result_err (refusal (not closes) Operands >>= λ it. both (twelve_bits names offset) (register base))
+    → result_err (refusal (not closes) Operands >>= λ it. pair_judgment (twelve_bits names offset) (register base))
     ≡ first_kind (not (closes && is_token offset && is_token base)) (is_none (named_register base)) (is_no_number offset || is_outside LEAST_IMMEDIATE GREATEST_IMMEDIATE (number_given names offset)) (is_unknown names offset)
 unfolding twelve_bits register
 brackets_by false names offset base = refl
@@ -142,15 +141,15 @@ brackets_by true names offset base =
     ∙ rw (in_range names LEAST_IMMEDIATE GREATEST_IMMEDIATE offset, register_by (is_token base) (named_register base))
     (bools (is_token offset) (is_token base) (is_none (named_register base)) (is_no_number offset || is_outside LEAST_IMMEDIATE GREATEST_IMMEDIATE (number_given names offset)) (is_unknown names offset))
 
-memory_by : (names : Names) (front : List ℕ) (rest : Option (List ℕ)) → result_err (in_brackets names front rest)
+memory_by : (names : Names) (front : List ℕ) (rest : Option (List ℕ)) → result_err (bracket_operand names front rest)
     ≡ first_kind (not (is_bracketed rest && is_token (without_outer_blanks front) && is_token (base_behind rest))) (is_none (named_register (base_behind rest)))
     (is_no_number (without_outer_blanks front) || is_outside LEAST_IMMEDIATE GREATEST_IMMEDIATE (number_given names (without_outer_blanks front))) (is_unknown names (without_outer_blanks front))
 memory_by names front None = refl
-memory_by names front (Some behind) = brackets_by (is_closed (cut is_closing behind).1) names (without_outer_blanks front) (without_outer_blanks (cut is_closing behind).0)
+memory_by names front (Some behind) = brackets_by (is_closed (cut_parts is_closing behind).1) names (without_outer_blanks front) (without_outer_blanks (cut_parts is_closing behind).0)
 
 memory_fault : (names : Names) (text : List ℕ) → result_err (memory names text) ≡ operand_fault names a_memory text
 unfolding memory operand_fault is_malformed lacks_register lacks_number lacks_name
-memory_fault names text = memory_by names (cut is_opening text).0 (cut is_opening text).1
+memory_fault names text = memory_by names (cut_parts is_opening text).0 (cut_parts is_opening text).1
 
 -- ---- so many operands
 
@@ -195,27 +194,27 @@ module _ (names : Names) where
   one_fault f judge make h (t ∷ u ∷ texts) = wrong names (f ∷ []) (t ∷ u ∷ texts) (ne_eqb _ _ (λ e. absurd (omega arith)))
 
   two_alone : {A B : Type 0} (f g : Form) (first : List ℕ → Result A AsmKind) (second : List ℕ → Result B AsmKind) → ((t : List ℕ) → result_err (first t) ≡ operand_fault names f t) → ((t : List ℕ) → result_err (second t) ≡ operand_fault names g t)
-      → (texts : List (List ℕ)) → result_err (two_of texts >>= λ parts. both (first parts.0) (second parts.1)) ≡ operands_fault names (f ∷ g ∷ []) texts
+      → (texts : List (List ℕ)) → result_err (two_of texts >>= λ parts. pair_judgment (first parts.0) (second parts.1)) ≡ operands_fault names (f ∷ g ∷ []) texts
   two_alone f g first second h k [] = wrong names (f ∷ g ∷ []) [] refl
   two_alone f g first second h k (t ∷ []) = wrong names (f ∷ g ∷ []) (t ∷ []) refl
   two_alone f g first second h k (t ∷ u ∷ []) = err_both (first t) (second u) ∙ rw (h t, k u) (joined_two names f g t u)
   two_alone f g first second h k (t ∷ u ∷ v ∷ texts) = wrong names (f ∷ g ∷ []) (t ∷ u ∷ v ∷ texts) (ne_eqb _ _ (λ e. absurd (omega arith)))
 
   two_fault : {A B C : Type 0} (f g : Form) (first : List ℕ → Result A AsmKind) (second : List ℕ → Result B AsmKind) (make : List ℕ × List ℕ → A × B → C) → ((t : List ℕ) → result_err (first t) ≡ operand_fault names f t) → ((t : List ℕ) → result_err (second t) ≡ operand_fault names g t)
-      → (texts : List (List ℕ)) → result_err (two_of texts >>= λ parts. both (first parts.0) (second parts.1) >>= λ values. Ok (make parts values)) ≡ operands_fault names (f ∷ g ∷ []) texts
+      → (texts : List (List ℕ)) → result_err (two_of texts >>= λ parts. pair_judgment (first parts.0) (second parts.1) >>= λ values. Ok (make parts values)) ≡ operands_fault names (f ∷ g ∷ []) texts
   two_fault f g first second make h k [] = wrong names (f ∷ g ∷ []) [] refl
   two_fault f g first second make h k (t ∷ []) = wrong names (f ∷ g ∷ []) (t ∷ []) refl
-  two_fault f g first second make h k (t ∷ u ∷ []) = err_ok (both (first t) (second u)) (make (t, u)) ∙ err_both (first t) (second u) ∙ rw (h t, k u) (joined_two names f g t u)
+  two_fault f g first second make h k (t ∷ u ∷ []) = err_ok (pair_judgment (first t) (second u)) (make (t, u)) ∙ err_both (first t) (second u) ∙ rw (h t, k u) (joined_two names f g t u)
   two_fault f g first second make h k (t ∷ u ∷ v ∷ texts) = wrong names (f ∷ g ∷ []) (t ∷ u ∷ v ∷ texts) (ne_eqb _ _ (λ e. absurd (omega arith)))
 
   three_fault : {A B C D : Type 0} (f g k : Form) (first : List ℕ → Result A AsmKind) (second : List ℕ → Result B AsmKind) (third : List ℕ → Result C AsmKind) (make : List ℕ × List ℕ × List ℕ → (A × B) × C → D)
       → ((t : List ℕ) → result_err (first t) ≡ operand_fault names f t) → ((t : List ℕ) → result_err (second t) ≡ operand_fault names g t) → ((t : List ℕ) → result_err (third t) ≡ operand_fault names k t)
-      → (texts : List (List ℕ)) → result_err (three_of texts >>= λ parts. both (both (first parts.0) (second parts.1)) (third parts.2) >>= λ values. Ok (make parts values)) ≡ operands_fault names (f ∷ g ∷ k ∷ []) texts
+      → (texts : List (List ℕ)) → result_err (three_of texts >>= λ parts. pair_judgment (pair_judgment (first parts.0) (second parts.1)) (third parts.2) >>= λ values. Ok (make parts values)) ≡ operands_fault names (f ∷ g ∷ k ∷ []) texts
   three_fault f g k first second third make h1 h2 h3 [] = wrong names (f ∷ g ∷ k ∷ []) [] refl
   three_fault f g k first second third make h1 h2 h3 (t ∷ []) = wrong names (f ∷ g ∷ k ∷ []) (t ∷ []) refl
   three_fault f g k first second third make h1 h2 h3 (t ∷ u ∷ []) = wrong names (f ∷ g ∷ k ∷ []) (t ∷ u ∷ []) refl
   three_fault f g k first second third make h1 h2 h3 (t ∷ u ∷ v ∷ []) =
-      err_ok (both (both (first t) (second u)) (third v)) (make (t, u, v)) ∙ err_both (both (first t) (second u)) (third v)
+      err_ok (pair_judgment (pair_judgment (first t) (second u)) (third v)) (make (t, u, v)) ∙ err_both (pair_judgment (first t) (second u)) (third v)
       ∙ ap (λ (it : Option AsmKind). earliest it (result_err (third v))) (err_both (first t) (second u))
       ∙ rw (h1 t, h2 u, h3 v) (joined_three names f g k t u v)
   three_fault f g k first second third make h1 h2 h3 (t ∷ u ∷ v ∷ w ∷ texts) = wrong names (f ∷ g ∷ k ∷ []) (t ∷ u ∷ v ∷ w ∷ texts) (ne_eqb _ _ (λ e. absurd (omega arith)))
@@ -224,17 +223,17 @@ module _ (names : Names) where
   all_faults : {A : Type 0} (f : Form) (judge : List ℕ → Result A AsmKind) → ((t : List ℕ) → result_err (judge t) ≡ operand_fault names f t) → (texts : List (List ℕ)) (so_far : Result (List A) AsmKind) (a b c d : Bool)
       → result_err so_far ≡ first_kind a b c d
       → result_err (fold with_judged so_far (map judge texts))
-      ≡ first_kind (a || any_operand is_malformed (replicate (length texts) f) texts) (b || any_operand lacks_register (replicate (length texts) f) texts) (c || any_operand (lacks_number names) (replicate (length texts) f) texts) (d || any_operand (lacks_name names) (replicate (length texts) f) texts)
+      ≡ first_kind (a || has_operand is_malformed (replicate (length texts) f) texts) (b || has_operand lacks_register (replicate (length texts) f) texts) (c || has_operand (lacks_number names) (replicate (length texts) f) texts) (d || has_operand (lacks_name names) (replicate (length texts) f) texts)
   unfolding with_judged operand_fault
   all_faults f judge h [] so_far a b c d e = e ∙ sym (rw (or_false a, or_false b, or_false c, or_false d) refl)
   all_faults f judge h (t ∷ texts) so_far a b c d e =
-      let here = err_ok (both so_far (judge t)) _ ∙ err_both so_far (judge t) ∙ rw (e, h t) (first_kind-joined a b c d (is_malformed f t) (lacks_register f t) (lacks_number names f t) (lacks_name names f t)) in
+      let here = err_ok (pair_judgment so_far (judge t)) _ ∙ err_both so_far (judge t) ∙ rw (e, h t) (first_kind-joined a b c d (is_malformed f t) (lacks_register f t) (lacks_number names f t) (lacks_name names f t)) in
       all_faults f judge h texts (with_judged so_far (judge t)) (a || is_malformed f t) (b || lacks_register f t) (c || lacks_number names f t) (d || lacks_name names f t) here
       ∙ rw (
-        or_assoc a (is_malformed f t) (any_operand is_malformed (replicate (length texts) f) texts),
-        or_assoc b (lacks_register f t) (any_operand lacks_register (replicate (length texts) f) texts),
-        or_assoc c (lacks_number names f t) (any_operand (lacks_number names) (replicate (length texts) f) texts),
-        or_assoc d (lacks_name names f t) (any_operand (lacks_name names) (replicate (length texts) f) texts),
+        or_assoc a (is_malformed f t) (has_operand is_malformed (replicate (length texts) f) texts),
+        or_assoc b (lacks_register f t) (has_operand lacks_register (replicate (length texts) f) texts),
+        or_assoc c (lacks_number names f t) (has_operand (lacks_number names) (replicate (length texts) f) texts),
+        or_assoc d (lacks_name names f t) (has_operand (lacks_name names) (replicate (length texts) f) texts),
       ) refl
 
 -- ---- what is written, as operands
@@ -277,7 +276,7 @@ unfolding pieces
 some_pieces operands = omega (arith, length-map (slice_split is_comma operands) without_outer_blanks, length-slice_split is_comma operands)
 
 listed_by : (names : Names) (f : Form) (texts : List (List ℕ)) → 0 < length texts
-    → first_kind (false || any_operand is_malformed (replicate (length texts) f) texts) (false || any_operand lacks_register (replicate (length texts) f) texts) (false || any_operand (lacks_number names) (replicate (length texts) f) texts) (false || any_operand (lacks_name names) (replicate (length texts) f) texts)
+    → first_kind (false || has_operand is_malformed (replicate (length texts) f) texts) (false || has_operand lacks_register (replicate (length texts) f) texts) (false || has_operand (lacks_number names) (replicate (length texts) f) texts) (false || has_operand (lacks_name names) (replicate (length texts) f) texts)
     ≡ operands_fault names (replicate (max 1 (length texts)) f) texts
 unfolding operands_fault
 listed_by names f texts some =
@@ -286,8 +285,8 @@ listed_by names f texts some =
     rw (most, same) refl
 
 listed : {A : Type 0} (names : Names) (f : Form) (judge : List ℕ → Result A AsmKind) → ((t : List ℕ) → result_err (judge t) ≡ operand_fault names f t) → is_malformed f [] ≡ true → (operands : List ℕ)
-    → result_err (all_of (map judge (pieces operands))) ≡ operands_fault names (replicate (max 1 (length (operand_texts operands))) f) (operand_texts operands)
-unfolding all_of
+    → result_err (judgment_of_list (map judge (pieces operands))) ≡ operands_fault names (replicate (max 1 (length (operand_texts operands))) f) (operand_texts operands)
+unfolding judgment_of_list
 listed names f judge h e [] =
     all_faults names f judge h (pieces []) (Ok []) false false false false refl ∙ listed_by names f (pieces []) (some_pieces [])
     ∙ ap (λ (texts : List (List ℕ)). operands_fault names (replicate (max 1 (length texts)) f) texts) pieces_nil
@@ -359,26 +358,26 @@ module _ (names : Names) (operands : List ℕ) where
   unfolding one_label one_piece
   jump_fault = one_fault names a_name name_piece (λ text value. text) (name_fault names) (pieces operands) ∙ written_one names a_name operands malformed_name
 
-  zeros_fault : result_err (zero_count names operands) ≡ operands_fault names (a_number (pos 0) (pos image_room) ∷ []) (operand_texts operands)
+  zeros_fault : result_err (zero_count names operands) ≡ operands_fault names (a_number (pos 0) (pos IMAGE_ROOM) ∷ []) (operand_texts operands)
   unfolding zero_count one_piece
-  zeros_fault = one_fault names (a_number (pos 0) (pos image_room)) (λ t. number_in_range (pos 0) (pos image_room) (number names t)) _ (ranged_fault names (pos 0) (pos image_room)) (pieces operands) ∙ written_one names _ operands (malformed_number (pos 0) (pos image_room))
+  zeros_fault = one_fault names (a_number (pos 0) (pos IMAGE_ROOM)) (λ t. number_in_range (pos 0) (pos IMAGE_ROOM) (number names t)) _ (ranged_fault names (pos 0) (pos IMAGE_ROOM)) (pieces operands) ∙ written_one names _ operands (malformed_number (pos 0) (pos IMAGE_ROOM))
 
 pub operands_judged : (mnemonic : Mnemonic) (names : Names) (operands : List ℕ) → result_err (statements_of mnemonic names operands) ≡ statement_fault names mnemonic operands
 unfolding statements_of
-operands_judged (words.Plain inst) names operands = none_taken names operands _
-operands_judged words.Lui names operands = err_ok (register_upper names operands) _ ∙ upper_fault names operands
-operands_judged words.Auipc names operands = err_ok (register_upper names operands) _ ∙ upper_fault names operands
-operands_judged words.Jalr names operands = err_ok (register_memory names operands) _ ∙ place_fault names operands
-operands_judged (words.Load op) names operands = err_ok (register_memory names operands) _ ∙ place_fault names operands
-operands_judged (words.Store op) names operands = err_ok (register_memory names operands) _ ∙ place_fault names operands
-operands_judged (words.OpImm op) names operands = err_ok (registers_immediate names op operands) _ ∙ immediate_fault names operands op
-operands_judged (words.Op op) names operands = err_ok (three_registers operands) _ ∙ registers_fault names operands
-operands_judged words.Mv names operands = err_ok (two_registers operands) _ ∙ pair_fault names operands
-operands_judged words.Li names operands = err_ok (register_word names operands) _ ∙ word_fault names operands
-operands_judged words.La names operands = err_ok (register_label operands) _ ∙ label_fault names operands
-operands_judged words.Jal names operands = err_ok (register_label operands) _ ∙ label_fault names operands
-operands_judged (words.Jump rd) names operands = err_ok (one_label operands) _ ∙ jump_fault names operands
-operands_judged (words.Branch op) names operands = err_ok (registers_label operands) _ ∙ branch_fault names operands
-operands_judged words.Word names operands = listed names a_value (word_value names) (value_fault names) malformed_value operands
-operands_judged words.Byte names operands = listed names (a_number LEAST_BYTE GREATEST_BYTE) (byte_value names) (byte_fault names) (malformed_number LEAST_BYTE GREATEST_BYTE) operands
-operands_judged words.Zero names operands = err_ok (zero_count names operands) _ ∙ zeros_fault names operands
+operands_judged (mnemonics.Plain inst) names operands = none_taken names operands _
+operands_judged mnemonics.Lui names operands = err_ok (register_upper names operands) _ ∙ upper_fault names operands
+operands_judged mnemonics.Auipc names operands = err_ok (register_upper names operands) _ ∙ upper_fault names operands
+operands_judged mnemonics.Jalr names operands = err_ok (register_memory names operands) _ ∙ place_fault names operands
+operands_judged (mnemonics.Load op) names operands = err_ok (register_memory names operands) _ ∙ place_fault names operands
+operands_judged (mnemonics.Store op) names operands = err_ok (register_memory names operands) _ ∙ place_fault names operands
+operands_judged (mnemonics.OpImm op) names operands = err_ok (registers_immediate names op operands) _ ∙ immediate_fault names operands op
+operands_judged (mnemonics.Op op) names operands = err_ok (three_registers operands) _ ∙ registers_fault names operands
+operands_judged mnemonics.Mv names operands = err_ok (two_registers operands) _ ∙ pair_fault names operands
+operands_judged mnemonics.Li names operands = err_ok (register_word names operands) _ ∙ word_fault names operands
+operands_judged mnemonics.La names operands = err_ok (register_label operands) _ ∙ label_fault names operands
+operands_judged mnemonics.Jal names operands = err_ok (register_label operands) _ ∙ label_fault names operands
+operands_judged (mnemonics.Jump rd) names operands = err_ok (one_label operands) _ ∙ jump_fault names operands
+operands_judged (mnemonics.Branch op) names operands = err_ok (registers_label operands) _ ∙ branch_fault names operands
+operands_judged mnemonics.Word names operands = listed names a_value (word_value names) (value_fault names) malformed_value operands
+operands_judged mnemonics.Byte names operands = listed names (a_number LEAST_BYTE GREATEST_BYTE) (byte_value names) (byte_fault names) (malformed_number LEAST_BYTE GREATEST_BYTE) operands
+operands_judged mnemonics.Zero names operands = err_ok (zero_count names operands) _ ∙ zeros_fault names operands

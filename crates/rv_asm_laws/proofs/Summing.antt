@@ -1,7 +1,7 @@
 -- What is laid out takes the sum of the sizes of its statements.
 use Rattle.std.proofs.Common.{◌≡◌, ℕ, ◌+◌, List, [], ◌∷◌, take, Result, Ok, Err, refl, ap, arith}
 use Rattle.std.proofs.lemmas.List.Sums.{sum_by-append}
-use Rattle.rv_model.specs.Image.{image_start}
+use Rattle.rv_model.specs.declared.limits.TheConstants.{PRIVATE_START}
 use Rattle.rv_asm.specs.declared.fault.AsmKind.{AsmKind}
 use Rattle.rv_asm.specs.Sizes.{size_of, statements_size}
 use Rattle.rv_asm.specs.FirstPass.{LayoutSoFar, nothing_laid, line_laid}
@@ -40,5 +40,5 @@ by_summed before laid (line ∷ these) h =
 before_summed : (these : List (List ℕ)) (i : ℕ) → IsSummed (layout_before these i)
 before_summed these i = by_summed 0 nothing_laid (take i these) (record { sum = refl })
 
-pub address_behind : (these : List (List ℕ)) (i : ℕ) → image_start + (layout_before these i).size ≡ image_start + statements_size (layout_before these i).statements
-address_behind these i = ap (λ (n : ℕ). image_start + n) (before_summed these i).sum
+pub address_behind : (these : List (List ℕ)) (i : ℕ) → PRIVATE_START + (layout_before these i).size ≡ PRIVATE_START + statements_size (layout_before these i).statements
+address_behind these i = ap (λ (n : ℕ). PRIVATE_START + n) (before_summed these i).sum

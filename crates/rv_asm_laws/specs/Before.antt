@@ -1,9 +1,9 @@
 -- What stands before a line, and what its label is.
 use Rattle.std.specs.Prelude.{◌≡◌, ℕ, ◌+◌, ◌<◌, List, [], ◌∷◌, length, take, slice_index_or, Option, Some, None, Result, Ok, Err, IsOk}
-use Rattle.rv_model.specs.Image.{image_start}
+use Rattle.rv_model.specs.declared.limits.TheConstants.{PRIVATE_START}
 use Rattle.rv_asm.specs.declared.fault.AsmKind.{AsmKind}
 use Rattle.rv_asm.specs.declared.fault.AsmFault.{AsmFault}
-use Rattle.ce_text.specs.Line.{cut, before_comment, without_outer_blanks}
+use Rattle.ce_text.specs.Line.{cut_parts, before_comment, without_outer_blanks}
 use Rattle.rv_asm.specs.Line.{is_colon}
 use Rattle.rv_asm.specs.FirstPass.{LayoutSoFar, nothing_laid, line_laid}
 
@@ -13,7 +13,7 @@ label_part (front, Some rest) = Some (without_outer_blanks front)
 
 -- the label of a line: what stands before its first colon
 unfoldable pub label_of : List ℕ → Option (List ℕ)
-label_of line = label_part (cut is_colon (before_comment line))
+label_of line = label_part (cut_parts is_colon (before_comment line))
 
 abbrev pub layout_or_given : LayoutSoFar → Result LayoutSoFar AsmKind → LayoutSoFar
 layout_or_given laid (Ok next) = next
@@ -51,4 +51,4 @@ pub record AreLaid (lines : List (List ℕ)) (laid : LayoutSoFar) : Type 0 where
 
 -- the address of a line's label: where what it lays begins
 abbrev pub address_at : List (List ℕ) → ℕ → ℕ
-address_at lines i = image_start + (layout_before lines i).size
+address_at lines i = PRIVATE_START + (layout_before lines i).size

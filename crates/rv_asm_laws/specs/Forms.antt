@@ -1,16 +1,15 @@
 -- What belongs in the places of a statement's operands, and how operands are faulty there: each kind of fault is a test of
 -- its own on an operand and on what names mean before its line.
 use Rattle.std.specs.Prelude.{ℕ, Bool, false, not, ◌&&◌, ◌||◌, ◌==◌, if◌then◌else◌, max, List, [], ◌∷◌, replicate, Option, Some, None, is_none, length, ℤ, pos, int_le}
-use Rattle.rv_model.specs.declared.limits.TheConstants.{GREATEST_IMMEDIATE, GREATEST_UPPER, LEAST_IMMEDIATE}
-use Rattle.rv_model.specs.Image.{image_room}
+use Rattle.rv_model.specs.declared.limits.TheConstants.{GREATEST_IMMEDIATE, GREATEST_UPPER, LEAST_IMMEDIATE, IMAGE_ROOM}
 use Rattle.rv_asm.specs.declared.statement.TheConstants.{GREATEST_BYTE, LEAST_BYTE}
 use Rattle.rv_asm.specs.declared.fault.AsmKind.{AsmKind}
 use Rattle.rv_asm.specs.declared.fault.AsmKind.TheVariants.{Operands, BadRegister, BadNumber, UnknownName}
 use Rattle.rv_asm.specs.declared.symbols.Symbol.{Symbol}
 use Rattle.rv_asm.specs.declared.symbols.Symbol.TheVariants.{Label, Number}
 use Rattle.rv_asm.specs.declared.mnemonic.Mnemonic.{Mnemonic}
-use Rattle.rv_asm.specs.declared.mnemonic.Mnemonic.TheVariants as words
-use Rattle.ce_text.specs.Line.{cut, without_outer_blanks}
+use Rattle.rv_asm.specs.declared.mnemonic.Mnemonic.TheVariants as mnemonics
+use Rattle.ce_text.specs.Line.{cut_parts, without_outer_blanks}
 use Rattle.rv_asm.specs.Line.{pieces, is_token, is_opening, is_closing}
 use Rattle.rv_asm.specs.Name.{is_name}
 use Rattle.rv_asm.specs.Register.{named_register}
@@ -58,26 +57,26 @@ is_outside least greatest (Some n) = not (int_le least n && int_le n greatest)
 
 abbrev pub is_bracketed : Option (List ℕ) → Bool
 is_bracketed None = false
-is_bracketed (Some behind) = is_closed (cut is_closing behind).1
+is_bracketed (Some behind) = is_closed (cut_parts is_closing behind).1
 
 -- what stands before the opening bracket
 abbrev pub offset_text : List ℕ → List ℕ
-offset_text text = without_outer_blanks (cut is_opening text).0
+offset_text text = without_outer_blanks (cut_parts is_opening text).0
 
 abbrev pub base_behind : Option (List ℕ) → List ℕ
 base_behind None = []
-base_behind (Some behind) = without_outer_blanks (cut is_closing behind).0
+base_behind (Some behind) = without_outer_blanks (cut_parts is_closing behind).0
 
 -- what stands between the brackets
 abbrev pub base_text : List ℕ → List ℕ
-base_text text = base_behind (cut is_opening text).1
+base_text text = base_behind (cut_parts is_opening text).1
 
 -- ---- faults of an operand
 
 -- it has not the form that belongs in its place
 unfoldable pub is_malformed : Form → List ℕ → Bool
 is_malformed a_name text = not (is_name text)
-is_malformed a_memory text = not (is_bracketed (cut is_opening text).1 && is_token (offset_text text) && is_token (base_text text))
+is_malformed a_memory text = not (is_bracketed (cut_parts is_opening text).1 && is_token (offset_text text) && is_token (base_text text))
 is_malformed form text = not (is_token text)
 
 -- where a register belongs, there is none
@@ -109,18 +108,18 @@ first_kind malformed register number name =
     if malformed then Some Operands else (if register then Some BadRegister else (if number then Some BadNumber else (if name then Some UnknownName else None)))
 
 -- some operand passes a test in its place
-abbrev pub any_operand : (Form → List ℕ → Bool) → List Form → List (List ℕ) → Bool
-any_operand test [] texts = false
-any_operand test (form ∷ forms) [] = false
-any_operand test (form ∷ forms) (text ∷ texts) = test form text || any_operand test forms texts
+abbrev pub has_operand : (Form → List ℕ → Bool) → List Form → List (List ℕ) → Bool
+has_operand test [] texts = false
+has_operand test (form ∷ forms) [] = false
+has_operand test (form ∷ forms) (text ∷ texts) = test form text || has_operand test forms texts
 
 -- the fault of operands in their places: each kind is judged over all of them before the next
 unfoldable pub operands_fault : Names → List Form → List (List ℕ) → Option AsmKind
 operands_fault names forms texts =
-    first_kind (not (length texts == length forms) || any_operand is_malformed forms texts)
-    (any_operand lacks_register forms texts)
-    (any_operand (lacks_number names) forms texts)
-    (any_operand (lacks_name names) forms texts)
+    first_kind (not (length texts == length forms) || has_operand is_malformed forms texts)
+    (has_operand lacks_register forms texts)
+    (has_operand (lacks_number names) forms texts)
+    (has_operand (lacks_name names) forms texts)
 
 -- the operands of a statement: none where nothing is written
 abbrev pub operand_texts : List ℕ → List (List ℕ)
@@ -129,23 +128,23 @@ operand_texts (byte ∷ bytes) = pieces (byte ∷ bytes)
 
 -- what belongs in the places of so many operands; `.word` and `.byte` have any number of them but none
 abbrev pub forms_of : Mnemonic → ℕ → List Form
-forms_of (words.Plain inst) count = []
-forms_of words.Lui count = a_register ∷ a_number (pos 0) GREATEST_UPPER ∷ []
-forms_of words.Auipc count = a_register ∷ a_number (pos 0) GREATEST_UPPER ∷ []
-forms_of words.Jalr count = a_register ∷ a_memory ∷ []
-forms_of (words.Load op) count = a_register ∷ a_memory ∷ []
-forms_of (words.Store op) count = a_register ∷ a_memory ∷ []
-forms_of (words.OpImm op) count = a_register ∷ a_register ∷ a_number (least_immediate op) (greatest_immediate op) ∷ []
-forms_of (words.Op op) count = a_register ∷ a_register ∷ a_register ∷ []
-forms_of words.Mv count = a_register ∷ a_register ∷ []
-forms_of words.Li count = a_register ∷ any_number ∷ []
-forms_of words.La count = a_register ∷ a_name ∷ []
-forms_of words.Jal count = a_register ∷ a_name ∷ []
-forms_of (words.Jump rd) count = a_name ∷ []
-forms_of (words.Branch op) count = a_register ∷ a_register ∷ a_name ∷ []
-forms_of words.Word count = replicate (max 1 count) a_value
-forms_of words.Byte count = replicate (max 1 count) (a_number LEAST_BYTE GREATEST_BYTE)
-forms_of words.Zero count = a_number (pos 0) (pos image_room) ∷ []
+forms_of (mnemonics.Plain inst) count = []
+forms_of mnemonics.Lui count = a_register ∷ a_number (pos 0) GREATEST_UPPER ∷ []
+forms_of mnemonics.Auipc count = a_register ∷ a_number (pos 0) GREATEST_UPPER ∷ []
+forms_of mnemonics.Jalr count = a_register ∷ a_memory ∷ []
+forms_of (mnemonics.Load op) count = a_register ∷ a_memory ∷ []
+forms_of (mnemonics.Store op) count = a_register ∷ a_memory ∷ []
+forms_of (mnemonics.OpImm op) count = a_register ∷ a_register ∷ a_number (least_immediate op) (greatest_immediate op) ∷ []
+forms_of (mnemonics.Op op) count = a_register ∷ a_register ∷ a_register ∷ []
+forms_of mnemonics.Mv count = a_register ∷ a_register ∷ []
+forms_of mnemonics.Li count = a_register ∷ any_number ∷ []
+forms_of mnemonics.La count = a_register ∷ a_name ∷ []
+forms_of mnemonics.Jal count = a_register ∷ a_name ∷ []
+forms_of (mnemonics.Jump rd) count = a_name ∷ []
+forms_of (mnemonics.Branch op) count = a_register ∷ a_register ∷ a_name ∷ []
+forms_of mnemonics.Word count = replicate (max 1 count) a_value
+forms_of mnemonics.Byte count = replicate (max 1 count) (a_number LEAST_BYTE GREATEST_BYTE)
+forms_of mnemonics.Zero count = a_number (pos 0) (pos IMAGE_ROOM) ∷ []
 
 -- the fault of a statement's operands
 abbrev pub statement_fault : Names → Mnemonic → List ℕ → Option AsmKind

@@ -4,7 +4,6 @@ use Rattle.rv_model.specs.Exec.{Access, next_state, with_reg, reg, exec, jump_ou
 use Rattle.rv_model.specs.declared.inst.BranchOp.{BranchOp}
 use Rattle.rv_inst.specs.Valid.{IsRegister}
 use Rattle.rv_asm_laws.specs.Effects.{HasInstructions, HasParts, steps, pc_behind}
-use Rattle.rv_model.specs.Image.{image_start, image_room}
 use Rattle.rv_asm.specs.Assembly.{assembly_of, entry_of}
 use Rattle.rv_asm_laws.specs.Listing.{IsListing}
 use Rattle.rv_asm.specs.Sizes.{statements_size}
@@ -12,19 +11,20 @@ use Rattle.rv_model.specs.declared.inst.Inst.{Inst}
 use Rattle.ce_text.specs.Line.{line_texts}
 use Rattle.rv_asm.specs.FirstPass.{LayoutSoFar, statement, line_laid, first_pass}
 use Rattle.rv_asm_laws.specs.Before.{label_of, line_at, address_at, layout_before, IsFirstFault, AreLaid}
-use Rattle.rv_asm.specs.Line.{is_colon, is_opening, is_closing}
+use Rattle.rv_asm.specs.Line.{is_colon, is_opening, is_closing, colon, comma, opening_bracket, closing_bracket}
 use Rattle.rv_asm.specs.Operand.{memory}
 use Rattle.rv_asm.specs.Names.{Names}
 use Rattle.rv_asm.specs.declared.mnemonic.Mnemonic.{Mnemonic}
 use Rattle.rv_asm_laws.specs.Forms.{statement_fault}
 use Rattle.rv_asm_laws.specs.LineFaults.{line_fault}
 use Rattle.rv_asm_laws.specs.LabelFaults.{label_fault, IsFirstLabelFault, HasLabels}
-use Rattle.ce_text.specs.Bytes.{is_hash, is_blank}
+use Rattle.ce_text.specs.Bytes.{is_hash, is_blank, hash}
 use Rattle.std.specs.List.{list_all, list_any}
 use Rattle.rv_asm.specs.declared.statement.Statement.{Statement}
 use Rattle.rv_asm.specs.declared.statement.PlacedStatement.{PlacedStatement}
 use Rattle.rv_asm.specs.Statements.{load_word, statements_of}
 use Rattle.std.specs.Result.{result_err}
+use Rattle.rv_model.specs.declared.limits.TheConstants.{PRIVATE_START, IMAGE_ROOM}
 use Rattle.rv_asm.specs.SecondPass.{Part, Instruction, parts_of, second_pass}
 use Rattle.rv_asm.specs.declared.fault.AsmFault.{AsmFault}
 use Rattle.rv_asm.specs.declared.symbols.Symbol.TheVariants.{Label}
@@ -64,7 +64,7 @@ BranchesReach = (A : Access (List ℕ)) (names : Names) (x m label : List ℕ)
 -- the address of a line is the start of the image and the sizes of all that is laid before it
 abbrev pub AddressesAreSizes : Type 0
 AddressesAreSizes = (text : List (List ℕ)) (i : ℕ)
-    → address_at text i ≡ image_start + statements_size (layout_before text i).statements
+    → address_at text i ≡ PRIVATE_START + statements_size (layout_before text i).statements
 
 -- a label's address is that of its line
 abbrev pub LabelsHaveAddresses : Type 0
@@ -83,7 +83,7 @@ abbrev pub UnlabelledEntriesAreStarts : Type 0
 UnlabelledEntriesAreStarts = (text : List ℕ) (laid : LayoutSoFar) → first_pass text ≡ Ok laid
     → ((i : ℕ) → i < length (line_texts text)
     → label_of (line_at (line_texts text) i) ≢ Some (codes "start"))
-    → entry_of laid.names ≡ image_start
+    → entry_of laid.names ≡ PRIVATE_START
 
 -- the first pass answers the first line that has a fault
 abbrev pub FirstFaultsAreAnswered : Type 0
@@ -125,8 +125,8 @@ AllLabelsAreThere = (names : Names) (address : ℕ) (placed : List PlacedStateme
 -- a listing assembles to its instructions, and is entered at the first
 abbrev pub ListingsAreAssembled : Type 0
 ListingsAreAssembled = (text : List ℕ) (insts : List Inst) → IsListing (line_texts text) insts
-    → 0 < length insts → 4 * length insts ≤ image_room
-    → assembly_of text ≡ Ok (record { entry = image_start; parts = map Instruction insts })
+    → 0 < length insts → 4 * length insts ≤ IMAGE_ROOM
+    → assembly_of text ≡ Ok (record { entry = PRIVATE_START; parts = map Instruction insts })
 
 -- ---- blanks change nothing
 
@@ -141,8 +141,8 @@ abbrev pub ColonBlanksGo : Type 0
 ColonBlanksGo = (number : ℕ) (laid : LayoutSoFar) (label before after rest : List ℕ)
     → list_any is_hash label ≡ false → list_any is_colon label ≡ false
     → list_all is_blank before ≡ true → list_all is_blank after ≡ true
-    → line_laid number laid (label ++ before ++ 58 ∷ (after ++ rest))
-    ≡ line_laid number laid (label ++ 58 ∷ rest)
+    → line_laid number laid (label ++ before ++ colon ∷ (after ++ rest))
+    ≡ line_laid number laid (label ++ colon ∷ rest)
 
 -- behind a mnemonic
 abbrev pub WordBlanksGo : Type 0
@@ -155,25 +155,25 @@ WordBlanksGo = (number : ℕ) (laid : LayoutSoFar) (word : List ℕ) (blank : �
 abbrev pub CommaBlanksGo : Type 0
 CommaBlanksGo = (mnemonic : Mnemonic) (names : Names) (first before after second : List ℕ)
     → list_all is_blank before ≡ true → list_all is_blank after ≡ true
-    → statements_of mnemonic names (first ++ before ++ 44 ∷ (after ++ second))
-    ≡ statements_of mnemonic names (first ++ 44 ∷ second)
+    → statements_of mnemonic names (first ++ before ++ comma ∷ (after ++ second))
+    ≡ statements_of mnemonic names (first ++ comma ∷ second)
 
 -- round an opening bracket
 abbrev pub OpeningBlanksGo : Type 0
 OpeningBlanksGo = (names : Names) (number before after base : List ℕ)
     → list_any is_opening number ≡ false
     → list_all is_blank before ≡ true → list_all is_blank after ≡ true
-    → memory names (number ++ before ++ 40 ∷ (after ++ base)) ≡ memory names (number ++ 40 ∷ base)
+    → memory names (number ++ before ++ opening_bracket ∷ (after ++ base)) ≡ memory names (number ++ opening_bracket ∷ base)
 
 -- round a closing bracket
 abbrev pub ClosingBlanksGo : Type 0
 ClosingBlanksGo = (names : Names) (number base before after : List ℕ)
     → list_any is_opening number ≡ false → list_any is_closing base ≡ false
     → list_all is_blank before ≡ true → list_all is_blank after ≡ true
-    → memory names (number ++ 40 ∷ (base ++ before ++ 41 ∷ after))
-    ≡ memory names (number ++ 40 ∷ (base ++ 41 ∷ []))
+    → memory names (number ++ opening_bracket ∷ (base ++ before ++ closing_bracket ∷ after))
+    ≡ memory names (number ++ opening_bracket ∷ (base ++ closing_bracket ∷ []))
 
 -- a comment changes nothing
 abbrev pub CommentsGo : Type 0
 CommentsGo = (number : ℕ) (laid : LayoutSoFar) (line comment : List ℕ) → list_any is_hash line ≡ false
-    → line_laid number laid (line ++ 35 ∷ comment) ≡ line_laid number laid line
+    → line_laid number laid (line ++ hash ∷ comment) ≡ line_laid number laid line

@@ -2,15 +2,15 @@
 -- line has is answered.
 use Rattle.std.specs.Prelude.{ℕ, ◌+◌, ◌%◌, Bool, false, true, not, ◌&&◌, ◌||◌, ◌==◌, nat_lt, if◌then◌else◌, List, [], ◌∷◌, sum_by, Option, Some, None, is_none, Result, Ok, Err, bytes_eq, codes}
 use Rattle.std.specs.List.{list_all, list_any}
-use Rattle.rv_model.specs.Image.{image_start, image_room}
+use Rattle.rv_model.specs.declared.limits.TheConstants.{PRIVATE_START, IMAGE_ROOM}
 use Rattle.rv_asm.specs.declared.fault.AsmKind.{AsmKind}
 use Rattle.rv_asm.specs.declared.fault.AsmKind.TheVariants.{BadByte, NameTaken, UnknownWord, Unaligned, TooLarge}
 use Rattle.rv_asm.specs.declared.symbols.Symbol.TheVariants.{Label}
 use Rattle.rv_asm.specs.declared.mnemonic.Mnemonic.{Mnemonic}
-use Rattle.rv_asm.specs.declared.mnemonic.Mnemonic.TheVariants as words
+use Rattle.rv_asm.specs.declared.mnemonic.Mnemonic.TheVariants as mnemonics
 use Rattle.rv_asm.specs.declared.statement.Statement.{Statement}
 use Rattle.ce_text.specs.Bytes.{is_plain, is_blank}
-use Rattle.ce_text.specs.Line.{cut, without_outer_blanks, before_comment}
+use Rattle.ce_text.specs.Line.{cut_parts, without_outer_blanks, before_comment}
 use Rattle.rv_asm.specs.Line.{is_colon, is_comma}
 use Rattle.rv_asm.specs.Name.{is_name}
 use Rattle.rv_asm.specs.Names.{Names, with_name, is_taken}
@@ -29,15 +29,15 @@ statement_part (front, Some rest) = without_outer_blanks rest
 
 -- what a line has behind its label
 abbrev pub statement_text : List ℕ → List ℕ
-statement_text line = statement_part (cut is_colon (before_comment line))
+statement_text line = statement_part (cut_parts is_colon (before_comment line))
 
 -- the word of a statement
 abbrev pub word_in : List ℕ → List ℕ
-word_in statement = (cut is_blank statement).0
+word_in statement = (cut_parts is_blank statement).0
 
 -- what stands behind the word
 abbrev pub operands_in : List ℕ → List ℕ
-operands_in statement = operands_of (cut is_blank statement).1
+operands_in statement = operands_of (cut_parts is_blank statement).1
 
 abbrev pub is_equ : List ℕ → Bool
 is_equ statement = bytes_eq (word_in statement) (codes ".equ")
@@ -45,7 +45,7 @@ is_equ statement = bytes_eq (word_in statement) (codes ".equ")
 -- what names mean once a line's label is defined
 abbrev pub names_with : LayoutSoFar → Option (List ℕ) → Names
 names_with laid None = laid.names
-names_with laid (Some label) = with_name laid.names label (Label (image_start + laid.size))
+names_with laid (Some label) = with_name laid.names label (Label (PRIVATE_START + laid.size))
 
 -- what a statement other than `.equ` lays
 abbrev pub statements_or_none : Result (List Statement) AsmKind → List Statement
@@ -54,15 +54,15 @@ statements_or_none (Err kind) = []
 
 -- `.byte` and `.zero` lay bytes, and the others words
 abbrev pub is_of_words : Mnemonic → Bool
-is_of_words words.Byte = false
-is_of_words words.Zero = false
+is_of_words mnemonics.Byte = false
+is_of_words mnemonics.Zero = false
 is_of_words mnemonic = true
 
 -- ---- a statement
 
 -- `.equ` gives a name that means something already
 abbrev pub takes_name : Names → List ℕ → Bool
-takes_name names statement = is_equ statement && is_taken names (without_outer_blanks (cut is_comma (operands_in statement)).0)
+takes_name names statement = is_equ statement && is_taken names (without_outer_blanks (cut_parts is_comma (operands_in statement)).0)
 
 -- a second colon, or a word that begins nothing
 abbrev pub is_strange : List ℕ → Bool
@@ -78,7 +78,7 @@ operand_kind names false (Some mnemonic) operands = statement_fault names mnemon
 -- a word of the image at an address that is no multiple of 4, or more bytes than an image has room for
 abbrev pub room_kind : ℕ → Bool → ℕ → Option AsmKind
 room_kind size of_words more =
-    if of_words && not (size % 4 == 0) then Some Unaligned else (if nat_lt image_room (size + more) then Some TooLarge else None)
+    if of_words && not (size % 4 == 0) then Some Unaligned else (if nat_lt IMAGE_ROOM (size + more) then Some TooLarge else None)
 
 abbrev pub place_kind : Names → ℕ → Bool → Option Mnemonic → List ℕ → Option AsmKind
 place_kind names size true mnemonic operands = None

@@ -6,9 +6,9 @@ use Rattle.rv_model.specs.declared.inst.Inst.{Inst}
 use Rattle.rv_model.specs.declared.inst.Inst.TheVariants as insts
 use Rattle.rv_inst.specs.Valid.{IsValid}
 use Rattle.ce_text.specs.Bytes.{is_plain}
-use Rattle.ce_text.specs.Line.{cut, before_comment}
+use Rattle.ce_text.specs.Line.{cut_parts, before_comment}
 use Rattle.rv_asm.specs.declared.mnemonic.Mnemonic.{Mnemonic}
-use Rattle.rv_asm.specs.declared.mnemonic.Mnemonic.TheVariants as words
+use Rattle.rv_asm.specs.declared.mnemonic.Mnemonic.TheVariants as mnemonics
 use Rattle.rv_asm.specs.Line.{is_token, is_opening}
 use Rattle.rv_asm.specs.Name.{is_name}
 use Rattle.rv_asm.specs.Register.{named_register}
@@ -34,7 +34,7 @@ IsUpperText word text = (n : ℕ) × (word ≡ n * 4096) × IsNumberText (pos n)
 
 -- `n(rs1)`
 pub record IsMemoryText (n : ℤ) (rs1 : ℕ) (text : List ℕ) : Type 0 where
-  pub closed : is_bracketed (cut is_opening text).1 ≡ true
+  pub closed : is_bracketed (cut_parts is_opening text).1 ≡ true
   pub offset : IsNumberText n (offset_text text)
   pub base : IsRegisterText rs1 (base_text text)
 
@@ -63,18 +63,18 @@ AreOperandsOf insts.Ebreak texts = texts ≡ []
 
 -- what the table says of an instruction's mnemonic
 abbrev pub mnemonic_for : Inst → Mnemonic
-mnemonic_for (insts.Lui rd imm) = words.Lui
-mnemonic_for (insts.Auipc rd imm) = words.Auipc
-mnemonic_for (insts.Jal rd offset) = words.Jal
-mnemonic_for (insts.Jalr rd rs1 imm) = words.Jalr
-mnemonic_for (insts.Branch op rs1 rs2 offset) = words.Branch op
-mnemonic_for (insts.Load op rd rs1 imm) = words.Load op
-mnemonic_for (insts.Store op rs1 rs2 imm) = words.Store op
-mnemonic_for (insts.OpImm op rd rs1 imm) = words.OpImm op
-mnemonic_for (insts.Op op rd rs1 rs2) = words.Op op
-mnemonic_for (insts.Fence word) = words.Plain (insts.Fence word)
-mnemonic_for insts.Ecall = words.Plain insts.Ecall
-mnemonic_for insts.Ebreak = words.Plain insts.Ebreak
+mnemonic_for (insts.Lui rd imm) = mnemonics.Lui
+mnemonic_for (insts.Auipc rd imm) = mnemonics.Auipc
+mnemonic_for (insts.Jal rd offset) = mnemonics.Jal
+mnemonic_for (insts.Jalr rd rs1 imm) = mnemonics.Jalr
+mnemonic_for (insts.Branch op rs1 rs2 offset) = mnemonics.Branch op
+mnemonic_for (insts.Load op rd rs1 imm) = mnemonics.Load op
+mnemonic_for (insts.Store op rs1 rs2 imm) = mnemonics.Store op
+mnemonic_for (insts.OpImm op rd rs1 imm) = mnemonics.OpImm op
+mnemonic_for (insts.Op op rd rs1 rs2) = mnemonics.Op op
+mnemonic_for (insts.Fence word) = mnemonics.Plain (insts.Fence word)
+mnemonic_for insts.Ecall = mnemonics.Plain insts.Ecall
+mnemonic_for insts.Ebreak = mnemonics.Plain insts.Ebreak
 
 -- the line writes the instruction, which is a valid one
 pub record IsWrittenAs (inst : Inst) (line : List ℕ) : Type 0 where

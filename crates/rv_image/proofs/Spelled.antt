@@ -8,13 +8,15 @@ use Rattle.std.proofs.lemmas.Bool.Decides.{Decides-eqb}
 use Rattle.std.proofs.lemmas.List.{take-append-drop, length-take, length-drop, get_or-drop, get_or-take, get_or_past, drop-drop}
 use Rattle.std.proofs.lemmas.Nat.{le_bytes_4, from_le_bytes-to_le_bytes_4}
 use Rattle.std.proofs.lemmas.Slice.Eq.{starts_is}
+use Rattle.rv_model.specs.declared.limits.TheConstants.{IMAGE_ROOM}
 use Rattle.rv_model.specs.declared.memory.NoMemory.{NoMemory}
 use Rattle.rv_image.specs.declared.fault.ImageFault.{ImageFault}
 use Rattle.rv_image.specs.declared.fault.ImageFault.TheVariants.{Short, Magic, TooLarge, Length, Entry, Memory}
-use Rattle.rv_model.specs.Image.{ImageParts, IsImage, image_room}
+use Rattle.rv_model.specs.Image.{ImageParts, IsImage}
 use Rattle.rv_model.specs.LittleEndian.{bytes_number, number_at}
 use Rattle.rv_image.specs.Fault.{first_fault, is_too_large, is_entry, named_cause}
-use Rattle.rv_image.specs.Rki1.{magic_bytes, spelling, IsRki1, entry_field, loaded_field, zero_field, fields_of, fault_of}
+use Rattle.rv_image.specs.declared.image.rki1.TheConstants.{MAGIC, HEADER_LEN}
+use Rattle.rv_image.specs.Rki1.{spelling, IsRki1, entry_field, loaded_field, zero_field, fields_of, fault_of}
 
 -- ---- the table of refusals
 
@@ -58,8 +60,8 @@ named_fault bytes TooLarge e = e
 named_fault bytes Length e = e
 named_fault bytes Entry e = e
 named_fault bytes (Memory cause) e =
-    absurd (not_memory (ltb (length bytes) 16) (not (starts_with nat_eq bytes magic_bytes)) (is_too_large (loaded_field bytes) (zero_field bytes))
-    (not (eqb (length bytes) (16 + loaded_field bytes))) (not (is_entry (entry_field bytes) (loaded_field bytes))) cause e)
+    absurd (not_memory (ltb (length bytes) HEADER_LEN) (not (starts_with nat_eq bytes MAGIC)) (is_too_large (loaded_field bytes) (zero_field bytes))
+    (not (eqb (length bytes) (HEADER_LEN + loaded_field bytes))) (not (is_entry (entry_field bytes) (loaded_field bytes))) cause e)
 
 -- ---- what is spelled is read
 
@@ -96,20 +98,20 @@ is_entry-valid : (image : ImageParts) → IsImage image → is_entry image.entry
 is_entry-valid image valid =
     and_from _ _ (and_from _ _ (eq-eqb _ _ valid.aligned) (le-leb _ _ valid.after_start)) (le-leb _ _ valid.before_end)
 
-length-spelling : (image : ImageParts) → length (spelling image) ≡ 16 + length image.loaded
+length-spelling : (image : ImageParts) → length (spelling image) ≡ HEADER_LEN + length image.loaded
 length-spelling image = omega arith
 
 fault_of-spelling : (image : ImageParts) → IsImage image → fault_of (spelling image) ≡ none
 fault_of-spelling image valid =
     let large : is_too_large (loaded_field (spelling image)) (zero_field (spelling image)) ≡ false =
     rw (loaded_field-spelling image valid, zero_field-spelling image valid) (le-ltb _ _ valid.fits) in
-    let other_length : not (eqb (length (spelling image)) (16 + loaded_field (spelling image))) ≡ false =
-    not_from_true _ (eq-eqb _ _ (length-spelling image ∙ ap (λ (n : ℕ). 16 + n) (sym (loaded_field-spelling image valid)))) in
+    let other_length : not (eqb (length (spelling image)) (HEADER_LEN + loaded_field (spelling image))) ≡ false =
+    not_from_true _ (eq-eqb _ _ (length-spelling image ∙ ap (λ (n : ℕ). HEADER_LEN + n) (sym (loaded_field-spelling image valid)))) in
     let no_entry : not (is_entry (entry_field (spelling image)) (loaded_field (spelling image))) ≡ false =
     not_from_true _ (rw (entry_field-spelling image valid, loaded_field-spelling image valid) (is_entry-valid image valid)) in
-    first_of_five-passed (ltb (length (spelling image)) 16) false
+    first_of_five-passed (ltb (length (spelling image)) HEADER_LEN) false
     (is_too_large (loaded_field (spelling image)) (zero_field (spelling image)))
-    (not (eqb (length (spelling image)) (16 + loaded_field (spelling image))))
+    (not (eqb (length (spelling image)) (HEADER_LEN + loaded_field (spelling image))))
     (not (is_entry (entry_field (spelling image)) (loaded_field (spelling image))))
     (record { short = le-ltb _ _ (omega (arith, length-spelling image)); magic = refl; large = large; size = other_length; entry = no_entry })
 
@@ -140,19 +142,19 @@ respelled magic entry len zeros rest entry' len' zeros' e l z = rw (e, l, z) (sy
 
 -- what a table of refusals without a fault says of bytes
 record HasNoFault (bytes : List ℕ) : Type 0 where
-  long : 16 ≤ length bytes
-  begins : bytes ≡ magic_bytes ++ drop 4 bytes
-  fits : loaded_field bytes + zero_field bytes ≤ image_room
-  whole : length bytes ≡ 16 + loaded_field bytes
+  long : HEADER_LEN ≤ length bytes
+  begins : bytes ≡ MAGIC ++ drop 4 bytes
+  fits : loaded_field bytes + zero_field bytes ≤ IMAGE_ROOM
+  whole : length bytes ≡ HEADER_LEN + loaded_field bytes
   entry : is_entry (entry_field bytes) (loaded_field bytes) ≡ true
 
 passes_all : (bytes : List ℕ) → fault_of bytes ≡ none → HasNoFault bytes
 passes_all bytes e =
-    let p = passed (ltb (length bytes) 16) (not (starts_with nat_eq bytes magic_bytes)) (is_too_large (loaded_field bytes) (zero_field bytes))
-    (not (eqb (length bytes) (16 + loaded_field bytes))) (not (is_entry (entry_field bytes) (loaded_field bytes))) e in
+    let p = passed (ltb (length bytes) HEADER_LEN) (not (starts_with nat_eq bytes MAGIC)) (is_too_large (loaded_field bytes) (zero_field bytes))
+    (not (eqb (length bytes) (HEADER_LEN + loaded_field bytes))) (not (is_entry (entry_field bytes) (loaded_field bytes))) e in
     record {
       long = ltb-false _ _ p.short;
-      begins = (starts_is Decides-eqb bytes magic_bytes (starts_with nat_eq bytes magic_bytes) refl).0 (not-false _ p.magic);
+      begins = (starts_is Decides-eqb bytes MAGIC (starts_with nat_eq bytes MAGIC) refl).0 (not-false _ p.magic);
       fits = ltb-false _ _ p.large;
       whole = eqb-true _ _ (not-false _ p.size);
       entry = not-false _ p.entry;
@@ -160,18 +162,18 @@ passes_all bytes e =
 
 fields_spelled : (bytes : List ℕ) → IsBytes bytes → HasNoFault bytes → bytes ≡ spelling (fields_of bytes)
 fields_spelled bytes fits no_fault =
-    let long : 16 ≤ length bytes = no_fault.long in
-    let size : length (drop 16 bytes) ≡ loaded_field bytes = omega (arith, length-drop 16 bytes, no_fault.whole) in
-    let pieces : bytes ≡ magic_bytes ++ (take 4 (drop 4 bytes) ++ (take 4 (drop 8 bytes) ++ (take 4 (drop 12 bytes) ++ drop 16 bytes))) =
-    no_fault.begins ∙ ap (λ (rest : List ℕ). magic_bytes ++ rest) (sym (rw (piece 12 bytes, piece 8 bytes) (piece 4 bytes))) in
+    let long : HEADER_LEN ≤ length bytes = no_fault.long in
+    let size : length (drop HEADER_LEN bytes) ≡ loaded_field bytes = omega (arith, length-drop HEADER_LEN bytes, no_fault.whole) in
+    let pieces : bytes ≡ MAGIC ++ (take 4 (drop 4 bytes) ++ (take 4 (drop 8 bytes) ++ (take 4 (drop 12 bytes) ++ drop HEADER_LEN bytes))) =
+    no_fault.begins ∙ ap (λ (rest : List ℕ). MAGIC ++ rest) (sym (rw (piece 12 bytes, piece 8 bytes) (piece 4 bytes))) in
     pieces
-    ∙ respelled magic_bytes (take 4 (drop 4 bytes)) (take 4 (drop 8 bytes)) (take 4 (drop 12 bytes)) (drop 16 bytes)
-    (to_le_bytes w32 (entry_field bytes)) (to_le_bytes w32 (length (drop 16 bytes))) (to_le_bytes w32 (zero_field bytes))
+    ∙ respelled MAGIC (take 4 (drop 4 bytes)) (take 4 (drop 8 bytes)) (take 4 (drop 12 bytes)) (drop HEADER_LEN bytes)
+    (to_le_bytes w32 (entry_field bytes)) (to_le_bytes w32 (length (drop HEADER_LEN bytes))) (to_le_bytes w32 (zero_field bytes))
     (number_back 4 bytes fits (omega arith)) (ap (to_le_bytes w32) size ∙ number_back 8 bytes fits (omega arith)) (number_back 12 bytes fits (omega arith))
 
 is_valid : (bytes : List ℕ) → HasNoFault bytes → IsImage (fields_of bytes)
 is_valid bytes no_fault =
-    let size : length (drop 16 bytes) ≡ loaded_field bytes = omega (arith, length-drop 16 bytes, no_fault.whole) in
+    let size : length (drop HEADER_LEN bytes) ≡ loaded_field bytes = omega (arith, length-drop HEADER_LEN bytes, no_fault.whole) in
     let tests = and_parts _ _ no_fault.entry in
     let lower = and_parts _ _ tests.0 in
     record {

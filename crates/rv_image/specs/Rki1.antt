@@ -6,16 +6,13 @@ use Rattle.rv_image.specs.declared.fault.ImageFault.{ImageFault}
 use Rattle.rv_image.specs.declared.fault.ImageFault.TheVariants.{Short, Magic, TooLarge, Length, Entry}
 use Rattle.rv_model.specs.Image.{ImageParts, IsImage, image_parts}
 use Rattle.rv_model.specs.LittleEndian.{number_at}
+use Rattle.rv_image.specs.declared.image.rki1.TheConstants.{MAGIC, ENTRY_AT, LOADED_LEN_AT, ZERO_LEN_AT, HEADER_LEN}
 use Rattle.rv_image.specs.Fault.{first_fault, is_too_large, is_entry}
-
--- `RKI1`
-abbrev pub magic_bytes : List ℕ
-magic_bytes = 0x52 ∷ 0x4B ∷ 0x49 ∷ 0x31 ∷ []
 
 -- the magic, three little-endian numbers of four bytes, and the loaded bytes
 abbrev pub spelling : ImageParts → List ℕ
 spelling image =
-    magic_bytes ++ to_le_bytes w32 image.entry ++ to_le_bytes w32 (length image.loaded) ++ to_le_bytes w32 image.zero
+    MAGIC ++ to_le_bytes w32 image.entry ++ to_le_bytes w32 (length image.loaded) ++ to_le_bytes w32 image.zero
     ++ image.loaded
 
 -- these bytes are RKI1, and spell this image
@@ -24,24 +21,24 @@ pub record IsRki1 (bytes : List ℕ) (image : ImageParts) : Type 0 where
   pub spelled : bytes ≡ spelling image
 
 abbrev pub entry_field : List ℕ → ℕ
-entry_field bytes = number_at bytes 4 4
+entry_field bytes = number_at bytes ENTRY_AT 4
 
 abbrev pub loaded_field : List ℕ → ℕ
-loaded_field bytes = number_at bytes 8 4
+loaded_field bytes = number_at bytes LOADED_LEN_AT 4
 
 abbrev pub zero_field : List ℕ → ℕ
-zero_field bytes = number_at bytes 12 4
+zero_field bytes = number_at bytes ZERO_LEN_AT 4
 
 -- what the header says, and the bytes behind it
 abbrev pub fields_of : List ℕ → ImageParts
-fields_of bytes = image_parts (entry_field bytes) (drop 16 bytes) (zero_field bytes)
+fields_of bytes = image_parts (entry_field bytes) (drop HEADER_LEN bytes) (zero_field bytes)
 
 -- why bytes are no RKI1: the table of refusals, in their order
 abbrev pub fault_of : List ℕ → Option ImageFault
 fault_of bytes =
-    first_fault ((nat_lt (length bytes) 16, Short)
-    ∷ (not (starts_with nat_eq bytes magic_bytes), Magic)
+    first_fault ((nat_lt (length bytes) HEADER_LEN, Short)
+    ∷ (not (starts_with nat_eq bytes MAGIC), Magic)
     ∷ (is_too_large (loaded_field bytes) (zero_field bytes), TooLarge)
-    ∷ (not (length bytes == 16 + loaded_field bytes), Length)
+    ∷ (not (length bytes == HEADER_LEN + loaded_field bytes), Length)
     ∷ (not (is_entry (entry_field bytes) (loaded_field bytes)), Entry)
     ∷ [])

@@ -11,13 +11,13 @@ use thiserror::Error;
 /// is answered.
 #[derive(Clone, Copy, Debug, PartialEq, Eq, Error)]
 pub enum ImageFault {
-    /// There are fewer bytes than the 16 of the header.
+    /// There are fewer bytes than the header has.
     #[error("fewer than 16 bytes")]
     Short,
     /// The bytes do not begin with `RKI1`.
     #[error("not RKI1")]
     Magic,
-    /// Loaded and zero bytes together are more than 122,880.
+    /// Loaded and zero bytes together are more than `IMAGE_ROOM`.
     #[error("more than 122,880 bytes of image")]
     TooLarge,
     /// There are more or fewer loaded bytes than the header says.

@@ -16,9 +16,9 @@ use std::marker::Model;
 /// How many bytes an image may take up.
 const ROOM: usize = IMAGE_ROOM as usize;
 
-/// What a process is started from. Its loaded bytes stand from 0x0001_0000 on, the start of private memory, with
-/// bytes of value 0 behind them; together they are 122,880 bytes at most. The process begins at the entry, a
-/// multiple of 4 at which a whole word of the loaded bytes lies (docs/IMAGE.md).
+/// What a process is started from. Its loaded bytes stand from `PRIVATE_START` on, with bytes of value 0 behind them;
+/// together they are `IMAGE_ROOM` bytes at most. The process begins at the entry, a multiple of 4 at which a whole word
+/// of the loaded bytes lies (docs/IMAGE.md).
 #[derive(Debug, Drop)]
 pub struct Image {
     entry: u32,
@@ -54,7 +54,7 @@ fn is_entry(address: u32, loaded_len: usize) -> bool
 
 impl Image {
     /// The image with this entry, these loaded bytes and so many zero bytes. `TooLarge` where loaded and zero
-    /// bytes together are more than 122,880, and else `Entry` where the entry is not a multiple of 4, or no whole
+    /// bytes together are more than `IMAGE_ROOM`, and else `Entry` where the entry is not a multiple of 4, or no whole
     /// word of the loaded bytes lies there. No other error comes, and no memory is taken.
     pub fn of_parts(entry: u32, loaded: Vec<u8>, zero: u32) -> Result<Image, ImageFault>
         ensures same { IfOk result (λ image. image ≡ image_parts entry loaded.items zero) }
@@ -74,7 +74,7 @@ impl Image {
         })
     }
 
-    /// The address of the first instruction, a multiple of 4 from 0x0001_0000 on.
+    /// The address of the first instruction, a multiple of 4 from `PRIVATE_START` on.
     pub fn entry(&self) -> u32
         ensures value { result ≡ self.now.entry }
         ensures valid { IsImage self.now }
@@ -82,7 +82,7 @@ impl Image {
         self.entry
     }
 
-    /// The bytes that stand from 0x0001_0000 on, 122,880 at most.
+    /// The bytes that stand from `PRIVATE_START` on, `IMAGE_ROOM` at most.
     pub fn loaded(&self) -> &[u8]
         ensures value { result.now ≡ self.now.loaded }
         ensures valid { IsImage self.now }
@@ -90,7 +90,7 @@ impl Image {
         self.loaded.as_slice()
     }
 
-    /// How many bytes of value 0 stand behind the loaded ones, 122,880 at most together with them.
+    /// How many bytes of value 0 stand behind the loaded ones, `IMAGE_ROOM` at most together with them.
     pub fn zero(&self) -> u32
         ensures value { result ≡ self.now.zero }
         ensures valid { IsImage self.now }

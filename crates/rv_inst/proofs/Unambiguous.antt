@@ -5,26 +5,26 @@ use Rattle.std.specs.List.{list_any, list_all, AllByRecursion}
 use Rattle.std.proofs.lemmas.List.Elements.{All-from_recursion, recursion_from_All}
 use Rattle.std.proofs.lemmas.Bool.{and_parts, and_right}
 use Rattle.std.proofs.lemmas.Bool.Decides.{nat_tests}
-use Rattle.rv_model.specs.Words.{bits_of, Fixed, DecodingRow, has_fixed_fields, table, dec}
+use Rattle.rv_model.specs.Words.{bits_of, FixedField, DecodingRow, has_fixed_fields, table, dec}
 
-abbrev holds : ℕ → Fixed → Bool
+abbrev holds : ℕ → FixedField → Bool
 holds word field = bits_of field.low field.width word == field.value
 
 -- the same field, with two values
-abbrev clash : Fixed → Fixed → Bool
+abbrev clash : FixedField → FixedField → Bool
 clash f g = f.low == g.low && (f.width == g.width && not (f.value == g.value))
 
 abbrev apart : DecodingRow → DecodingRow → Bool
-apart r s = list_any (λ f. list_any (clash f) s.fixed) r.fixed
+apart r s = list_any (λ f. list_any (clash f) s.fixed_fields) r.fixed_fields
 
 abbrev all_apart : List DecodingRow → Bool
 all_apart [] = true
 all_apart (r ∷ rs) = list_all (apart r) rs && all_apart rs
 
-clash_fails : (w : ℕ) (f g : Fixed) → clash f g ≡ true → holds w f ≡ true → holds w g ≡ false
+clash_fails : (w : ℕ) (f g : FixedField) → clash f g ≡ true → holds w f ≡ true → holds w g ≡ false
 clash_fails w f g c h = grind (arith, nat_tests)
 
-clashes_fail : (w : ℕ) (f : Fixed) (gs : List Fixed) → list_any (clash f) gs ≡ true → holds w f ≡ true → list_all (holds w) gs ≡ false
+clashes_fail : (w : ℕ) (f : FixedField) (gs : List FixedField) → list_any (clash f) gs ≡ true → holds w f ≡ true → list_all (holds w) gs ≡ false
 clashes_fail w f [] c h = absurd cc
 clashes_fail w f (g ∷ gs) c h =
     elim (clash f g) as (λ b. clash f g ≡ b → b || list_any (clash f) gs ≡ true → holds w g && list_all (holds w) gs ≡ false) [
@@ -32,7 +32,7 @@ clashes_fail w f (g ∷ gs) c h =
       | false ↦ λ _ later. rw (clashes_fail w f gs later h) (and_right (holds w g) false refl)
     ] refl c
 
-apart_fails : (w : ℕ) (fs gs : List Fixed) → list_any (λ f. list_any (clash f) gs) fs ≡ true → list_all (holds w) fs ≡ true → list_all (holds w) gs ≡ false
+apart_fails : (w : ℕ) (fs gs : List FixedField) → list_any (λ f. list_any (clash f) gs) fs ≡ true → list_all (holds w) fs ≡ true → list_all (holds w) gs ≡ false
 apart_fails w [] gs c h = absurd cc
 apart_fails w (f ∷ fs) gs c h =
     elim (list_any (clash f) gs) as (λ b. list_any (clash f) gs ≡ b → b || list_any (λ e. list_any (clash e) gs) fs ≡ true → list_all (holds w) gs ≡ false) [
@@ -42,7 +42,7 @@ apart_fails w (f ∷ fs) gs c h =
 
 none_left : (w : ℕ) (r : DecodingRow) (rs : List DecodingRow) → list_all (apart r) rs ≡ true → has_fixed_fields w r ≡ true → filter (has_fixed_fields w) rs ≡ []
 none_left w r [] c h = refl
-none_left w r (s ∷ rs) c h = rw (apart_fails w r.fixed s.fixed (and_parts (apart r s) (list_all (apart r) rs) c).0 h) (none_left w r rs (and_parts (apart r s) (list_all (apart r) rs) c).1 h)
+none_left w r (s ∷ rs) c h = rw (apart_fails w r.fixed_fields s.fixed_fields (and_parts (apart r s) (list_all (apart r) rs) c).0 h) (none_left w r rs (and_parts (apart r s) (list_all (apart r) rs) c).1 h)
 
 at_most_one : (w : ℕ) (rs : List DecodingRow) → all_apart rs ≡ true → length (filter (has_fixed_fields w) rs) ≤ 1
 at_most_one w [] c = omega arith
@@ -73,7 +73,7 @@ found w (r ∷ rs) c s (inl e) m = let t : has_fixed_fields w r ≡ true = ap (h
 found w (r ∷ rs) c s (inr k) m =
     let clashes : apart r s ≡ true = all_at (apart r) rs s (and_parts (list_all (apart r) rs) (all_apart rs) c).0 k in
     elim (has_fixed_fields w r) as (λ b. has_fixed_fields w r ≡ b → cond b (Some r) (find (has_fixed_fields w) rs) ≡ Some s) [
-      | true ↦ λ t. let f : has_fixed_fields w s ≡ false = apart_fails w r.fixed s.fixed clashes t in absurd cc
+      | true ↦ λ t. let f : has_fixed_fields w s ≡ false = apart_fails w r.fixed_fields s.fixed_fields clashes t in absurd cc
       | false ↦ λ _. found w rs (and_parts (list_all (apart r) rs) (all_apart rs) c).1 s k m
     ] refl
 

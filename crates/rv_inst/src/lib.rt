@@ -2,6 +2,7 @@
 //! table of `specs/Words.antt`, one row for each instruction, and the code tests bits.
 #![tactic(auto)]
 
+mod codes;
 mod decoding;
 mod encoding;
 mod fields;

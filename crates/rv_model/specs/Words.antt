@@ -76,38 +76,38 @@ j_immediate word = sign_extended 21 (bits_of 31 1 word * 2 ^ 20 + bits_of 12 8 w
 -- ---- rows
 
 -- the `width` bits from bit `low` up have this value: a part of a row's mask, with the match under it
-pub record Fixed : Type 0 where
+pub record FixedField : Type 0 where
   pub low : ℕ
   pub width : ℕ
   pub value : ℕ
 
-abbrev pub opcode_is : ℕ → Fixed
-opcode_is n = record { low = 0; width = 7; value = n }
+abbrev pub opcode_field : ℕ → FixedField
+opcode_field n = record { low = 0; width = 7; value = n }
 
-abbrev pub funct3_is : ℕ → Fixed
-funct3_is n = record { low = 12; width = 3; value = n }
+abbrev pub funct3_field : ℕ → FixedField
+funct3_field n = record { low = 12; width = 3; value = n }
 
-abbrev pub funct7_is : ℕ → Fixed
-funct7_is n = record { low = 25; width = 7; value = n }
+abbrev pub funct7_field : ℕ → FixedField
+funct7_field n = record { low = 25; width = 7; value = n }
 
-abbrev pub rest_is : ℕ → Fixed
-rest_is n = record { low = 7; width = 25; value = n }
+abbrev pub rest_field : ℕ → FixedField
+rest_field n = record { low = 7; width = 25; value = n }
 
 -- a row: the fields that it fixes, and the instruction of a word that has them
 pub record DecodingRow : Type 0 where
-  pub fixed : List Fixed
+  pub fixed_fields : List FixedField
   pub meaning : ℕ → Inst
 
 -- the word has the row's fixed fields
 abbrev pub has_fixed_fields : ℕ → DecodingRow → Bool
-has_fixed_fields word row = list_all (λ field. bits_of field.low field.width word == field.value) row.fixed
+has_fixed_fields word row = list_all (λ field. bits_of field.low field.width word == field.value) row.fixed_fields
 
 -- ---- the table
 
 -- the row of an instruction that its opcode and its minor opcode fix
 abbrev pub minor_row : ℕ → ℕ → (ℕ → Inst) → DecodingRow
 minor_row opcode funct3 meaning = record {
-  fixed = opcode_is opcode ∷ funct3_is funct3 ∷ [];
+  fixed_fields = opcode_field opcode ∷ funct3_field funct3 ∷ [];
   meaning = meaning;
 }
 
@@ -127,22 +127,22 @@ op_imm_row funct3 op = minor_row OP_IMM funct3 (λ word. OpImm op (rd_of word) (
 -- a shift by an immediate has the shift amount in the field of rs2
 abbrev pub shift_row : ℕ → ℕ → ImmOp → DecodingRow
 shift_row funct3 funct7 op = record {
-  fixed = opcode_is OP_IMM ∷ funct3_is funct3 ∷ funct7_is funct7 ∷ [];
+  fixed_fields = opcode_field OP_IMM ∷ funct3_field funct3 ∷ funct7_field funct7 ∷ [];
   meaning = λ word. OpImm op (rd_of word) (rs1_of word) (pos (rs2_of word));
 }
 
 abbrev pub op_row : ℕ → ℕ → RegOp → DecodingRow
 op_row funct3 funct7 op = record {
-  fixed = opcode_is OP ∷ funct3_is funct3 ∷ funct7_is funct7 ∷ [];
+  fixed_fields = opcode_field OP ∷ funct3_field funct3 ∷ funct7_field funct7 ∷ [];
   meaning = λ word. Op op (rd_of word) (rs1_of word) (rs2_of word);
 }
 
 -- the row of each instruction of RV32I
 unfoldable pub table : List DecodingRow
 table =
-    record { fixed = opcode_is LUI ∷ []; meaning = λ word. Lui (rd_of word) (u_immediate word) }
-    ∷ record { fixed = opcode_is AUIPC ∷ []; meaning = λ word. Auipc (rd_of word) (u_immediate word) }
-    ∷ record { fixed = opcode_is JAL ∷ []; meaning = λ word. Jal (rd_of word) (j_immediate word) }
+    record { fixed_fields = opcode_field LUI ∷ []; meaning = λ word. Lui (rd_of word) (u_immediate word) }
+    ∷ record { fixed_fields = opcode_field AUIPC ∷ []; meaning = λ word. Auipc (rd_of word) (u_immediate word) }
+    ∷ record { fixed_fields = opcode_field JAL ∷ []; meaning = λ word. Jal (rd_of word) (j_immediate word) }
     ∷ minor_row JALR 0b000 (λ word. Jalr (rd_of word) (rs1_of word) (i_immediate word))
     ∷ branch_row 0b000 Beq
     ∷ branch_row 0b001 Bne
@@ -178,8 +178,8 @@ table =
     ∷ op_row 0b000 0b0100000 Sub
     ∷ op_row 0b101 0b0100000 Sra
     ∷ minor_row MISC_MEM 0b000 (λ word. Fence word)
-    ∷ record { fixed = opcode_is SYSTEM ∷ rest_is (rest_of ECALL_WORD) ∷ []; meaning = λ word. Ecall }
-    ∷ record { fixed = opcode_is SYSTEM ∷ rest_is (rest_of EBREAK_WORD) ∷ []; meaning = λ word. Ebreak }
+    ∷ record { fixed_fields = opcode_field SYSTEM ∷ rest_field (rest_of ECALL_WORD) ∷ []; meaning = λ word. Ecall }
+    ∷ record { fixed_fields = opcode_field SYSTEM ∷ rest_field (rest_of EBREAK_WORD) ∷ []; meaning = λ word. Ebreak }
     ∷ []
 
 -- the instruction that a word is: that of the row that it matches, of which there is at most one, and none where it matches no row

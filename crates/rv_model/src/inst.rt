@@ -13,39 +13,39 @@ pub enum Inst {
         rd: u8,
         imm: u32,
     },
-    /// `offset` is even, from -1,048,576 to 1,048,574.
+    /// `offset` is even, from -`JUMP_REACH` to `JUMP_REACH` - 2.
     Jal {
         rd: u8,
         offset: i32,
     },
-    /// `imm` is from -2,048 to 2,047.
+    /// `imm` is from `LEAST_IMMEDIATE` to `GREATEST_IMMEDIATE`.
     Jalr {
         rd: u8,
         rs1: u8,
         imm: i32,
     },
-    /// `offset` is even, from -4,096 to 4,094.
+    /// `offset` is even, from -`BRANCH_REACH` to `BRANCH_REACH` - 2.
     Branch {
         op: BranchOp,
         rs1: u8,
         rs2: u8,
         offset: i32,
     },
-    /// `imm` is from -2,048 to 2,047.
+    /// `imm` is from `LEAST_IMMEDIATE` to `GREATEST_IMMEDIATE`.
     Load {
         op: LoadOp,
         rd: u8,
         rs1: u8,
         imm: i32,
     },
-    /// `imm` is from -2,048 to 2,047.
+    /// `imm` is from `LEAST_IMMEDIATE` to `GREATEST_IMMEDIATE`.
     Store {
         op: StoreOp,
         rs1: u8,
         rs2: u8,
         imm: i32,
     },
-    /// `imm` is from -2,048 to 2,047, and for the three shifts from 0 to 31.
+    /// `imm` is from `LEAST_IMMEDIATE` to `GREATEST_IMMEDIATE`, and for the three shifts from 0 to `GREATEST_SHIFT`.
     OpImm {
         op: ImmOp,
         rd: u8,

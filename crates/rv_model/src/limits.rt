@@ -17,6 +17,13 @@ const _: () = prove!(IMAGE_ROOM + 8_192 == PRIVATE_SIZE);
 /// How many registers there are.
 pub const REGISTER_COUNT: usize = 32;
 
+/// The register of the stack pointer (RISC-V ABIs Specification, "Integer Register Convention").
+pub const SP: u8 = 2;
+
+/// The register of a call's first argument and of its answer; those of further arguments follow (RISC-V ABIs
+/// Specification, "Integer Register Convention").
+pub const A0: u8 = 10;
+
 /// A jump goes less than so many bytes forward, and at most so many backward.
 pub const JUMP_REACH: u32 = 1 << 20;
 

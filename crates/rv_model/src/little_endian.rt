@@ -1,17 +1,17 @@
 //! Numbers of 1, 2 or 4 bytes, the lowest byte first.
 ghost use Rattle.std.specs.Prelude.{◌≡◌, ◌<◌, ◌≤◌, ◌+◌, ◌^◌, ◌++◌, length, take, drop};
-ghost use Rattle.rv_model.specs.Exec.{IsAccessSize};
 ghost use Rattle.rv_model.specs.LittleEndian.{number_at, with_number_at};
 
-/// The number in the `size` bytes from `offset` on; the size is 1, 2 or 4.
+use crate::AccessSize;
+
+/// The number in the bytes from `offset` on, of which there are `size`.
 #[tactic(auto, using(crate::proofs::Numbers::number_lemmas))]
-pub fn number_in(bytes: &[u8], offset: usize, size: u32) -> u32
-    requires size { IsAccessSize size }
-    requires within { offset + size ≤ length bytes.now }
-    ensures value { result ≡ number_at bytes.now offset size }
-    ensures fits { result < 256 ^ size }
+pub fn number_in(bytes: &[u8], offset: usize, size: AccessSize) -> u32
+    requires within { offset + size.bytes ≤ length bytes.now }
+    ensures value { result ≡ number_at bytes.now offset size.bytes }
+    ensures fits { result < 256 ^ size.bytes }
 {
-    match size {
+    match size.bytes {
         1 => u32::from(bytes[offset]),
         2 => u32::from(bytes[offset]) + u32::from(bytes[offset + 1]) * 0x100,
         _ => word_in(bytes, offset),
@@ -32,15 +32,14 @@ pub fn word_in(bytes: &[u8], offset: usize) -> u32
     ])
 }
 
-/// Writes the lowest `size` bytes of `value` from `offset` on; the size is 1, 2 or 4.
+/// Writes the lowest bytes of `value` from `offset` on, `size` of them.
 #[tactic(auto, unfolding(crate::specs::LittleEndian::with_number_at))]
-pub fn put_number(bytes: &mut [u8], offset: usize, size: u32, value: u32)
-    requires size { IsAccessSize size }
-    requires within { offset + size ≤ length bytes.old }
-    ensures { bytes.new ≡ with_number_at bytes.old offset size value }
+pub fn put_number(bytes: &mut [u8], offset: usize, size: AccessSize, value: u32)
+    requires within { offset + size.bytes ≤ length bytes.old }
+    ensures { bytes.new ≡ with_number_at bytes.old offset size.bytes value }
 {
     let [b0, b1, b2, b3] = value.to_le_bytes();
-    match size {
+    match size.bytes {
         1 => put(bytes, offset, &[b0]),
         2 => put(bytes, offset, &[b0, b1]),
         _ => put(bytes, offset, &[b0, b1, b2, b3]),

@@ -28,3 +28,6 @@ pub const ECALL_WORD: u32 = 0x0000_0073;
 
 /// The word of EBREAK, the only one that is it.
 pub const EBREAK_WORD: u32 = 0x0010_0073;
+
+/// The word of FENCE with no operands written: all accesses before it come before all behind it.
+pub const FENCE_WORD: u32 = 0x0FF0_000F;

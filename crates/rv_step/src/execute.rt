@@ -1,12 +1,12 @@
 //! What one decoded instruction does.
 ghost use Rattle.std.specs.Prelude.{◌≡◌, ◌%◌, ◌==◌, if◌then◌else◌};
-ghost use Rattle.rv_inst.specs.Valid.{IsValid, IsRegister};
+ghost use Rattle.rv_inst.specs.Valid.{IsValid};
 ghost use Rattle.rv_model.specs.Exec.{effect_of, with_reg, next_pc};
 ghost use Rattle.rv_step.specs.Stepped.{outcome_of, OnStopped};
 
 use crate::compute::{imm_result, is_taken, loaded_number, reg_result};
 use crate::{Event, Memory, Regs};
-use rv_model::{Inst, LoadOp, Stop, StoreOp};
+use rv_model::{AccessSize, Inst, LoadOp, Register, Stop, StoreOp};
 
 /// Does the instruction `inst`, which stands at `pc`.
 #[tactic(auto, unfolding(rv_model::specs::Exec::effect_of))]
@@ -20,12 +20,15 @@ pub(crate) fn execute<M: Memory>(inst: Inst, regs: &mut Regs, pc: &mut u32, memo
     ensures rest { M.rest memory.new ≡ M.rest memory.old }
 {
     match inst {
-        Inst::Lui { rd, imm } => write(rd, imm, regs, pc),
-        Inst::Auipc { rd, imm } => write(rd, pc.wrapping_add(imm), regs, pc),
-        Inst::Jal { rd, offset } => jump(rd, pc.wrapping_add_signed(offset), regs, pc),
+        Inst::Lui { rd, imm } => write(Register { number: rd }, imm, regs, pc),
+        Inst::Auipc { rd, imm } => write(Register { number: rd }, pc.wrapping_add(imm), regs, pc),
+        Inst::Jal { rd, offset } => {
+            let target = pc.wrapping_add_signed(offset);
+            jump(Register { number: rd }, target, regs, pc)
+        }
         Inst::Jalr { rd, rs1, imm } => {
-            let sum = regs.get(rs1).wrapping_add_signed(imm);
-            jump(rd, sum / 2 * 2, regs, pc)
+            let sum = regs.get(Register { number: rs1 }).wrapping_add_signed(imm);
+            jump(Register { number: rd }, sum / 2 * 2, regs, pc)
         }
         Inst::Branch {
             op,
@@ -33,21 +36,29 @@ pub(crate) fn execute<M: Memory>(inst: Inst, regs: &mut Regs, pc: &mut u32, memo
             rs2,
             offset,
         } => {
+            let (rs1, rs2) = (Register { number: rs1 }, Register { number: rs2 });
             if is_taken(op, regs.get(rs1), regs.get(rs2)) {
-                jump(0, pc.wrapping_add_signed(offset), regs, pc)
+                jump(Register::zero(), pc.wrapping_add_signed(offset), regs, pc)
             } else {
                 advance(Event::Went, pc)
             }
         }
-        Inst::Load { op, rd, rs1, imm } => load(op, rd, rs1, imm, regs, pc, memory),
-        Inst::Store { op, rs1, rs2, imm } => store(op, rs1, rs2, imm, regs, pc, memory),
+        Inst::Load { op, rd, rs1, imm } => {
+            let (rd, rs1) = (Register { number: rd }, Register { number: rs1 });
+            load(op, rd, rs1, imm, regs, pc, memory)
+        }
+        Inst::Store { op, rs1, rs2, imm } => {
+            let (rs1, rs2) = (Register { number: rs1 }, Register { number: rs2 });
+            store(op, rs1, rs2, imm, regs, pc, memory)
+        }
         Inst::OpImm { op, rd, rs1, imm } => {
-            let value = imm_result(op, regs.get(rs1), imm.cast_unsigned());
-            write(rd, value, regs, pc)
+            let value = imm_result(op, regs.get(Register { number: rs1 }), imm.cast_unsigned());
+            write(Register { number: rd }, value, regs, pc)
         }
         Inst::Op { op, rd, rs1, rs2 } => {
+            let (rs1, rs2) = (Register { number: rs1 }, Register { number: rs2 });
             let value = reg_result(op, regs.get(rs1), regs.get(rs2));
-            write(rd, value, regs, pc)
+            write(Register { number: rd }, value, regs, pc)
         }
         Inst::Fence { word: _ } => advance(Event::Went, pc),
         Inst::Ecall => advance(Event::Call, pc),
@@ -65,10 +76,9 @@ fn advance(event: Event, pc: &mut u32) -> Event
 }
 
 /// Writes `value` to `rd`, and goes on to the next instruction.
-fn write(rd: u8, value: u32, regs: &mut Regs, pc: &mut u32) -> Event
-    requires { IsRegister rd }
+fn write(rd: Register, value: u32, regs: &mut Regs, pc: &mut u32) -> Event
     ensures event { result ≡ Event.Went }
-    ensures regs { regs.new.x ≡ with_reg regs.old.x rd value }
+    ensures regs { regs.new.x ≡ with_reg regs.old.x rd.number value }
     ensures pc { pc.new ≡ next_pc pc.old }
 {
     regs.set(rd, value);
@@ -77,12 +87,11 @@ fn write(rd: u8, value: u32, regs: &mut Regs, pc: &mut u32) -> Event
 
 /// Jumps to `target` and writes the address of the next instruction to `rd`, or stops at a target that isn't a
 /// multiple of 4.
-fn jump(rd: u8, target: u32, regs: &mut Regs, pc: &mut u32) -> Event
-    requires { IsRegister rd }
+fn jump(rd: Register, target: u32, regs: &mut Regs, pc: &mut u32) -> Event
     ensures event { result
         ≡ (if target % 4 == 0 then Event.Went else Event.Stopped (Stop.Target pc.old)) }
     ensures regs { regs.new.x
-        ≡ (if target % 4 == 0 then with_reg regs.old.x rd (next_pc pc.old) else regs.old.x) }
+        ≡ (if target % 4 == 0 then with_reg regs.old.x rd.number (next_pc pc.old) else regs.old.x) }
     ensures pc { pc.new ≡ (if target % 4 == 0 then target else pc.old) }
 {
     if target % 4 != 0 {
@@ -97,25 +106,24 @@ fn jump(rd: u8, target: u32, regs: &mut Regs, pc: &mut u32) -> Event
 #[tactic(auto, unfolding(rv_model::specs::Exec::effect_of))]
 fn load<M: Memory>(
     op: LoadOp,
-    rd: u8,
-    rs1: u8,
+    rd: Register,
+    rs1: Register,
     imm: i32,
     regs: &mut Regs,
     pc: &mut u32,
     memory: &M,
 ) -> Event
-    requires rd { IsRegister rd }
-    requires rs1 { IsRegister rs1 }
     ensures done { outcome_of result regs.new.x pc.new (M.holds memory.now)
-        ≡ effect_of M.access (Inst.Load op rd rs1 imm) regs.old.x pc.old (M.holds memory.now) }
+        ≡ effect_of M.access (Inst.Load op rd.number rs1.number imm) regs.old.x pc.old
+        (M.holds memory.now) }
     ensures regs_stay { OnStopped result (regs.new.x ≡ regs.old.x) }
     ensures pc_stays { OnStopped result (pc.new ≡ pc.old) }
 {
     let addr = regs.get(rs1).wrapping_add_signed(imm);
     let loaded = match op {
-        LoadOp::Lb | LoadOp::Lbu => memory.load(addr, 1),
-        LoadOp::Lh | LoadOp::Lhu => memory.load(addr, 2),
-        LoadOp::Lw => memory.load(addr, 4),
+        LoadOp::Lb | LoadOp::Lbu => memory.load(addr, AccessSize::byte()),
+        LoadOp::Lh | LoadOp::Lhu => memory.load(addr, AccessSize::half()),
+        LoadOp::Lw => memory.load(addr, AccessSize::word()),
     };
     match loaded {
         Ok(n) => write(rd, loaded_number(op, n), regs, pc),
@@ -127,17 +135,16 @@ fn load<M: Memory>(
 #[tactic(auto, unfolding(rv_model::specs::Exec::effect_of))]
 fn store<M: Memory>(
     op: StoreOp,
-    rs1: u8,
-    rs2: u8,
+    rs1: Register,
+    rs2: Register,
     imm: i32,
     regs: &Regs,
     pc: &mut u32,
     memory: &mut M,
 ) -> Event
-    requires rs1 { IsRegister rs1 }
-    requires rs2 { IsRegister rs2 }
     ensures done { outcome_of result regs.now.x pc.new (M.holds memory.new)
-        ≡ effect_of M.access (Inst.Store op rs1 rs2 imm) regs.now.x pc.old (M.holds memory.old) }
+        ≡ effect_of M.access (Inst.Store op rs1.number rs2.number imm) regs.now.x pc.old
+        (M.holds memory.old) }
     ensures pc_stays { OnStopped result (pc.new ≡ pc.old) }
     ensures memory_stays { OnStopped result (M.holds memory.new ≡ M.holds memory.old) }
     ensures rest { M.rest memory.new ≡ M.rest memory.old }
@@ -145,9 +152,9 @@ fn store<M: Memory>(
     let addr = regs.get(rs1).wrapping_add_signed(imm);
     let value = regs.get(rs2);
     let stored = match op {
-        StoreOp::Sb => memory.store(addr, 1, value % 0x100),
-        StoreOp::Sh => memory.store(addr, 2, value % 0x1_0000),
-        StoreOp::Sw => memory.store(addr, 4, value),
+        StoreOp::Sb => memory.store(addr, AccessSize::byte(), value % 0x100),
+        StoreOp::Sh => memory.store(addr, AccessSize::half(), value % 0x1_0000),
+        StoreOp::Sw => memory.store(addr, AccessSize::word(), value),
     };
     match stored {
         Ok(()) => advance(Event::Went, pc),

@@ -1,7 +1,7 @@
 ghost use Rattle.std.specs.Prelude.{◌≡◌, ◌<◌, ◌^◌, IfOk, OnOk, IfErr, OnErr, Ok, Err};
-ghost use Rattle.rv_model.specs.Exec.{Access, IsAccessSize};
+ghost use Rattle.rv_model.specs.Exec.{Access};
 
-use rv_model::Stop;
+use rv_model::{AccessSize, Stop};
 
 /// The memory of a process, as its instructions see it. Each refusal is the cause for which the process stops, and
 /// changes nothing.
@@ -24,19 +24,17 @@ pub trait Memory {
     fn fetch(&self, pc: u32) -> Result<u32, Stop>
         ensures { result ≡ access.fetch (holds self.now) pc };
 
-    /// The number in the `size` bytes from `addr` on, which are 1, 2 or 4, little-endian.
-    fn load(&self, addr: u32, size: u32) -> Result<u32, Stop>
-        requires { IsAccessSize size }
-        ensures value { result ≡ access.load (holds self.now) addr size }
-        ensures fits { IfOk result (λ n. n < 256 ^ size) };
+    /// The number in the `size` bytes from `addr` on, little-endian.
+    fn load(&self, addr: u32, size: AccessSize) -> Result<u32, Stop>
+        ensures value { result ≡ access.load (holds self.now) addr size.bytes }
+        ensures fits { IfOk result (λ n. n < 256 ^ size.bytes) };
 
-    /// Stores the lowest `size` bytes of `value`, which are 1, 2 or 4, from `addr` on, little-endian.
-    fn store(&mut self, addr: u32, size: u32, value: u32) -> Result<(), Stop>
-        requires { IsAccessSize size }
+    /// Stores the lowest `size` bytes of `value` from `addr` on, little-endian.
+    fn store(&mut self, addr: u32, size: AccessSize, value: u32) -> Result<(), Stop>
         ensures stored { OnOk result
-            (access.store (holds self.old) addr size value ≡ Ok (holds self.new)) }
+            (access.store (holds self.old) addr size.bytes value ≡ Ok (holds self.new)) }
         ensures refused { IfErr result
-            (λ cause. access.store (holds self.old) addr size value ≡ Err cause) }
+            (λ cause. access.store (holds self.old) addr size.bytes value ≡ Err cause) }
         ensures unchanged { OnErr result (holds self.new ≡ holds self.old) }
         ensures rest { rest self.new ≡ rest self.old };
 }

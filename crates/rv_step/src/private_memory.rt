@@ -1,18 +1,18 @@
 ghost use Rattle.std.specs.Prelude.{◌≡◌, ◌≤◌, ◌+◌, ◌-◌, ◌*◌, ◌/◌, ◌%◌, ◌++◌, ◌==◌, ◌&&◌, ℕ, [], IfOk, IfSome, length, drop, replicate, Some, None, if◌then◌else◌};
-ghost use Rattle.rv_model.specs.Exec.{IsAccessSize};
-ghost use Rattle.rv_model.specs.Image.{image_room};
-ghost use Rattle.rv_model.specs.declared.limits.TheConstants.{PRIVATE_START, PRIVATE_SIZE};
+ghost use Rattle.rv_model.specs.declared.limits.TheConstants.{PRIVATE_START, PRIVATE_SIZE, IMAGE_ROOM};
 ghost use Rattle.rv_model.specs.Private.{private_size, is_private, checked_access, with_loaded};
 
 use crate::Memory;
-use rv_model::{NoMemory, PRIVATE_SIZE, PRIVATE_START, Stop, number_in, put_number, word_in};
+use rv_model::{
+    AccessSize, NoMemory, PRIVATE_SIZE, PRIVATE_START, Stop, number_in, put_number, word_in,
+};
 use std::alloc::Global;
 use std::marker::Model;
 
 /// The bits of an offset that are 0 within the memory.
 const OUTSIDE: u32 = !(PRIVATE_SIZE - 1);
 
-/// The private memory of a process that used no window: 131,072 bytes at the addresses 0x0001_0000 to 0x0002_FFFF.
+/// The private memory of a process that used no window: `PRIVATE_SIZE` bytes from `PRIVATE_START` on.
 /// A load or store whose address isn't a multiple of its size is refused as `Misaligned`, and any other one outside these
 /// addresses as `Unmapped`. A fetch outside them, or not at a multiple of 4, is refused as `Fetch`. Contracts see the
 /// memory as the list of its bytes.
@@ -42,10 +42,10 @@ impl PrivateMemory {
         Ok(PrivateMemory { bytes })
     }
 
-    /// Makes the first bytes those of `loaded`, which are 122,880 at most, and all others 0. Each byte is written once.
+    /// Makes the first bytes those of `loaded`, which are `IMAGE_ROOM` at most, and all others 0. Each byte is written once.
     #[tactic(auto, unfolding(rv_model::specs::Private::private_size))]
     pub fn load_image(&mut self, loaded: &[u8])
-        requires { length loaded.now ≤ image_room }
+        requires { length loaded.now ≤ IMAGE_ROOM }
         ensures { self.new ≡ with_loaded loaded.now }
     {
         overwrite(self.bytes.as_mut_slice(), loaded);
@@ -55,13 +55,13 @@ impl PrivateMemory {
     #[tactic(auto, using(crate::proofs::Zeros::loaded_into_zeros))]
     pub fn load_into_zeros(&mut self, loaded: &[u8])
         requires zeros { self.old ≡ with_loaded [] }
-        requires room { length loaded.now ≤ image_room }
+        requires room { length loaded.now ≤ IMAGE_ROOM }
         ensures { self.new ≡ with_loaded loaded.now }
     {
         overwrite_front(self.bytes.as_mut_slice(), loaded);
     }
 
-    /// All the bytes, that at address 0x0001_0000 first.
+    /// All the bytes, that at `PRIVATE_START` first.
     pub fn bytes(&self) -> &[u8]
         ensures value { result.now ≡ self.now }
         ensures len { length result.now ≡ PRIVATE_SIZE }
@@ -112,18 +112,18 @@ impl Memory for PrivateMemory {
     ghost rest = { λ bytes. tt };
 
     fn fetch(&self, pc: u32) -> Result<u32, Stop> {
-        match offset_of(pc, 4) {
+        match offset_of(pc, AccessSize::word()) {
             Some(offset) => Ok(word_in(self.bytes.as_slice(), offset)),
             None => Err(Stop::Fetch(pc)),
         }
     }
 
-    fn load(&self, addr: u32, size: u32) -> Result<u32, Stop> {
+    fn load(&self, addr: u32, size: AccessSize) -> Result<u32, Stop> {
         let from = place(addr, size)?;
         Ok(number_in(self.bytes.as_slice(), from, size))
     }
 
-    fn store(&mut self, addr: u32, size: u32, value: u32) -> Result<(), Stop> {
+    fn store(&mut self, addr: u32, size: AccessSize, value: u32) -> Result<(), Stop> {
         let offset = place(addr, size)?;
         put_number(self.bytes.as_mut_slice(), offset, size, value);
         Ok(())
@@ -133,11 +133,11 @@ impl Memory for PrivateMemory {
 /// The offset of a private address that is a multiple of `size`, and None for another address. One comparison tells.
 #[tactic(auto, using(crate::proofs::Places::place_lemmas))]
 #[inline]
-fn offset_of(addr: u32, size: u32) -> Option<usize>
-    requires { IsAccessSize size }
+fn offset_of(addr: u32, size: AccessSize) -> Option<usize>
     ensures value { result
-        ≡ (if addr % size == 0 && is_private addr then Some (addr - PRIVATE_START) else None) }
-    ensures within { IfSome result (λ offset. offset + size ≤ PRIVATE_SIZE) }
+        ≡ (if addr % size.bytes == 0 && is_private addr
+        then Some (addr - PRIVATE_START) else None) }
+    ensures within { IfSome result (λ offset. offset + size.bytes ≤ PRIVATE_SIZE) }
 {
     let offset = addr.wrapping_sub(PRIVATE_START);
     if fault_bits(offset, size) == 0 {
@@ -151,23 +151,21 @@ fn offset_of(addr: u32, size: u32) -> Option<usize>
 /// the size.
 #[tactic(auto, using(crate::proofs::Places::masked))]
 #[inline]
-fn fault_bits(offset: u32, size: u32) -> u32
-    requires { IsAccessSize size }
-    ensures { result ≡ offset / PRIVATE_SIZE * PRIVATE_SIZE + offset % size }
+fn fault_bits(offset: u32, size: AccessSize) -> u32
+    ensures { result ≡ offset / PRIVATE_SIZE * PRIVATE_SIZE + offset % size.bytes }
 {
-    offset & (OUTSIDE + (size - 1))
+    offset & (OUTSIDE + (size.bytes - 1))
 }
 
 /// The offset at which an access of `size` bytes at `addr` is made, or the cause for which it isn't.
 #[inline]
-fn place(addr: u32, size: u32) -> Result<usize, Stop>
-    requires { IsAccessSize size }
-    ensures value { result ≡ checked_access addr size (λ offset. offset) }
-    ensures within { IfOk result (λ offset. offset + size ≤ PRIVATE_SIZE) }
+fn place(addr: u32, size: AccessSize) -> Result<usize, Stop>
+    ensures value { result ≡ checked_access addr size.bytes (λ offset. offset) }
+    ensures within { IfOk result (λ offset. offset + size.bytes ≤ PRIVATE_SIZE) }
 {
     match offset_of(addr, size) {
         Some(offset) => Ok(offset),
-        None if addr & (size - 1) != 0 => Err(Stop::Misaligned(addr)),
+        None if addr & (size.bytes - 1) != 0 => Err(Stop::Misaligned(addr)),
         None => Err(Stop::Unmapped(addr)),
     }
 }

@@ -1,7 +1,6 @@
 ghost use Rattle.std.specs.Prelude.{◌≡◌, slice_index, replicate};
-ghost use Rattle.rv_inst.specs.Valid.{IsRegister};
 
-use rv_model::REGISTER_COUNT;
+use rv_model::{REGISTER_COUNT, Register};
 
 /// The registers x0 to x31. x0 holds 0 for good ("Programmers' Model for Base Integer ISA").
 #[derive(Clone, Copy, Debug, PartialEq, Eq)]
@@ -23,21 +22,19 @@ impl Regs {
         }
     }
 
-    /// The value of register `index`; 0 for x0.
-    pub fn get(&self, index: u8) -> u32
-        requires { IsRegister index }
-        ensures { result ≡ reg self.now.x index }
+    /// The value of `register`; 0 for x0.
+    pub fn get(&self, register: Register) -> u32
+        ensures { result ≡ reg self.now.x register.number }
     {
-        self.x[index as usize]
+        self.x[register.number as usize]
     }
 
-    /// Writes `value` to register `index`. A write to x0 does nothing.
-    pub fn set(&mut self, index: u8, value: u32)
-        requires { IsRegister index }
-        ensures { self.new.x ≡ with_reg self.old.x index value }
+    /// Writes `value` to `register`. A write to x0 does nothing.
+    pub fn set(&mut self, register: Register, value: u32)
+        ensures { self.new.x ≡ with_reg self.old.x register.number value }
     {
-        if index != 0 {
-            self.x[index as usize] = value;
+        if register.number != 0 {
+            self.x[register.number as usize] = value;
         }
     }
 }

@@ -5,7 +5,7 @@ use Rattle.std.proofs.lemmas.Bool.Decides.{nat_tests}
 use Rattle.std.proofs.lemmas.List.FromFn.{get_or-map-range_with_len, length-map-range_with_len, map-range_with_len_more}
 use Rattle.ce_model.specs.declared.topology.BlockId.{BlockId}
 use Rattle.ce_model.specs.Limits.{home_blocks}
-use Rattle.ce_model.specs.Blocks.{is_lower, put, blocks_of_home}
+use Rattle.ce_model.specs.Blocks.{is_lower, with_id, blocks_of_home}
 
 -- a block of a home
 abbrev pub name : ℕ → ℕ → BlockId
@@ -18,12 +18,12 @@ first_names home count = map (name home) (range_with_len 0 count)
 later : (home i j : ℕ) → i < j → is_lower (name home j) (name home i) ≡ false
 later home i j h = grind (arith, nat_tests)
 
-put-later : (home a n j : ℕ) → a + n ≤ j → put (name home j) (map (name home) (range_with_len a n)) ≡ map (name home) (range_with_len a n) ++ name home j ∷ []
+put-later : (home a n j : ℕ) → a + n ≤ j → with_id (name home j) (map (name home) (range_with_len a n)) ≡ map (name home) (range_with_len a n) ++ name home j ∷ []
 put-later home a zero j h = refl
 put-later home a (suc n) j h = rw (later home a j (omega arith)) (ap (λ ids. name home a ∷ ids) (put-later home (a + 1) n j (omega arith)))
 
 -- the next block's name goes last
-pub put-next : (home count : ℕ) → put (name home count) (first_names home count) ≡ first_names home (count + 1)
+pub put-next : (home count : ℕ) → with_id (name home count) (first_names home count) ≡ first_names home (count + 1)
 put-next home count = put-later home 0 count count (omega arith) ∙ sym (map-range_with_len_more (name home) 0 count count (omega arith))
 
 -- it isn't among the earlier ones

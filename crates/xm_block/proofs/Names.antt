@@ -7,7 +7,7 @@ use Rattle.std.proofs.lemmas.Bool.{cases_Bool, cases_lt}
 use Rattle.std.proofs.lemmas.Bool.Decides.{nat_tests}
 use Rattle.std.proofs.lemmas.List.{get_or-map, length-map}
 use Rattle.ce_model.specs.declared.topology.BlockId.{BlockId}
-use Rattle.ce_model.specs.Blocks.{Block, is_lower, put}
+use Rattle.ce_model.specs.Blocks.{Block, is_lower, with_id}
 use Rattle.xm_block.specs.Rising.{IsRising}
 use Rattle.xm_block.specs.Stores.{is_before, ids_of, with_block}
 use Rattle.xm_block.proofs.Rises.{AllPairs-insert}
@@ -49,7 +49,7 @@ rising-insert block blocks i h rising apart passed ahead =
     ahead
 
 -- the names of a store after one block more
-pub ids_of-with_block : (block : Block) (blocks : List Block) → ids_of (with_block block blocks) ≡ put block.id (ids_of blocks)
+pub ids_of-with_block : (block : Block) (blocks : List Block) → ids_of (with_block block blocks) ≡ with_id block.id (ids_of blocks)
 ids_of-with_block block [] = refl
 ids_of-with_block block (other ∷ blocks) = elim (cases_Bool (is_lower block.id other.id)) [
   | inl t ↦ rw t refl

@@ -3,12 +3,12 @@ use Rattle.std.proofs.Common.{◌≡◌, ◌⊎◌, ℕ, zero, suc, ◌+◌, ◌
 use Rattle.std.specs.List.{AllWithin, AllPairs, insert}
 use Rattle.std.proofs.lemmas.List.Edits.{length-insert, get_or-insert_below, get_or-insert_at, get_or-insert_above}
 use Rattle.std.proofs.lemmas.Bool.{cases_order}
-use Rattle.xm_block.specs.Rising.{put_in}
+use Rattle.xm_block.specs.Rising.{with_inserted}
 
 -- the place at which an element goes in: it is before none that it passes, and before those behind it
 pub put_in-at : {X : Type 0} (before : X → X → Bool) (x : X) (xs : List X) (i : ℕ) → i ≤ length xs
     → AllWithin (λ y. before x y ≡ false) xs 0 i → AllWithin (λ y. before x y ≡ true) xs i (length xs)
-    → insert xs i x ≡ put_in before x xs
+    → insert xs i x ≡ with_inserted before x xs
 put_in-at before x [] zero h passed ahead = refl
 put_in-at before x [] (suc i) h passed ahead = absurd (omega arith)
 put_in-at before x (y ∷ ys) zero h passed ahead = rw (ahead 0 x (omega arith) (omega arith)) refl

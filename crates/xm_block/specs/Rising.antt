@@ -6,6 +6,6 @@ abbrev pub IsRising : {X : Type 0} → (X → X → Bool) → List X → Type 0
 IsRising before xs = AllPairs (λ a b. IsTrue (before a b)) xs
 
 -- a list with one element more, in front of the first one that it is before
-abbrev pub put_in : {X : Type 0} → (X → X → Bool) → X → List X → List X
-put_in before x [] = x ∷ []
-put_in before x (y ∷ ys) = if before x y then x ∷ y ∷ ys else y ∷ put_in before x ys
+abbrev pub with_inserted : {X : Type 0} → (X → X → Bool) → X → List X → List X
+with_inserted before x [] = x ∷ []
+with_inserted before x (y ∷ ys) = if before x y then x ∷ y ∷ ys else y ∷ with_inserted before x ys

@@ -2,10 +2,10 @@
 use Rattle.std.specs.Prelude.{ℕ, Bool, List, [], ◌∷◌, ◌++◌, ◌≢◌, AllPairs, map}
 use Rattle.ce_model.specs.declared.topology.BlockId.{BlockId}
 use Rattle.ce_model.specs.Blocks.{Block, is_lower}
-use Rattle.xm_block.specs.Rising.{put_in}
+use Rattle.xm_block.specs.Rising.{with_inserted}
 
 -- a store: its blocks by rising name, and how many more it has room for
-pub record KeptBlock : Type 0 where
+pub record BlockStore : Type 0 where
   pub blocks : List Block
   pub spare : ℕ
 
@@ -19,13 +19,13 @@ ids_of blocks = map (λ block. block.id) blocks
 
 -- blocks by rising name, with one block more in its place
 abbrev pub with_block : Block → List Block → List Block
-with_block = put_in is_before
+with_block = with_inserted is_before
 
 -- with several blocks more, one after the other
 abbrev pub with_blocks : List Block → List Block → List Block
-with_blocks [] stored = stored
-with_blocks (block ∷ blocks) stored = with_blocks blocks (with_block block stored)
+with_blocks [] store_blocks = store_blocks
+with_blocks (block ∷ blocks) store_blocks = with_blocks blocks (with_block block store_blocks)
 
 -- the names of these blocks, and of those in a store, all differ
 abbrev pub AreApart : List Block → List Block → Type 0
-AreApart blocks stored = AllPairs (λ a b. a ≢ b) (ids_of blocks ++ ids_of stored)
+AreApart blocks store_blocks = AllPairs (λ a b. a ≢ b) (ids_of blocks ++ ids_of store_blocks)

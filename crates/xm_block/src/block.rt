@@ -1,15 +1,14 @@
 ghost use Rattle.std.specs.Prelude.{◌≡◌, ◌<◌, ◌≤◌, ◌+◌, ◌^◌, [], length, take, replicate, IfOk};
-ghost use Rattle.rv_model.specs.Exec.{IsAccessSize};
 ghost use Rattle.rv_model.specs.LittleEndian.{number_at, with_number_at};
 ghost use Rattle.ce_model.specs.Limits.{block_room};
 
 use ce_model::{BLOCK_ROOM, BlockId, NoMemory};
-use rv_model::{number_in, put_number};
+use rv_model::{AccessSize, number_in, put_number};
 use std::alloc::Global;
 use std::marker::Model;
 
-/// A block of message memory: a name that it keeps for good, and the bytes that it holds now, 4,096 at most. There is
-/// one block of a name, so it isn't `Clone`. Contracts see its name and its bytes.
+/// A block of message memory: a name that it keeps for good, and the bytes that it holds now, `BLOCK_ROOM` at most. There
+/// is one block of a name, so it isn't `Clone`. Contracts see its name and its bytes.
 #[derive(Drop)]
 pub struct Block {
     id: BlockId,
@@ -49,7 +48,7 @@ impl Block {
         self.id
     }
 
-    /// How many bytes it holds now, 4,096 at most.
+    /// How many bytes it holds now, `BLOCK_ROOM` at most.
     pub fn length(&self) -> u32
         ensures value { result ≡ length self.now.bytes }
         ensures within { result ≤ block_room }
@@ -65,7 +64,7 @@ impl Block {
         &self.room[..self.length as usize]
     }
 
-    /// Makes the block hold `length` bytes, all 0; the length is 4,096 at most.
+    /// Makes the block hold `length` bytes, all 0; the length is `BLOCK_ROOM` at most.
     pub fn reset(&mut self, length: u32)
         requires { length ≤ block_room }
         ensures { self.new ≡ record { id = self.old.id; bytes = replicate length 0 } }
@@ -74,7 +73,7 @@ impl Block {
         self.length = length;
     }
 
-    /// Makes the block hold these bytes, 4,096 at most.
+    /// Makes the block hold these bytes, `BLOCK_ROOM` at most.
     #[tactic(auto, unfolding(ce_model::specs::Limits::block_room))]
     pub fn fill(&mut self, bytes: &[u8])
         requires { length bytes.now ≤ block_room }
@@ -91,24 +90,25 @@ impl Block {
         self.fill(other.bytes());
     }
 
-    /// The number in the `size` bytes from `offset` on, little-endian. The size is 1, 2 or 4, and all these bytes are
-    /// within the block's length.
-    pub fn load(&self, offset: u32, size: u32) -> u32
-        requires size { IsAccessSize size }
-        requires within { offset + size ≤ length self.now.bytes }
-        ensures value { result ≡ number_at self.now.bytes offset size }
-        ensures fits { result < 256 ^ size }
+    /// The number in the bytes from `offset` on, of which there are `size`, little-endian. They are all within the block's
+    /// length.
+    pub fn load(&self, offset: u32, size: AccessSize) -> u32
+        requires within { offset + size.bytes ≤ length self.now.bytes }
+        ensures value { result ≡ number_at self.now.bytes offset size.bytes }
+        ensures fits { result < 256 ^ size.bytes }
     {
         number_in(self.bytes(), offset as usize, size)
     }
 
-    /// Stores the lowest `size` bytes of `value` from `offset` on, little-endian. The size is 1, 2 or 4, and all these
-    /// bytes are within the block's length.
-    pub fn store(&mut self, offset: u32, size: u32, value: u32)
-        requires size { IsAccessSize size }
-        requires within { offset + size ≤ length self.old.bytes }
+    /// Stores the lowest bytes of `value` from `offset` on, `size` of them, little-endian. They are all within the block's
+    /// length.
+    pub fn store(&mut self, offset: u32, size: AccessSize, value: u32)
+        requires within { offset + size.bytes ≤ length self.old.bytes }
         ensures after { self.new
-            ≡ record { id = self.old.id; bytes = with_number_at self.old.bytes offset size value } }
+            ≡ record {
+              id = self.old.id;
+              bytes = with_number_at self.old.bytes offset size.bytes value;
+            } }
         ensures length { length self.new.bytes ≡ length self.old.bytes }
     {
         let length = self.length as usize;
@@ -147,11 +147,10 @@ fn overwrite(room: &mut [u8], bytes: &[u8])
 }
 
 /// Writes a number into the first `count` bytes.
-fn put_number_within(room: &mut [u8], count: usize, offset: usize, size: u32, value: u32)
-    requires size { IsAccessSize size }
-    requires within { offset + size ≤ count }
+fn put_number_within(room: &mut [u8], count: usize, offset: usize, size: AccessSize, value: u32)
+    requires within { offset + size.bytes ≤ count }
     requires count { count ≤ length room.old }
-    ensures { take count room.new ≡ with_number_at (take count room.old) offset size value }
+    ensures { take count room.new ≡ with_number_at (take count room.old) offset size.bytes value }
 {
     put_number(&mut room[..count], offset, size, value);
 }

@@ -1,6 +1,6 @@
 ghost use Rattle.std.specs.Prelude.{◌≡◌, ◌≤◌, ◌+◌, ◌-◌, ◌↔◌, [], ◌∷◌, length, All, Contains, IsTrue, IsNone, IfSome, IfNone, IfOk};
 ghost use Rattle.ce_model.specs.Limits.{home_blocks};
-ghost use Rattle.ce_model.specs.Blocks.{blocks_of_home, put};
+ghost use Rattle.ce_model.specs.Blocks.{blocks_of_home, with_id};
 ghost use Rattle.xm_block.specs.Rising.{IsRising};
 ghost use Rattle.xm_block.specs.Stores.{ids_of, is_before, with_block};
 
@@ -21,9 +21,9 @@ pub struct Store {
 
 impl Model for Store {
     ghost use Rattle.std.specs.Prelude.{◌-◌, length};
-    ghost use Rattle.xm_block.specs.Stores.{KeptBlock};
+    ghost use Rattle.xm_block.specs.Stores.{BlockStore};
 
-    ghost Value = { KeptBlock };
+    ghost Value = { BlockStore };
 
     ghost use Rattle.xm_block.specs.Tables.{IsTable};
 
@@ -88,7 +88,7 @@ impl Store {
         requires apart { ¬ (Contains (ids_of self.old.blocks) block.id) }
         ensures after { self.new
             ≡ record { blocks = with_block block self.old.blocks; spare = self.old.spare - 1 } }
-        ensures ids { ids_of self.new.blocks ≡ put block.id (ids_of self.old.blocks) }
+        ensures ids { ids_of self.new.blocks ≡ with_id block.id (ids_of self.old.blocks) }
     {
         let place = place_of(&self.blocks, &block);
         match self.blocks.insert(place, block) {

@@ -2,6 +2,7 @@ ghost use Rattle.std.specs.Prelude.{◌≡◌, IfOk};
 
 use super::*;
 use ce_model::{BlockId, GREATEST_BLOCKS, HOME_BLOCKS};
+use rv_model::AccessSize;
 use std::alloc::Global;
 use std::process::Abort;
 use std::test::Fail;
@@ -36,11 +37,11 @@ fn block_of_bytes(rt: HostRuntime) -> Result<(), Fail> {
 fn numbers_in_a_block(rt: HostRuntime) -> Result<(), Fail> {
     let mut block = block(rt.alloc(), 0, 0)?;
     block.reset(8);
-    block.store(4, 4, 0x0403_0201);
-    block.store(1, 1, 0x1FF);
+    block.store(4, AccessSize::word(), 0x0403_0201);
+    block.store(1, AccessSize::byte(), 0x1FF);
     assert_eq!(rt; block.bytes(), [0, 0xFF, 0, 0, 1, 2, 3, 4].as_slice());
-    assert_eq!(rt; block.load(6, 2), 0x0403);
-    assert_eq!(rt; block.load(0, 4), 0xFF00);
+    assert_eq!(rt; block.load(6, AccessSize::half()), 0x0403);
+    assert_eq!(rt; block.load(0, AccessSize::word()), 0xFF00);
     Ok(())
 }
 

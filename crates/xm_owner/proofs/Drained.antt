@@ -9,8 +9,8 @@ use Rattle.std.proofs.lemmas.List.Elements.{filter-append}
 use Rattle.std.proofs.lemmas.List.Kept.{AllPairs-filter}
 use Rattle.ce_model.specs.Blocks.{Block}
 use Rattle.xm_block.specs.Rising.{IsRising}
-use Rattle.xm_owner.specs.Holdings.{Mapping, blocks_of, without_process}
-use Rattle.xm_owner.specs.Tables.{key_before, mappings_of}
+use Rattle.xm_owner.specs.Holdings.{Mapping, process_blocks, without_process}
+use Rattle.xm_owner.specs.Tables.{is_key_before, mappings_of}
 use Rattle.xm_owner.specs.Ranges.{IsDrainedRange}
 use Rattle.xm_owner.specs.declared.key.Key.{Key}
 
@@ -41,7 +41,7 @@ module _ (pid : ℕ) where
   keys-own (k ∷ ks) all = rw (all 0 k (omega arith) (omega arith)) (keys-own ks (λ i d low high. all (suc i) d (omega arith) (omega arith)))
 
   mappings-others : (ks : List Key) (bs : List Block) → AllWithin (λ k. k.pid == pid ≡ false) ks 0 (length ks)
-      → (without_process pid (mappings_of ks bs) ≡ mappings_of ks bs) × (blocks_of pid (mappings_of ks bs) ≡ [])
+      → (without_process pid (mappings_of ks bs) ≡ mappings_of ks bs) × (process_blocks pid (mappings_of ks bs) ≡ [])
   mappings-others [] bs all = (refl, refl)
   mappings-others (k ∷ ks) [] all = (refl, refl)
   mappings-others (k ∷ ks) (b ∷ bs) all =
@@ -50,7 +50,7 @@ module _ (pid : ℕ) where
       (rw other (ap (λ ms. record { pid = k.pid; window = k.window; block = b } ∷ ms) rest.0), rw other rest.1)
 
   mappings-own : (ks : List Key) (bs : List Block) → length bs ≡ length ks → AllWithin (λ k. k.pid == pid ≡ true) ks 0 (length ks)
-      → (without_process pid (mappings_of ks bs) ≡ []) × (blocks_of pid (mappings_of ks bs) ≡ bs)
+      → (without_process pid (mappings_of ks bs) ≡ []) × (process_blocks pid (mappings_of ks bs) ≡ bs)
   mappings-own [] [] h all = (refl, refl)
   mappings-own [] (b ∷ bs) h all = absurd (omega arith)
   mappings-own (k ∷ ks) [] h all = absurd (omega arith)
@@ -59,7 +59,7 @@ module _ (pid : ℕ) where
       let own = all 0 k (omega arith) (omega arith) in
       (rw own rest.0, rw own (ap (λ blocks. b ∷ blocks) rest.1))
 
-  blocks-append : (ms ns : List Mapping) → blocks_of pid (ms ++ ns) ≡ blocks_of pid ms ++ blocks_of pid ns
+  blocks-append : (ms ns : List Mapping) → process_blocks pid (ms ++ ns) ≡ process_blocks pid ms ++ process_blocks pid ns
   blocks-append ms ns =
       ap (map (λ mapping. mapping.block)) (filter-append (λ mapping. mapping.pid == pid) ms ns)
       ∙ map-append (λ mapping. mapping.block) (filter (λ mapping. mapping.pid == pid) ms) (filter (λ mapping. mapping.pid == pid) ns)
@@ -74,16 +74,19 @@ module _ (pid : ℕ) where
   is-own k h l = grind (arith, nat_tests)
 
   -- the keys of the process stand between those of the processes below and above it
-  module _ (keys : List Key) (blocks : List Block) (first last : ℕ) (paired : length blocks ≡ length keys) (in_front : first ≤ length keys) (behind : last ≤ length keys)
+  module _ (keys : List Key) (first last : ℕ) (in_front : first ≤ length keys) (behind : last ≤ length keys)
       (below : AllWithin (λ k. nat_lt k.pid pid ≡ true) keys 0 first) (not_below : AllWithin (λ k. nat_lt k.pid pid ≡ false) keys first (length keys))
       (up_to : AllWithin (λ k. nat_lt k.pid (pid + 1) ≡ true) keys 0 last) (above : AllWithin (λ k. nat_lt k.pid (pid + 1) ≡ false) keys last (length keys)) where
-    in_order : (d : Key) → first ≤ last
-    in_order d = elim (cases_lt last first) [
+    between : (d : Key) → first ≤ last
+    between d = elim (cases_lt last first) [
       | inr q ↦ q
       | inl q ↦ (let one = below last d (omega arith) q in
           let two = above last d (omega arith) (omega arith) in
           let bad : nat_lt (get_or keys last d).pid pid ≡ false = grind (arith, nat_tests) in absurd (cc))
     ]
+
+    pub in_order : first ≤ last
+    in_order = between (record { pid = 0; window = 0 })
 
     module _ (order : first ≤ last) where
       front : AllWithin (λ k. k.pid == pid ≡ false) (take first keys) 0 (length (take first keys))
@@ -112,78 +115,82 @@ module _ (pid : ℕ) where
           ∙ ap (λ ks. filter kept (take first keys) ++ ks) (filter-append kept (slice_range keys first last) (drop last keys))
           ∙ (rw (keys-others (take first keys) front, keys-own (slice_range keys first last) middle, keys-others (drop last keys) back) refl)
 
-      rising-left : IsRising key_before keys → IsRising key_before (remove_range keys first last)
-      rising-left rising = subst (IsRising key_before) keys-left (AllPairs-filter (λ a b. key_before a b ≡ true) kept keys rising)
+      pub rising-left : IsRising is_key_before keys → IsRising is_key_before (remove_range keys first last)
+      rising-left rising = subst (IsRising is_key_before) keys-left (AllPairs-filter (λ a b. is_key_before a b ≡ true) kept keys rising)
 
-      split : mappings_of keys blocks ≡ mappings_of (take first keys) (take first blocks)
-          ++ (mappings_of (slice_range keys first last) (slice_range blocks first last) ++ mappings_of (drop last keys) (drop last blocks))
-      split =
-          let front_long = length-take first keys in
-          let front_longer = length-take first blocks in
-          let middle_long = length-between keys first last behind in
-          let middle_longer = length-between blocks first last (omega arith) in
-          ap (λ ks. mappings_of ks blocks) (split_between keys first last order)
-          ∙ ap (mappings_of (take first keys ++ (slice_range keys first last ++ drop last keys))) (split_between blocks first last order)
-          ∙ mappings-append (take first keys) (take first blocks) _ _ (omega arith)
-          ∙ ap (λ ms. mappings_of (take first keys) (take first blocks) ++ ms)
-          (mappings-append (slice_range keys first last) (slice_range blocks first last) (drop last keys) (drop last blocks) (omega arith))
+      module _ (blocks : List Block) (paired : length blocks ≡ length keys) where
+        split : mappings_of keys blocks ≡ mappings_of (take first keys) (take first blocks)
+            ++ (mappings_of (slice_range keys first last) (slice_range blocks first last) ++ mappings_of (drop last keys) (drop last blocks))
+        split =
+            let front_long = length-take first keys in
+            let front_longer = length-take first blocks in
+            let middle_long = length-between keys first last behind in
+            let middle_longer = length-between blocks first last (omega arith) in
+            ap (λ ks. mappings_of ks blocks) (split_between keys first last order)
+            ∙ ap (mappings_of (take first keys ++ (slice_range keys first last ++ drop last keys))) (split_between blocks first last order)
+            ∙ mappings-append (take first keys) (take first blocks) _ _ (omega arith)
+            ∙ ap (λ ms. mappings_of (take first keys) (take first blocks) ++ ms)
+            (mappings-append (slice_range keys first last) (slice_range blocks first last) (drop last keys) (drop last blocks) (omega arith))
 
-      abbrev middle_mappings : List Mapping
-      middle_mappings = mappings_of (slice_range keys first last) (slice_range blocks first last)
+        abbrev front_mappings : List Mapping
+        front_mappings = mappings_of (take first keys) (take first blocks)
 
-      abbrev back_mappings : List Mapping
-      back_mappings = mappings_of (drop last keys) (drop last blocks)
+        abbrev middle_mappings : List Mapping
+        middle_mappings = mappings_of (slice_range keys first last) (slice_range blocks first last)
 
-      mappings-left : mappings_of (remove_range keys first last) (remove_range blocks first last) ≡ without_process pid (mappings_of keys blocks)
-      mappings-left =
-          let front_long = length-take first keys in
-          let front_longer = length-take first blocks in
-          let middle_long = length-between keys first last behind in
-          let middle_longer = length-between blocks first last (omega arith) in
-          let fronts = mappings-others (take first keys) (take first blocks) front in
-          let middles = mappings-own (slice_range keys first last) (slice_range blocks first last) (omega arith) middle in
-          let backs = mappings-others (drop last keys) (drop last blocks) back in
-          mappings-append (take first keys) (take first blocks) (drop last keys) (drop last blocks) (omega arith)
-          ∙ sym (ap (without_process pid) split
-          ∙ filter-append (λ mapping. not (mapping.pid == pid)) (mappings_of (take first keys) (take first blocks)) (middle_mappings ++ back_mappings)
-          ∙ ap (λ ms. without_process pid (mappings_of (take first keys) (take first blocks)) ++ ms)
-          (filter-append (λ mapping. not (mapping.pid == pid)) middle_mappings back_mappings)
-          ∙ ap (λ ms. ms ++ (without_process pid middle_mappings ++ without_process pid back_mappings)) fronts.0
-          ∙ ap (λ ms. mappings_of (take first keys) (take first blocks) ++ (ms ++ without_process pid back_mappings)) middles.0
-          ∙ ap (λ ms. mappings_of (take first keys) (take first blocks) ++ ms) backs.0)
+        abbrev back_mappings : List Mapping
+        back_mappings = mappings_of (drop last keys) (drop last blocks)
 
-      blocks-left : slice_range blocks first last ≡ blocks_of pid (mappings_of keys blocks)
-      blocks-left =
-          let middle_long = length-between keys first last behind in
-          let middle_longer = length-between blocks first last (omega arith) in
-          let fronts = mappings-others (take first keys) (take first blocks) front in
-          let middles = mappings-own (slice_range keys first last) (slice_range blocks first last) (omega arith) middle in
-          let backs = mappings-others (drop last keys) (drop last blocks) back in
-          sym (ap (blocks_of pid) split
-          ∙ blocks-append (mappings_of (take first keys) (take first blocks)) (middle_mappings ++ back_mappings)
-          ∙ ap (λ bs. blocks_of pid (mappings_of (take first keys) (take first blocks)) ++ bs) (blocks-append middle_mappings back_mappings)
-          ∙ ap (λ bs. bs ++ (blocks_of pid middle_mappings ++ blocks_of pid back_mappings)) fronts.1
-          ∙ ap (λ bs. bs ++ blocks_of pid back_mappings) middles.1
-          ∙ ap (λ bs. slice_range blocks first last ++ bs) backs.1
-          ∙ nil-right (slice_range blocks first last))
+        -- the process has none of the first and none of the last, and all between
+        fronts : (without_process pid front_mappings ≡ front_mappings) × (process_blocks pid front_mappings ≡ [])
+        fronts = mappings-others (take first keys) (take first blocks) front
 
-    pub drained : IsRising key_before keys → IsDrainedRange pid keys blocks first last
-    drained rising =
-        let order = in_order (record { pid = 0; window = 0 }) in
-        let taken = blocks-left order in
-        let front_long = length-take first keys in
-        let front_longer = length-take first blocks in
-        let back_long = length-drop last keys in
-        let back_longer = length-drop last blocks in
-        let both = length-append (take first keys) (drop last keys) in
-        let both_blocks = length-append (take first blocks) (drop last blocks) in
-        let middle_longer = length-between blocks first last (omega arith) in
-        record {
-          order = order;
-          mappings = mappings-left order;
-          taken = taken;
-          rising = rising-left order rising;
-          keys_left = omega arith;
-          blocks_left = omega arith;
-          count = sym middle_longer ∙ ap length taken;
-        }
+        middles : (without_process pid middle_mappings ≡ []) × (process_blocks pid middle_mappings ≡ slice_range blocks first last)
+        middles =
+            let middle_long = length-between keys first last behind in
+            let middle_longer = length-between blocks first last (omega arith) in
+            mappings-own (slice_range keys first last) (slice_range blocks first last) (omega arith) middle
+
+        backs : (without_process pid back_mappings ≡ back_mappings) × (process_blocks pid back_mappings ≡ [])
+        backs = mappings-others (drop last keys) (drop last blocks) back
+
+        mappings-left : mappings_of (remove_range keys first last) (remove_range blocks first last) ≡ without_process pid (mappings_of keys blocks)
+        mappings-left =
+            let front_long = length-take first keys in
+            let front_longer = length-take first blocks in
+            mappings-append (take first keys) (take first blocks) (drop last keys) (drop last blocks) (omega arith)
+            ∙ sym (ap (without_process pid) split
+            ∙ filter-append (λ mapping. not (mapping.pid == pid)) front_mappings (middle_mappings ++ back_mappings)
+            ∙ ap (λ ms. without_process pid front_mappings ++ ms)
+            (filter-append (λ mapping. not (mapping.pid == pid)) middle_mappings back_mappings)
+            ∙ ap (λ ms. ms ++ (without_process pid middle_mappings ++ without_process pid back_mappings)) fronts.0
+            ∙ ap (λ ms. front_mappings ++ (ms ++ without_process pid back_mappings)) middles.0
+            ∙ ap (λ ms. front_mappings ++ ms) backs.0)
+
+        blocks-left : slice_range blocks first last ≡ process_blocks pid (mappings_of keys blocks)
+        blocks-left =
+            sym (ap (process_blocks pid) split
+            ∙ blocks-append front_mappings (middle_mappings ++ back_mappings)
+            ∙ ap (λ bs. process_blocks pid front_mappings ++ bs) (blocks-append middle_mappings back_mappings)
+            ∙ ap (λ bs. bs ++ (process_blocks pid middle_mappings ++ process_blocks pid back_mappings)) fronts.1
+            ∙ ap (λ bs. bs ++ process_blocks pid back_mappings) middles.1
+            ∙ ap (λ bs. slice_range blocks first last ++ bs) backs.1
+            ∙ nil-right (slice_range blocks first last))
+
+        pub drained : IsDrainedRange pid keys blocks first last
+        drained =
+            let taken = blocks-left in
+            let front_long = length-take first keys in
+            let front_longer = length-take first blocks in
+            let back_long = length-drop last keys in
+            let back_longer = length-drop last blocks in
+            let both = length-append (take first keys) (drop last keys) in
+            let both_blocks = length-append (take first blocks) (drop last blocks) in
+            let middle_longer = length-between blocks first last (omega arith) in
+            record {
+              mappings = mappings-left;
+              taken = taken;
+              keys_left = omega arith;
+              blocks_left = omega arith;
+              count = sym middle_longer ∙ ap length taken;
+            }

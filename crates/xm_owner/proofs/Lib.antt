@@ -1,4 +1,4 @@
-pub mod Keys
+pub mod KeyOrder
 pub mod Mappings
 pub mod Places
 pub mod Drained

@@ -7,11 +7,10 @@ use Rattle.std.proofs.lemmas.Option.{slice_get_past, slice_get-get_or}
 use Rattle.std.proofs.lemmas.List.{get_or-map, length-map}
 use Rattle.ce_model.specs.Blocks.{Block}
 use Rattle.xm_block.specs.Rising.{IsRising}
-use Rattle.xm_block.proofs.Rises.{AllPairs-insert}
-use Rattle.xm_owner.specs.Holdings.{Mapping, is_before, held_at, with_mapping, without, with_block_at}
-use Rattle.xm_owner.specs.Tables.{key_before, same_key, mappings_of}
+use Rattle.xm_owner.specs.Holdings.{Mapping, is_before, block_held_at, with_mapping, mappings_without, with_block_at}
+use Rattle.xm_owner.specs.Tables.{is_key_before, is_same_key, mappings_of}
 use Rattle.xm_owner.specs.declared.key.Key.{Key}
-use Rattle.xm_owner.proofs.Keys.{key_after, key_before-apart, key_before-behind, same_key-before}
+use Rattle.xm_owner.proofs.KeyOrder.{key_after, is_key_before-apart, is_key_before-behind, is_same_key-before}
 use Rattle.xm_owner.proofs.Mappings.{vacant-head, vacant-tail, without-vacant}
 
 -- the key of a mapping, and the mapping of a key
@@ -29,7 +28,7 @@ keys_of (key ∷ keys) (block ∷ blocks) h = ap (λ rest. key ∷ rest) (keys_o
 pub length-mappings_of : (keys : List Key) (blocks : List Block) → length blocks ≡ length keys → length (mappings_of keys blocks) ≡ length keys
 length-mappings_of keys blocks h = sym (length-map (mappings_of keys blocks) key_of) ∙ ap length (keys_of keys blocks h)
 
-pub rising-mappings_of : (keys : List Key) (blocks : List Block) → length blocks ≡ length keys → IsRising key_before keys → IsRising is_before (mappings_of keys blocks)
+pub rising-mappings_of : (keys : List Key) (blocks : List Block) → length blocks ≡ length keys → IsRising is_key_before keys → IsRising is_before (mappings_of keys blocks)
 rising-mappings_of keys blocks h rising i j d low high =
     let long = length-mappings_of keys blocks h in
     let at : (k : ℕ) → k < length keys → get_or keys k (key_of d) ≡ key_of (get_or (mappings_of keys blocks) k d) =
@@ -42,36 +41,27 @@ next n = omega arith
 
 -- what a window holds stands where its key stands
 pub held_at-mappings_of : (key : Key) (keys : List Key) (blocks : List Block) → length blocks ≡ length keys
-    → held_at (mappings_of keys blocks) key.pid key.window ≡ slice_get blocks (position_or_len (same_key key) keys)
+    → block_held_at (mappings_of keys blocks) key.pid key.window ≡ slice_get blocks (position_or_len (is_same_key key) keys)
 held_at-mappings_of key [] [] h = refl
 held_at-mappings_of key [] (block ∷ blocks) h = absurd (omega arith)
 held_at-mappings_of key (other ∷ keys) [] h = absurd (omega arith)
-held_at-mappings_of key (other ∷ keys) (block ∷ blocks) h = elim (cases_Bool (same_key key other)) [
+held_at-mappings_of key (other ∷ keys) (block ∷ blocks) h = elim (cases_Bool (is_same_key key other)) [
   | inl t ↦ rw t refl
-  | inr f ↦ rw (f, next (position_or_len (same_key key) keys)) (held_at-mappings_of key keys blocks (omega arith))
+  | inr f ↦ rw (f, next (position_or_len (is_same_key key) keys)) (held_at-mappings_of key keys blocks (omega arith))
 ]
 
 -- where a window holds nothing, no key is its own
-vacant-keys : (key : Key) (keys : List Key) (blocks : List Block) → length blocks ≡ length keys → held_at (mappings_of keys blocks) key.pid key.window ≡ None
-    → AllWithin (λ other. same_key key other ≡ false) keys 0 (length keys)
+pub vacant-keys : (key : Key) (keys : List Key) (blocks : List Block) → length blocks ≡ length keys → block_held_at (mappings_of keys blocks) key.pid key.window ≡ None
+    → AllWithin (λ other. is_same_key key other ≡ false) keys 0 (length keys)
 vacant-keys key [] blocks h vacant k d low high = absurd (omega arith)
 vacant-keys key (other ∷ keys) [] h vacant k d low high = absurd (omega arith)
 vacant-keys key (other ∷ keys) (block ∷ blocks) h vacant zero d low high = vacant-head key.pid key.window (mapping other block) (mappings_of keys blocks) vacant
 vacant-keys key (other ∷ keys) (block ∷ blocks) h vacant (suc k) d low high =
     vacant-keys key keys blocks (omega arith) (vacant-tail key.pid key.window (mapping other block) (mappings_of keys blocks) vacant) k d (omega arith) (omega arith)
 
--- a key goes in between those that are before it and those that it is before
-pub rising-insert : (key : Key) (keys : List Key) (blocks : List Block) (i : ℕ) → i ≤ length keys → length blocks ≡ length keys → IsRising key_before keys
-    → held_at (mappings_of keys blocks) key.pid key.window ≡ None
-    → AllWithin (λ other. key_before other key ≡ true) keys 0 i → AllWithin (λ other. key_before other key ≡ false) keys i (length keys)
-    → IsRising key_before (insert keys i key)
-rising-insert key keys blocks i within h rising vacant passed ahead =
-    AllPairs-insert (λ a b. key_before a b ≡ true) keys i key within rising passed
-    (λ k d low high. key_after _ key (ahead k d low high) (vacant-keys key keys blocks h vacant k d (omega arith) high))
-
 pub mappings_of-insert : (key : Key) (block : Block) (keys : List Key) (blocks : List Block) (i : ℕ) → i ≤ length keys → length blocks ≡ length keys
-    → held_at (mappings_of keys blocks) key.pid key.window ≡ None
-    → AllWithin (λ other. key_before other key ≡ true) keys 0 i → AllWithin (λ other. key_before other key ≡ false) keys i (length keys)
+    → block_held_at (mappings_of keys blocks) key.pid key.window ≡ None
+    → AllWithin (λ other. is_key_before other key ≡ true) keys 0 i → AllWithin (λ other. is_key_before other key ≡ false) keys i (length keys)
     → mappings_of (insert keys i key) (insert blocks i block) ≡ with_mapping (mapping key block) (mappings_of keys blocks)
 mappings_of-insert key block [] [] zero within h vacant passed ahead = refl
 mappings_of-insert key block [] [] (suc i) within h vacant passed ahead = absurd (omega arith)
@@ -81,36 +71,36 @@ mappings_of-insert key block (other ∷ keys) (b ∷ blocks) zero within h vacan
     let before = key_after other key (ahead 0 key (omega arith) (omega arith)) (vacant-head key.pid key.window (mapping other b) (mappings_of keys blocks) vacant) in
     rw before refl
 mappings_of-insert key block (other ∷ keys) (b ∷ blocks) (suc i) within h vacant passed ahead =
-    let behind = key_before-apart other key (passed 0 key (omega arith) (omega arith)) in
+    let behind = is_key_before-apart other key (passed 0 key (omega arith) (omega arith)) in
     let rest = mappings_of-insert key block keys blocks i (omega arith) (omega arith) (vacant-tail key.pid key.window (mapping other b) (mappings_of keys blocks) vacant)
     (λ k d low high. passed (suc k) d (omega arith) (omega arith)) (λ k d low high. ahead (suc k) d (omega arith) (omega arith)) in
     rw behind (ap (λ ms. mapping other b ∷ ms) rest)
 
 -- keys behind the one of a window are others
-vacant-behind : (key other : Key) (keys : List Key) (blocks : List Block) → same_key key other ≡ true
-    → AllWithin (λ k. key_before other k ≡ true) keys 0 (length keys) → held_at (mappings_of keys blocks) key.pid key.window ≡ None
+vacant-behind : (key other : Key) (keys : List Key) (blocks : List Block) → is_same_key key other ≡ true
+    → AllWithin (λ k. is_key_before other k ≡ true) keys 0 (length keys) → block_held_at (mappings_of keys blocks) key.pid key.window ≡ None
 vacant-behind key other [] blocks same before = refl
 vacant-behind key other (first ∷ keys) [] same before = refl
 vacant-behind key other (first ∷ keys) (block ∷ blocks) same before =
-    let apart = key_before-behind key first (same_key-before key other first same (before 0 key (omega arith) (omega arith))) in
+    let apart = is_key_before-behind key first (is_same_key-before key other first same (before 0 key (omega arith) (omega arith))) in
     rw apart (vacant-behind key other keys blocks same (λ k d low high. before (suc k) d (omega arith) (omega arith)))
 
 -- the place of a key is at the front exactly where the first key is the same
-here-first : (key other : Key) (keys : List Key) → zero ≡ position_or_len (same_key key) (other ∷ keys) → same_key key other ≡ true
-here-first key other keys at = elim (cases_Bool (same_key key other)) [
+here-first : (key other : Key) (keys : List Key) → zero ≡ position_or_len (is_same_key key) (other ∷ keys) → is_same_key key other ≡ true
+here-first key other keys at = elim (cases_Bool (is_same_key key other)) [
   | inl t ↦ t
-  | inr f ↦ (let n : position_or_len (same_key key) (other ∷ keys) ≡ 1 + position_or_len (same_key key) keys = rw f refl in absurd (omega arith))
+  | inr f ↦ (let n : position_or_len (is_same_key key) (other ∷ keys) ≡ 1 + position_or_len (is_same_key key) keys = rw f refl in absurd (omega arith))
 ]
 
-here-later : (key other : Key) (keys : List Key) (i : ℕ) → suc i ≡ position_or_len (same_key key) (other ∷ keys)
-    → (same_key key other ≡ false) × (i ≡ position_or_len (same_key key) keys)
-here-later key other keys i at = elim (cases_Bool (same_key key other)) [
-  | inl t ↦ (let n : position_or_len (same_key key) (other ∷ keys) ≡ 0 = rw t refl in absurd (omega arith))
-  | inr f ↦ (let n : position_or_len (same_key key) (other ∷ keys) ≡ 1 + position_or_len (same_key key) keys = rw f refl in (f, omega arith))
+here-later : (key other : Key) (keys : List Key) (i : ℕ) → suc i ≡ position_or_len (is_same_key key) (other ∷ keys)
+    → (is_same_key key other ≡ false) × (i ≡ position_or_len (is_same_key key) keys)
+here-later key other keys i at = elim (cases_Bool (is_same_key key other)) [
+  | inl t ↦ (let n : position_or_len (is_same_key key) (other ∷ keys) ≡ 0 = rw t refl in absurd (omega arith))
+  | inr f ↦ (let n : position_or_len (is_same_key key) (other ∷ keys) ≡ 1 + position_or_len (is_same_key key) keys = rw f refl in (f, omega arith))
 ]
 
-pub mappings_of-remove : (key : Key) (keys : List Key) (blocks : List Block) (i : ℕ) → i ≡ position_or_len (same_key key) keys → i < length keys → length blocks ≡ length keys
-    → IsRising key_before keys → mappings_of (remove keys i) (remove blocks i) ≡ without key.pid key.window (mappings_of keys blocks)
+pub mappings_of-remove : (key : Key) (keys : List Key) (blocks : List Block) (i : ℕ) → i ≡ position_or_len (is_same_key key) keys → i < length keys → length blocks ≡ length keys
+    → IsRising is_key_before keys → mappings_of (remove keys i) (remove blocks i) ≡ mappings_without key.pid key.window (mappings_of keys blocks)
 mappings_of-remove key [] blocks i at within h rising = absurd (omega arith)
 mappings_of-remove key (other ∷ keys) [] i at within h rising = absurd (omega arith)
 mappings_of-remove key (other ∷ keys) (block ∷ blocks) zero at within h rising =
@@ -123,7 +113,7 @@ mappings_of-remove key (other ∷ keys) (block ∷ blocks) (suc i) at within h r
     rw later.0 (ap (λ ms. mapping other block ∷ ms) rest)
 
 -- another block in place of one; where the key isn't there, nothing changes
-pub mappings_of-set : (key : Key) (block : Block) (keys : List Key) (blocks : List Block) (i : ℕ) → i ≡ position_or_len (same_key key) keys → length blocks ≡ length keys
+pub mappings_of-set : (key : Key) (block : Block) (keys : List Key) (blocks : List Block) (i : ℕ) → i ≡ position_or_len (is_same_key key) keys → length blocks ≡ length keys
     → mappings_of keys (set blocks i block) ≡ with_block_at key.pid key.window block (mappings_of keys blocks)
 mappings_of-set key block [] blocks i at h = refl
 mappings_of-set key block (other ∷ keys) [] i at h = absurd (omega arith)

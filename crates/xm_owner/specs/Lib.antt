@@ -1,5 +1,5 @@
 pub mod Holdings
-pub mod Kept
+pub mod HeldTables
 pub mod Loans
 pub mod Ranges
 pub mod Tables

@@ -4,11 +4,11 @@ use Rattle.ce_model.specs.Blocks.{Block}
 use Rattle.xm_owner.specs.Holdings.{Mapping}
 use Rattle.xm_owner.specs.declared.key.Key.{Key}
 
-abbrev pub key_before : Key → Key → Bool
-key_before a b = nat_lt a.pid b.pid || (a.pid == b.pid && nat_lt a.window b.window)
+abbrev pub is_key_before : Key → Key → Bool
+is_key_before a b = nat_lt a.pid b.pid || (a.pid == b.pid && nat_lt a.window b.window)
 
-abbrev pub same_key : Key → Key → Bool
-same_key key other = other.pid == key.pid && other.window == key.window
+abbrev pub is_same_key : Key → Key → Bool
+is_same_key key other = other.pid == key.pid && other.window == key.window
 
 -- keys and blocks as mappings
 abbrev pub mappings_of : List Key → List Block → List Mapping

@@ -1,10 +1,12 @@
 //! The blocks that the processes of a node hold in their windows.
 #![tactic(auto)]
 
-mod held;
+mod held_blocks;
 mod key;
+mod keys;
+mod room;
 
-pub use held::HeldBlocks;
+pub use held_blocks::HeldBlocks;
 
 #[cfg(test)]
 mod tests;

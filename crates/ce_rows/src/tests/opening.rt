@@ -1,5 +1,6 @@
 ghost use Rattle.std.specs.Prelude.{◌≡◌, ◌^◌, [], ◌∷◌, IfOk};
-ghost use Rattle.rv_model.specs.Image.{image_parts, image_start};
+ghost use Rattle.rv_model.specs.declared.limits.TheConstants.{PRIVATE_START};
+ghost use Rattle.rv_model.specs.Image.{image_parts};
 ghost use Rattle.ce_daemon.specs.Boxes.{AreBoxes};
 ghost use Rattle.ce_rows.specs.RowEntries.{IsAt};
 ghost use Rattle.ce_rows.specs.Rows.{row_of, program};
@@ -31,7 +32,7 @@ const PROGRAM: [u8; 52] = [
 
 // The rows' image.
 fn image(alloc: Global) -> Result<Image, Fail>
-    ensures { IfOk result (λ image. image ≡ image_parts image_start program 0) }
+    ensures { IfOk result (λ image. image ≡ image_parts PRIVATE_START program 0) }
 {
     let mut bytes = Vec::new(alloc);
     bytes.extend_from_slice(&PROGRAM)?;
@@ -43,7 +44,7 @@ fn image(alloc: Global) -> Result<Image, Fail>
 
 // The images of a machine.
 fn images_of_rows(alloc: Global) -> Result<Vec<Image>, Fail>
-    ensures { IfOk result (λ images. images.items ≡ image_parts image_start program 0 ∷ []) }
+    ensures { IfOk result (λ images. images.items ≡ image_parts PRIVATE_START program 0 ∷ []) }
 {
     let mut images = Vec::new(alloc);
     images.push(image(alloc)?)?;

@@ -16,7 +16,7 @@ use std::alloc::Global;
 use std::test::Fail;
 
 // Makes the call of a row behind its first `count` ones.
-fn answered<N: Homed>(
+fn answer_row<N: Homed>(
     shared: &mut Machine<N>,
     alloc: Global,
     row: WorkedRow,
@@ -50,7 +50,7 @@ fn step<N: Homed>(
     requires { IsAt (row_of row) count shared.old }
     ensures { IfOk result (λ _. IsAt (row_of row) (count + 1) shared.new) }
 {
-    let reply = answered(shared, alloc, row, count)?;
+    let reply = answer_row(shared, alloc, row, count)?;
     expect(row, count, &reply)
 }
 
@@ -90,7 +90,7 @@ fn first_boxes<N: Homed>(shared: &mut Machine<N>, alloc: Global) -> Result<Vec<N
     ensures boxes { IfOk result (λ boxes.
         AreBoxes N.home N.clean 1 (node_of node_0) boxes.items) }
 {
-    let reply = answered(shared, alloc, WorkedRow::NextOwner, 0)?;
+    let reply = answer_row(shared, alloc, WorkedRow::NextOwner, 0)?;
     expect(WorkedRow::NextOwner, 0, &reply)?;
     boxes_of(reply)
 }

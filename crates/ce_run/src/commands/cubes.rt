@@ -1,15 +1,15 @@
 //! Commands that ask for a cube, look at the machine, or give the cube back.
 ghost use Rattle.std.specs.Prelude.{◌≡◌, ◌≤◌, None, IfOk, map};
 ghost use Rattle.ce_model.specs.Limits.{greatest_dim};
-ghost use Rattle.ce_model.specs.Machine.{after, cube_held_by};
 ghost use Rattle.ce_host.specs.declared.command.Command.TheVariants.{Freecube, Getcube, Peek};
-ghost use Rattle.ce_cube.specs.Crews.{AreAllHome, HasAllBlocks, IsHostAtHome, cube_grant};
+ghost use Rattle.ce_cube.specs.Crews.{AreAllHome, HasAllBlocks, IsHostAtHome};
+ghost use Rattle.ce_daemon.specs.Peeks.{cube_grant};
 ghost use Rattle.ce_run.specs.Asking.{HasCube, HasDrained};
-ghost use Rattle.ce_run.specs.Seats.{HasCrew, HasDone, HasUser, IsSeatAt};
-ghost use Rattle.ce_run.specs.declared.seat.Seat.{Seat};
+ghost use Rattle.ce_run.specs.UserStates.{HasCrew, HasDone, HasReadyUser, HasUser, IsUserStateAt};
+ghost use Rattle.ce_run.specs.declared.user_state.UserState.{UserState};
 
 use crate::asking::ask;
-use crate::seat::Seat;
+use crate::user_state::UserState;
 use ce_cube::{SerialCrew, rehome};
 use ce_host::{Answer, Host};
 use ce_machine::{Call, Machine, Reply};
@@ -27,11 +27,8 @@ pub(crate) fn get_cube(
     user: u32,
     host: Host,
     dim: u32,
-) -> Result<(Seat, Answer), NoMemory>
-    requires user { HasUser machine.old user }
-    requires images { images.now ≡ machine.old.parts.images }
-    requires free { cube_held_by (after machine.old.history) user ≡ None }
-    requires host { IsHostAtHome user host }
+) -> Result<(UserState, Answer), NoMemory>
+    requires ready { HasReadyUser machine.old images.now user host }
     requires dim { dim ≤ greatest_dim }
     ensures { IfOk result (λ done.
         HasDone machine.old machine.new user (Getcube dim) done.1 done.0) }
@@ -39,9 +36,9 @@ pub(crate) fn get_cube(
     match ask(alloc, machine, user, Call::Getcube { dim })? {
         Reply::Granted { grant, boxes } => {
             let crew = SerialCrew::new(grant, boxes, host, images.len() as u32);
-            Ok((Seat::Holding(crew), Answer::Granted(grant.sub)))
+            Ok((UserState::Holding(crew), Answer::Granted(grant.sub)))
         }
-        Reply::NoneFree => Ok((Seat::Free(host), Answer::None)),
+        Reply::NoneFree => Ok((UserState::Free(host), Answer::None)),
         _ => unreachable!(),
     }
 }
@@ -53,9 +50,9 @@ pub(crate) fn peek(
     user: u32,
 ) -> Result<Answer, NoMemory>
     requires user { HasUser machine.old user }
-    ensures { IfOk result (λ answer. (seat : Seat)
-        → IsSeatAt machine.old.parts machine.old.history user seat
-        → HasDone machine.old machine.new user Peek answer seat) }
+    ensures { IfOk result (λ answer. (user_state : UserState)
+        → IsUserStateAt machine.old.parts machine.old.history user user_state
+        → HasDone machine.old machine.new user Peek answer user_state) }
 {
     match ask(alloc, machine, user, Call::Peek)? {
         Reply::Peeked(found) => Ok(Answer::Peeked(found)),
@@ -68,7 +65,7 @@ pub(crate) fn free_cube(
     alloc: Global,
     machine: &mut Machine<NodeBox>,
     crew: SerialCrew,
-) -> Result<(Seat, Answer), NoMemory>
+) -> Result<(UserState, Answer), NoMemory>
     requires { HasCrew machine.old crew }
     ensures { IfOk result (λ done.
         HasDone machine.old machine.new crew.grant.user Freecube done.1 done.0) }
@@ -77,7 +74,7 @@ pub(crate) fn free_cube(
     let drained = drain(alloc, machine, user)?;
     let (boxes, host) = come_home(crew, drained);
     match ask(alloc, machine, user, Call::Freecube { boxes })? {
-        Reply::Freed => Ok((Seat::Free(host), Answer::Freed)),
+        Reply::Freed => Ok((UserState::Free(host), Answer::Freed)),
         _ => unreachable!(),
     }
 }

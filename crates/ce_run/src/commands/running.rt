@@ -1,10 +1,9 @@
 //! Commands that run a cube's nodes.
-ghost use Rattle.std.specs.Prelude.{◌≡◌, ◌≤◌, IfOk, MatchOption};
+ghost use Rattle.std.specs.Prelude.{◌≤◌, IfOk, MatchOption};
 ghost use Rattle.ce_model.specs.Limits.{greatest_count};
 ghost use Rattle.ce_host.specs.declared.command.Command.TheVariants.{Recv, Run};
-ghost use Rattle.ce_run.specs.Rounds.{HasAllowed, HasLooked, HasRunRounds, HasTaken, HasTakenNone};
-ghost use Rattle.ce_run.specs.Seats.{HasCrew, HasDone};
-ghost use Rattle.ce_run.specs.declared.seat.Seat.TheVariants.{Holding};
+ghost use Rattle.ce_run.specs.Rounds.{HasAllowed, HasEndedCommand, HasLooked, HasRunRounds, HasTaken, HasTakenNone};
+ghost use Rattle.ce_run.specs.UserStates.{HasCrew, HasReadyCrew};
 
 use crate::asking::ask_in_cube;
 use ce_cube::{SerialCrew, round_serial};
@@ -15,21 +14,31 @@ use rk_node::NodeBox;
 use rv_image::Image;
 use std::alloc::Global;
 
-/// Allows so many dispatches, and runs rounds until no node has work. `NoMemory` may come at any time.
+/// Allows so many dispatches. `NoMemory` may come at any time.
+pub(crate) fn allow(
+    alloc: Global,
+    machine: &mut Machine<NodeBox>,
+    crew: &mut SerialCrew,
+    count: u32,
+) -> Result<(), NoMemory>
+    requires crew { HasCrew machine.old crew.old }
+    requires count { count ≤ greatest_count }
+    ensures { IfOk result (λ _. HasAllowed machine.old machine.new crew.old crew.new count) }
+{
+    ask_in_cube(alloc, machine, crew, Call::Arm { count })?;
+    Ok(())
+}
+
+/// The command `run` behind the dispatches that it allows: rounds until no node has work. `NoMemory` may come at any time.
 pub(crate) fn run(
     alloc: Global,
     machine: &mut Machine<NodeBox>,
     images: &[Image],
     crew: &mut SerialCrew,
-    count: u32,
 ) -> Result<Answer, NoMemory>
-    requires images { images.now ≡ machine.old.parts.images }
-    requires crew { HasCrew machine.old crew.old }
-    requires count { count ≤ greatest_count }
-    ensures { IfOk result (λ answer. HasDone machine.old machine.new crew.old.grant.user
-        (Run count) answer (Holding crew.new)) }
+    requires { HasReadyCrew machine.old images.now crew.old }
+    ensures { IfOk result (HasEndedCommand Run machine.old machine.new crew.old crew.new) }
 {
-    allow(alloc, machine, crew, count)?;
     run_rounds(alloc, machine, images, crew)?;
     match look(alloc, machine, crew)? {
         LookResult::Quiet => Ok(Answer::Quiet),
@@ -38,22 +47,17 @@ pub(crate) fn run(
     }
 }
 
-/// Allows so many dispatches, and takes the first message for the host, with a round before each further look for one, until
-/// no node has work. `NoMemory` may come at any time.
+/// The command `recv` behind the dispatches that it allows: takes the first message for the host, with a round before each
+/// further look for one, until no node has work. `NoMemory` may come at any time.
 pub(crate) fn receive(
     alloc: Global,
     machine: &mut Machine<NodeBox>,
     images: &[Image],
     crew: &mut SerialCrew,
-    count: u32,
 ) -> Result<Answer, NoMemory>
-    requires images { images.now ≡ machine.old.parts.images }
-    requires crew { HasCrew machine.old crew.old }
-    requires count { count ≤ greatest_count }
-    ensures { IfOk result (λ answer. HasDone machine.old machine.new crew.old.grant.user
-        (Recv count) answer (Holding crew.new)) }
+    requires { HasReadyCrew machine.old images.now crew.old }
+    ensures { IfOk result (HasEndedCommand Recv machine.old machine.new crew.old crew.new) }
 {
-    allow(alloc, machine, crew, count)?;
     let mut working = true;
     'waiting: loop {
         if let Some((from, bytes)) = take_message(alloc, machine, crew)? {
@@ -71,21 +75,6 @@ pub(crate) fn receive(
     }
 }
 
-/// Allows so many dispatches.
-fn allow(
-    alloc: Global,
-    machine: &mut Machine<NodeBox>,
-    crew: &mut SerialCrew,
-    count: u32,
-) -> Result<(), NoMemory>
-    requires crew { HasCrew machine.old crew.old }
-    requires count { count ≤ greatest_count }
-    ensures { IfOk result (λ _. HasAllowed machine.old machine.new crew.old crew.new count) }
-{
-    ask_in_cube(alloc, machine, crew, Call::Arm { count })?;
-    Ok(())
-}
-
 /// Rounds, up to the first by which no node was given work.
 fn run_rounds(
     alloc: Global,
@@ -93,8 +82,7 @@ fn run_rounds(
     images: &[Image],
     crew: &mut SerialCrew,
 ) -> Result<(), NoMemory>
-    requires images { images.now ≡ machine.old.parts.images }
-    requires crew { HasCrew machine.old crew.old }
+    requires { HasReadyCrew machine.old images.now crew.old }
     ensures { IfOk result (λ _. HasRunRounds machine.old machine.new crew.old crew.new) }
 {
     'rounds: while round_serial(alloc, machine, crew, images)? {}

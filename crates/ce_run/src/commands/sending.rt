@@ -7,8 +7,8 @@ ghost use Rattle.rk_mail.specs.declared.talk.Hearing.TheVariants.{Posted};
 ghost use Rattle.ce_record.specs.Asked.{heard_reply};
 ghost use Rattle.ce_machine.specs.declared.call.Call.TheVariants as calls;
 ghost use Rattle.ce_run.specs.Asking.{IsHostCall, IsStartOrEnd};
-ghost use Rattle.ce_run.specs.Seats.{HasCrew, HasDone, HasTold};
-ghost use Rattle.ce_run.specs.declared.seat.Seat.TheVariants.{Holding};
+ghost use Rattle.ce_run.specs.UserStates.{HasCrew, HasDone, HasTold};
+ghost use Rattle.ce_run.specs.declared.user_state.UserState.TheVariants.{Holding};
 
 use crate::asking::ask_in_cube;
 use ce_cube::SerialCrew;

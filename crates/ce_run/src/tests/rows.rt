@@ -1,17 +1,65 @@
 //! Scripts with the reports that they have.
 
-use rk_programs::{ALL_WINDOWS, BLOCK_SIZES, GONE_BLOCK, MULTICAST, UNREADABLE_LIST, WAIT};
+use rk_programs::{
+    ALL_WINDOWS, BLOCK_SIZES, GONE_BLOCK, MULTICAST, REQUESTS, UNREADABLE_LIST, WAIT,
+};
 
-/// A script in pieces, and its whole report.
+/// A script and its whole report, both in pieces.
 #[derive(Clone, Copy)]
 pub(super) struct Row {
     pub title: &'static str,
     pub script: &'static [&'static str],
-    pub report: &'static str,
+    pub report: &'static [&'static str],
 }
 
 /// Notes 42 and exits: `li a0, 42`; `li a7, 14`; `ecall`; `li a7, 13`; `ecall`.
 pub(super) const HELLO_WORDS: &str = "02A00513 00E00893 00000073 00D00893 00000073\n";
+
+/// A machine with the image hello, up to its words.
+pub(super) const HELLO_START: &str = "\
+    machine 0\n\
+    image hello hex\n";
+
+/// Behind the words of hello: alice starts it.
+pub(super) const HELLO_SPAWN: &str = "\
+    end\n\
+    user alice\n\
+    getcube 0\n\
+    spawn hello 0 0\n";
+
+/// The replies to alice, who gets the one node and starts hello.
+const HELLO_REPLIES: &str = "\
+    machine 0\n\
+    user alice\n\
+    getcube 0\n\
+    = granted mask 0 base 0\n\
+    spawn hello 0 0\n\
+    = ok\n";
+
+/// The head of the trace of alice's cube, where she starts hello.
+const HELLO_CUBE: &str = "\
+    cube 0 user alice dim 0 mask 0 base 0\n\
+    host spawn 0 hello 0.0 ok\n";
+
+/// The trace of a run of hello.
+const HELLO_RUN: &str = "\
+    node 0 take 0 0 - start 0 hello\n\
+    node 0 note 0 42\n\
+    node 0 take 0 1 - idle\n\
+    host look quiet\n";
+
+/// Hello runs.
+pub(super) const HELLO_SCRIPT: &[&str] = &[HELLO_START, HELLO_WORDS, HELLO_SPAWN, "run 10\n"];
+
+/// What is reported of that.
+pub(super) const HELLO_REPORT: &[&str] = &[
+    HELLO_REPLIES,
+    "run 10\n= quiet\n",
+    HELLO_CUBE,
+    "host arm 10\n",
+    HELLO_RUN,
+    "end\n",
+];
 
 /// Waits for a message, and exits.
 const WAITER: &str = "\
@@ -20,50 +68,50 @@ const WAITER: &str = "\
         li a7, 13\n\
         ecall\n";
 
+/// Three users with a cube of one node each.
+const THREE_CUBES: &str = "\
+    machine 2\n\
+    user a\n\
+    getcube 0\n\
+    user b\n\
+    getcube 0\n\
+    user c\n\
+    getcube 0\n";
+
+/// The replies to alice, who gets the one node and sends two messages.
+const TWO_MESSAGE_REPLIES: &str = "\
+    machine 0\n\
+    user alice\n\
+    getcube 0\n\
+    = granted mask 0 base 0\n\
+    send 0 0 aa\n\
+    = ok\n\
+    send 0 0 bb\n\
+    = ok\n";
+
 /// Hello, and what became of its process.
 pub(super) const HELLO: Row = Row {
     title: "hello",
-    script: &[
+    script: &[HELLO_START, HELLO_WORDS, HELLO_SPAWN, "run 10\ndump 0 0\n"],
+    report: &[
+        HELLO_REPLIES,
         "\
-        machine 0\n\
-        image hello hex\n",
-        HELLO_WORDS,
-        "\
-        end\n\
-        user alice\n\
-        getcube 0\n\
-        spawn hello 0 0\n\
-        run 10\n\
-        dump 0 0\n",
-    ],
-    report: "\
-        machine 0\n\
-        user alice\n\
-        getcube 0\n\
-        = granted mask 0 base 0\n\
-        spawn hello 0 0\n\
-        = ok\n\
         run 10\n\
         = quiet\n\
         dump 0 0\n\
-        = stopped exited 42\n\
-        cube 0 user alice dim 0 mask 0 base 0\n\
-        host spawn 0 hello 0.0 ok\n\
-        host arm 10\n\
-        node 0 take 0 0 - start 0 hello\n\
-        node 0 note 0 42\n\
-        node 0 take 0 1 - idle\n\
-        host look quiet\n\
-        end\n",
+        = stopped exited 42\n",
+        HELLO_CUBE,
+        "host arm 10\n",
+        HELLO_RUN,
+        "end\n",
+    ],
 };
 
 /// Without dispatches nothing starts, and without work nothing is spent.
 pub(super) const NOTHING_ALLOWED: Row = Row {
     title: "nothing_allowed",
     script: &[
-        "\
-        machine 0\n\
-        image hello hex\n",
+        HELLO_START,
         HELLO_WORDS,
         "\
         end\n\
@@ -73,11 +121,9 @@ pub(super) const NOTHING_ALLOWED: Row = Row {
         spawn hello 0 0\n\
         run 0\n",
     ],
-    report: "\
-        machine 0\n\
-        user alice\n\
-        getcube 0\n\
-        = granted mask 0 base 0\n\
+    report: &[
+        "machine 0\nuser alice\ngetcube 0\n= granted mask 0 base 0\n",
+        "\
         run 0\n\
         = quiet\n\
         spawn hello 0 0\n\
@@ -93,49 +139,28 @@ pub(super) const NOTHING_ALLOWED: Row = Row {
         node 0 take 0 0 - spent\n\
         host look spent\n\
         end\n",
+    ],
 };
 
 /// The last dispatch is used, and the cube is quiet.
 pub(super) const TIE: Row = Row {
     title: "tie",
-    script: &[
-        "\
-        machine 0\n\
-        image hello hex\n",
-        HELLO_WORDS,
-        "\
-        end\n\
-        user alice\n\
-        getcube 0\n\
-        spawn hello 0 0\n\
-        run 1\n",
+    script: &[HELLO_START, HELLO_WORDS, HELLO_SPAWN, "run 1\n"],
+    report: &[
+        HELLO_REPLIES,
+        "run 1\n= quiet\n",
+        HELLO_CUBE,
+        "host arm 1\n",
+        HELLO_RUN,
+        "end\n",
     ],
-    report: "\
-        machine 0\n\
-        user alice\n\
-        getcube 0\n\
-        = granted mask 0 base 0\n\
-        spawn hello 0 0\n\
-        = ok\n\
-        run 1\n\
-        = quiet\n\
-        cube 0 user alice dim 0 mask 0 base 0\n\
-        host spawn 0 hello 0.0 ok\n\
-        host arm 1\n\
-        node 0 take 0 0 - start 0 hello\n\
-        node 0 note 0 42\n\
-        node 0 take 0 1 - idle\n\
-        host look quiet\n\
-        end\n",
 };
 
 /// A block that was sent is gone for its sender.
 pub(super) const GONE: Row = Row {
     title: "gone",
     script: &[
-        "\
-        machine 0\n\
-        image gone asm\n",
+        "machine 0\nimage gone asm\n",
         GONE_BLOCK,
         "\
         end\n\
@@ -147,11 +172,9 @@ pub(super) const GONE: Row = Row {
         recv 0\n\
         trace\n",
     ],
-    report: "\
-        machine 0\n\
-        user alice\n\
-        getcube 0\n\
-        = granted mask 0 base 0\n\
+    report: &[
+        "machine 0\nuser alice\ngetcube 0\n= granted mask 0 base 0\n",
+        "\
         spawn gone 0 0\n\
         = ok\n\
         run 10\n\
@@ -172,15 +195,14 @@ pub(super) const GONE: Row = Row {
         host arm 0\n\
         host get 0\n\
         end\n",
+    ],
 };
 
 /// The greatest block, one byte more than it, and an empty one.
 pub(super) const SIZES: Row = Row {
     title: "sizes",
     script: &[
-        "\
-        machine 0\n\
-        image sizes asm\n",
+        "machine 0\nimage sizes asm\n",
         BLOCK_SIZES,
         "\
         end\n\
@@ -190,11 +212,9 @@ pub(super) const SIZES: Row = Row {
         run 10\n\
         dump 0 0\n",
     ],
-    report: "\
-        machine 0\n\
-        user a\n\
-        getcube 0\n\
-        = granted mask 0 base 0\n\
+    report: &[
+        "machine 0\nuser a\ngetcube 0\n= granted mask 0 base 0\n",
+        "\
         spawn sizes 0 0\n\
         = ok\n\
         run 10\n\
@@ -212,15 +232,14 @@ pub(super) const SIZES: Row = Row {
         node 0 take 0 1 - idle\n\
         host look quiet\n\
         end\n",
+    ],
 };
 
-/// A process has 32,768 windows; a message that finds none left is its end, and the message's block goes to the store.
+/// A process has `WINDOW_COUNT` windows; a message that finds none left is its end, and the message's block goes to the store.
 pub(super) const WINDOWS: Row = Row {
     title: "windows",
     script: &[
-        "\
-        machine 0\n\
-        image windows asm\n",
+        "machine 0\nimage windows asm\n",
         ALL_WINDOWS,
         "\
         end\n\
@@ -249,11 +268,9 @@ pub(super) const WINDOWS: Row = Row {
         recv 0\n\
         dump 0 1\n",
     ],
-    report: "\
-        machine 0\n\
-        user a\n\
-        getcube 0\n\
-        = granted mask 0 base 0\n\
+    report: &[
+        "machine 0\nuser a\ngetcube 0\n= granted mask 0 base 0\n",
+        "\
         spawn windows 0 0\n\
         = ok\n\
         send 0 0 aa\n\
@@ -288,19 +305,16 @@ pub(super) const WINDOWS: Row = Row {
         host arm 0\n\
         host get 1\n\
         end\n",
+    ],
 };
 
 /// One block to several places, and each refusal, in its order.
 pub(super) const XMSEND: Row = Row {
     title: "xmsend",
     script: &[
-        "\
-        machine 0\n\
-        image xmsend asm\n",
+        "machine 0\nimage xmsend asm\n",
         MULTICAST,
-        "\
-        end\n\
-        image unread asm\n",
+        "end\nimage unread asm\n",
         UNREADABLE_LIST,
         "\
         end\n\
@@ -315,11 +329,9 @@ pub(super) const XMSEND: Row = Row {
         run 10\n\
         dump 0 0\n",
     ],
-    report: "\
-        machine 0\n\
-        user a\n\
-        getcube 0\n\
-        = granted mask 0 base 0\n\
+    report: &[
+        "machine 0\nuser a\ngetcube 0\n= granted mask 0 base 0\n",
+        "\
         spawn xmsend 0 0\n\
         = ok\n\
         run 10\n\
@@ -359,6 +371,7 @@ pub(super) const XMSEND: Row = Row {
         node 0 take 0 1 - idle\n\
         host look quiet\n\
         end\n",
+    ],
 };
 
 /// Mail for a process that wasn't started waits for it.
@@ -385,15 +398,9 @@ pub(super) const UNBORN: Row = Row {
         recv 100\n\
         recv 100\n",
     ],
-    report: "\
-        machine 0\n\
-        user alice\n\
-        getcube 0\n\
-        = granted mask 0 base 0\n\
-        send 0 0 aa\n\
-        = ok\n\
-        send 0 0 bb\n\
-        = ok\n\
+    report: &[
+        TWO_MESSAGE_REPLIES,
+        "\
         spawn echo 0 0\n\
         = ok\n\
         recv 100\n\
@@ -424,76 +431,58 @@ pub(super) const UNBORN: Row = Row {
         host get -\n\
         host look quiet\n\
         end\n",
+    ],
 };
 
 /// Mail for a process that has ended goes to the node's store.
 pub(super) const DEAD: Row = Row {
     title: "dead",
     script: &[
-        "\
-        machine 0\n\
-        image hello hex\n",
+        HELLO_START,
         HELLO_WORDS,
+        HELLO_SPAWN,
         "\
-        end\n\
-        user alice\n\
-        getcube 0\n\
-        spawn hello 0 0\n\
         run 10\n\
         send 0 0 aa\n\
         run 10\n",
     ],
-    report: "\
-        machine 0\n\
-        user alice\n\
-        getcube 0\n\
-        = granted mask 0 base 0\n\
-        spawn hello 0 0\n\
-        = ok\n\
+    report: &[
+        HELLO_REPLIES,
+        "\
         run 10\n\
         = quiet\n\
         send 0 0 aa\n\
         = ok\n\
         run 10\n\
-        = quiet\n\
-        cube 0 user alice dim 0 mask 0 base 0\n\
-        host spawn 0 hello 0.0 ok\n\
-        host arm 10\n\
-        node 0 take 0 0 - start 0 hello\n\
-        node 0 note 0 42\n\
-        node 0 take 0 1 - idle\n\
-        host look quiet\n\
+        = quiet\n",
+        HELLO_CUBE,
+        "host arm 10\n",
+        HELLO_RUN,
+        "\
         host send 0 0 0.0=host.0 aa\n\
         host arm 10\n\
         node 0 take 0 1 - mail 0 0\n\
         node 0 take 0 1 - idle\n\
         host look quiet\n\
         end\n",
+    ],
 };
 
 /// Two free nodes that are no subcube.
 pub(super) const NO_FIT: Row = Row {
     title: "no_fit",
     script: &[
+        THREE_CUBES,
         "\
-        machine 2\n\
-        user a\n\
-        getcube 0\n\
-        user b\n\
-        getcube 0\n\
-        user c\n\
-        getcube 0\n\
         user a\n\
         freecube\n\
         user d\n\
         getcube 1\n\
         peek\n",
     ],
-    report: "\
-        machine 2\n\
-        user a\n\
-        getcube 0\n\
-        = granted mask 0 base 0\n\
+    report: &[
+        "machine 2\nuser a\ngetcube 0\n= granted mask 0 base 0\n",
+        "\
         freecube\n\
         = freed\n\
         user b\n\
@@ -511,30 +500,23 @@ pub(super) const NO_FIT: Row = Row {
         cube 1 user b dim 0 mask 0 base 1\n\
         cube 2 user c dim 0 mask 0 base 2\n\
         end\n",
+    ],
 };
 
 /// A subcube whose nodes are not next to each other.
 pub(super) const NOT_CONTIGUOUS: Row = Row {
     title: "not_contiguous",
     script: &[
+        THREE_CUBES,
         "\
-        machine 2\n\
-        user a\n\
-        getcube 0\n\
-        user b\n\
-        getcube 0\n\
-        user c\n\
-        getcube 0\n\
         user b\n\
         freecube\n\
         user d\n\
         getcube 1\n",
     ],
-    report: "\
-        machine 2\n\
-        user a\n\
-        getcube 0\n\
-        = granted mask 0 base 0\n\
+    report: &[
+        "machine 2\nuser a\ngetcube 0\n= granted mask 0 base 0\n",
+        "\
         user b\n\
         getcube 0\n\
         = granted mask 0 base 1\n\
@@ -551,15 +533,14 @@ pub(super) const NOT_CONTIGUOUS: Row = Row {
         cube 2 user c dim 0 mask 0 base 2\n\
         cube 3 user d dim 1 mask 2 base 1\n\
         end\n",
+    ],
 };
 
 /// The nodes of a cube are numbered anew: its process at 3 runs on node 7.
 pub(super) const RENAMING: Row = Row {
     title: "renaming",
     script: &[
-        "\
-        machine 3\n\
-        image hello hex\n",
+        "machine 3\nimage hello hex\n",
         HELLO_WORDS,
         "\
         end\n\
@@ -576,11 +557,9 @@ pub(super) const RENAMING: Row = Row {
         spawn hello 3 0\n\
         run 10\n",
     ],
-    report: "\
-        machine 3\n\
-        user a\n\
-        getcube 1\n\
-        = granted mask 1 base 0\n\
+    report: &[
+        "machine 3\nuser a\ngetcube 1\n= granted mask 1 base 0\n",
+        "\
         user b\n\
         getcube 1\n\
         = granted mask 1 base 2\n\
@@ -613,15 +592,14 @@ pub(super) const RENAMING: Row = Row {
         node 3 take 0 1 - idle\n\
         host look quiet\n\
         end\n",
+    ],
 };
 
 /// A node is given back with mail waiting, and the next user finds none.
 pub(super) const USED_AGAIN: Row = Row {
     title: "used_again",
     script: &[
-        "\
-        machine 0\n\
-        image waiter asm\n",
+        "machine 0\nimage waiter asm\n",
         WAITER,
         "\
         end\n\
@@ -636,15 +614,9 @@ pub(super) const USED_AGAIN: Row = Row {
         spawn waiter 0 0\n\
         run 10\n",
     ],
-    report: "\
-        machine 0\n\
-        user alice\n\
-        getcube 0\n\
-        = granted mask 0 base 0\n\
-        send 0 0 aa\n\
-        = ok\n\
-        send 0 0 bb\n\
-        = ok\n\
+    report: &[
+        TWO_MESSAGE_REPLIES,
+        "\
         send 0 0 cc\n\
         = ok\n\
         freecube\n\
@@ -667,6 +639,7 @@ pub(super) const USED_AGAIN: Row = Row {
         node 0 take 1 0 - idle\n\
         host look quiet\n\
         end\n",
+    ],
 };
 
 /// Jumps to half words, taken and not taken, and one through the register that it writes.
@@ -704,11 +677,9 @@ pub(super) const JUMPS: Row = Row {
         dump 0 2\n\
         dump 0 3\n",
     ],
-    report: "\
-        machine 0\n\
-        user a\n\
-        getcube 0\n\
-        = granted mask 0 base 0\n\
+    report: &[
+        "machine 0\nuser a\ngetcube 0\n= granted mask 0 base 0\n",
+        "\
         spawn by_six 0 0\n\
         = ok\n\
         spawn not_taken 0 1\n\
@@ -740,6 +711,7 @@ pub(super) const JUMPS: Row = Row {
         node 0 take 0 15 - idle\n\
         host look quiet\n\
         end\n",
+    ],
 };
 
 /// A turn ends, and so does its process; others run on.
@@ -763,11 +735,9 @@ pub(super) const ENDLESS: Row = Row {
         dump 0 0\n\
         dump 0 1\n",
     ],
-    report: "\
-        machine 0\n\
-        user alice\n\
-        getcube 0\n\
-        = granted mask 0 base 0\n\
+    report: &[
+        "machine 0\nuser alice\ngetcube 0\n= granted mask 0 base 0\n",
+        "\
         spawn spin 0 0\n\
         = ok\n\
         spawn hello 0 1\n\
@@ -788,19 +758,16 @@ pub(super) const ENDLESS: Row = Row {
         node 0 take 0 3 - idle\n\
         host look quiet\n\
         end\n",
+    ],
 };
 
 /// Commands that are refused.
 pub(super) const REFUSED_COMMANDS: Row = Row {
     title: "refused_commands",
     script: &[
-        "\
-        machine 0\n\
-        image hello hex\n",
+        HELLO_START,
         HELLO_WORDS,
-        "\
-        end\n\
-        image waiter asm\n",
+        "end\nimage waiter asm\n",
         WAITER,
         "\
         end\n\
@@ -817,7 +784,8 @@ pub(super) const REFUSED_COMMANDS: Row = Row {
         run 10\n\
         dump 0 0\n",
     ],
-    report: "\
+    report: &[
+        "\
         machine 0\n\
         user alice\n\
         run 1\n\
@@ -854,6 +822,7 @@ pub(super) const REFUSED_COMMANDS: Row = Row {
         node 0 take 0 1 - idle\n\
         host look quiet\n\
         end\n",
+    ],
 };
 
 /// Hello, its image as RKI1.
@@ -863,30 +832,11 @@ pub(super) const IMAGE_AS_BYTES: Row = Row {
         "\
         machine 0\n\
         image hello rki\n\
-        524b4931 00000100 14000000 00000000 1305a002 9308e000 73000000 9308d000 73000000\n\
-        end\n\
-        user alice\n\
-        getcube 0\n\
-        spawn hello 0 0\n\
-        run 10\n",
+        524b4931 00000100 14000000 00000000 1305a002 9308e000 73000000 9308d000 73000000\n",
+        HELLO_SPAWN,
+        "run 10\n",
     ],
-    report: "\
-        machine 0\n\
-        user alice\n\
-        getcube 0\n\
-        = granted mask 0 base 0\n\
-        spawn hello 0 0\n\
-        = ok\n\
-        run 10\n\
-        = quiet\n\
-        cube 0 user alice dim 0 mask 0 base 0\n\
-        host spawn 0 hello 0.0 ok\n\
-        host arm 10\n\
-        node 0 take 0 0 - start 0 hello\n\
-        node 0 note 0 42\n\
-        node 0 take 0 1 - idle\n\
-        host look quiet\n\
-        end\n",
+    report: HELLO_REPORT,
 };
 
 /// A script of comments alone.
@@ -898,16 +848,14 @@ pub(super) const NO_STATEMENTS: Row = Row {
         \n\
            \t# at all\n",
     ],
-    report: "",
+    report: &[],
 };
 
 /// A machine without users.
 pub(super) const NO_USERS: Row = Row {
     title: "no_users",
     script: &["machine 0\n"],
-    report: "\
-        machine 0\n\
-        end\n",
+    report: &["machine 0\nend\n"],
 };
 
 /// Each cause by which an instruction or a call stops a process.
@@ -1000,11 +948,9 @@ pub(super) const STOP_CAUSES: Row = Row {
         dump 0 3\n\
         dump 0 4\n",
     ],
-    report: "\
-        machine 0\n\
-        user a\n\
-        getcube 0\n\
-        = granted mask 0 base 0\n\
+    report: &[
+        "machine 0\nuser a\ngetcube 0\n= granted mask 0 base 0\n",
+        "\
         spawn exits 0 0\n\
         = ok\n\
         spawn illegal 0 1\n\
@@ -1110,6 +1056,7 @@ pub(super) const STOP_CAUSES: Row = Row {
         node 0 take 0 31 - idle\n\
         host look quiet\n\
         end\n",
+    ],
 };
 
 /// The counted call past a turn's limit stops the process before its own tests.
@@ -1139,11 +1086,9 @@ pub(super) const TURN_LIMIT: Row = Row {
         run 10\n\
         dump 0 0\n",
     ],
-    report: "\
-        machine 0\n\
-        user a\n\
-        getcube 0\n\
-        = granted mask 0 base 0\n\
+    report: &[
+        "machine 0\nuser a\ngetcube 0\n= granted mask 0 base 0\n",
+        "\
         spawn calls 0 0\n\
         = ok\n\
         run 10\n\
@@ -1158,6 +1103,7 @@ pub(super) const TURN_LIMIT: Row = Row {
         node 0 take 0 1 - idle\n\
         host look quiet\n\
         end\n",
+    ],
 };
 
 /// Of two processes that poll, the one that polls longest is told first.
@@ -1185,11 +1131,9 @@ pub(super) const LONGEST_POLLER: Row = Row {
         dump 0 0\n\
         dump 0 1\n",
     ],
-    report: "\
-        machine 0\n\
-        user a\n\
-        getcube 0\n\
-        = granted mask 0 base 0\n\
+    report: &[
+        "machine 0\nuser a\ngetcube 0\n= granted mask 0 base 0\n",
+        "\
         spawn polls 0 0\n\
         = ok\n\
         spawn polls 0 1\n\
@@ -1234,77 +1178,20 @@ pub(super) const LONGEST_POLLER: Row = Row {
         node 0 take 1 2 0 spent\n\
         host look spent\n\
         end\n",
+    ],
 };
 
-/// What a process is answered that starts and kills others.
+/// What a process is answered that starts and kills others, and sends.
 pub(super) const ANSWERS: Row = Row {
     title: "answers",
     script: &[
-        "\
-        machine 0\n\
-        image waits asm\n",
+        "machine 0\nimage waits asm\n",
         WAIT,
         "\
         end\n\
-        image asks asm\n\
-                li a0, 0\n\
-                li a1, 0\n\
-                li a2, 1\n\
-                li a7, 8\n\
-                ecall\n\
-                li a7, 14\n\
-                ecall\n\
-                li a0, 0\n\
-                li a7, 8\n\
-                ecall\n\
-                li a7, 14\n\
-                ecall\n\
-                li a0, 2\n\
-                li a7, 8\n\
-                ecall\n\
-                li a7, 14\n\
-                ecall\n\
-                li a0, 2\n\
-                li a1, 1\n\
-                li a7, 8\n\
-                ecall\n\
-                li a7, 14\n\
-                ecall\n\
-                li a0, 0\n\
-                li a1, 1\n\
-                li a7, 9\n\
-                ecall\n\
-                li a7, 14\n\
-                ecall\n\
-                li a0, 0\n\
-                li a7, 9\n\
-                ecall\n\
-                li a7, 14\n\
-                ecall\n\
-                li a0, 0\n\
-                li a1, 5\n\
-                li a7, 9\n\
-                ecall\n\
-                li a7, 14\n\
-                ecall\n\
-                li a0, 1\n\
-                li a1, 0\n\
-                li a7, 9\n\
-                ecall\n\
-                li a7, 14\n\
-                ecall\n\
-                li a0, 4\n\
-                li a7, 1\n\
-                ecall\n\
-                li a1, 0\n\
-                li a2, 8\n\
-                li a7, 4\n\
-                ecall\n\
-                li a7, 14\n\
-                ecall\n\
-                li a0, 9\n\
-                li a7, 13\n\
-                ecall\n\
+        image asks asm\n",
+        REQUESTS,
+        "\
         end\n\
         user a\n\
         getcube 0\n\
@@ -1315,11 +1202,9 @@ pub(super) const ANSWERS: Row = Row {
         dump 0 0\n\
         dump 0 1\n",
     ],
-    report: "\
-        machine 0\n\
-        user a\n\
-        getcube 0\n\
-        = granted mask 0 base 0\n\
+    report: &[
+        "machine 0\nuser a\ngetcube 0\n= granted mask 0 base 0\n",
+        "\
         spawn asks 0 0\n\
         = ok\n\
         run 10\n\
@@ -1350,16 +1235,19 @@ pub(super) const ANSWERS: Row = Row {
         node 0 note 0 2\n\
         node 0 note 0 1\n\
         node 0 note 0 1\n\
+        node 0 send 0 0 host.0=0.0 00000000\n\
+        node 0 note 0 0\n\
         node 0 take 0 1 - start 1 waits\n\
         node 0 take 2 1 - kill 1\n\
         node 0 take 0 3 - idle\n\
         host look quiet\n\
-        host send 0 0 0.0=host.0 aa\n\
+        host send 0 1 0.0=host.0 aa\n\
         host arm 10\n\
-        node 0 take 0 3 - mail 0 0\n\
+        node 0 take 0 3 - mail 0 1\n\
         node 0 take 0 3 - idle\n\
         host look quiet\n\
         end\n",
+    ],
 };
 
 /// A process asks where it is.
@@ -1390,11 +1278,9 @@ pub(super) const NUMBERS: Row = Row {
         run 10\n\
         dump 1 5\n",
     ],
-    report: "\
-        machine 1\n\
-        user a\n\
-        getcube 1\n\
-        = granted mask 1 base 0\n\
+    report: &[
+        "machine 1\nuser a\ngetcube 1\n= granted mask 1 base 0\n",
+        "\
         spawn numbers 1 5\n\
         = ok\n\
         run 10\n\
@@ -1413,4 +1299,5 @@ pub(super) const NUMBERS: Row = Row {
         node 1 take 0 32 - idle\n\
         host look quiet\n\
         end\n",
+    ],
 };

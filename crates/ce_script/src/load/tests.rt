@@ -15,7 +15,7 @@ fn messages(alloc: Global, script: &Script) -> Result<Vec<String>, Fail> {
 #[test]
 fn the_load_of_a_seed(rt: HostRuntime) -> Result<(), Fail> {
     let alloc = rt.alloc();
-    let script = make(alloc, 0)?;
+    let script = make(alloc, 0)?.script;
     assert_eq!(rt; script.dim, Some(4));
     assert_eq!(rt; script.commands.len(), 32);
     assert_eq!(rt; script.images.len(), 1);
@@ -30,7 +30,7 @@ fn the_load_of_a_seed(rt: HostRuntime) -> Result<(), Fail> {
 #[test]
 fn the_messages_of_a_seed(rt: HostRuntime) -> Result<(), Fail> {
     let alloc = rt.alloc();
-    let sent = messages(alloc, &make(alloc, 0)?)?;
+    let sent = messages(alloc, &make(alloc, 0)?.script)?;
     let expected = [
         "5ff36e3ca00f0000",
         "32295047a00f0000",

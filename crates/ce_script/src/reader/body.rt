@@ -9,9 +9,9 @@ ghost use Rattle.ce_script.specs.Lines.{Line, has_bad_byte};
 ghost use Rattle.ce_script.specs.Statements.{found_body};
 ghost use Rattle.ce_script.specs.Bodies.{has_bad_word, body_bytes, first_line_fault, form_image, form_fault, body_fault};
 ghost use Rattle.ce_script.specs.declared.script.ScriptKind.TheVariants.{BadByte, BadImage};
-ghost use Rattle.ce_script.specs.Reading.{Unless, HasFound};
-ghost use Rattle.ce_script.specs.ReadLines.{lines_left, lines_shown, IsBody, IsBodyIn};
-ghost use Rattle.ce_script.specs.ReadWords.{read_as};
+ghost use Rattle.ce_script.specs.Reading.{ScriptUnless, HasFound};
+ghost use Rattle.ce_script.specs.ReadLines.{lines_left, body_lines, IsBody, IsBodyIn};
+ghost use Rattle.ce_script.specs.ReadWords.{word_bytes};
 
 use crate::grammar::ImageForm;
 use crate::reader::line::is_end;
@@ -56,7 +56,7 @@ pub fn body_in<'a>(rest: Rest<'a>) -> Option<(Body<'a>, Rest<'a>)>
 /// The first line of a body that has a bad byte.
 fn bad_byte_line(body: Body) -> Option<u32>
     ensures { result
-        ≡ option_map (λ line. line.number) (find has_bad_byte (lines_shown body.entry)) }
+        ≡ option_map (λ line. line.number) (find has_bad_byte (body_lines body.entry)) }
 {
     let mut number = body.line;
     let mut rest = Some(body.text);
@@ -75,9 +75,10 @@ fn bad_byte_line(body: Body) -> Option<u32>
 #[tactic(auto, unfolding(crate::specs::Spellings::written_bytes))]
 fn push_word(bytes: &mut Vec<u8>, kind: WordKind, word: &[u8]) -> Result<(), ScriptKind>
     ensures { MatchResult result
-        (λ _. (is_none (read_as kind word.now) ≡ false)
-        × (bytes.new.items ≡ bytes.old.items ++ unwrap_or (read_as kind word.now) []))
-        (λ fault. Unless fault ((fault ≡ BadImage) × (is_none (read_as kind word.now) ≡ true))) }
+        (λ _. (is_none (word_bytes kind word.now) ≡ false)
+        × (bytes.new.items ≡ bytes.old.items ++ unwrap_or (word_bytes kind word.now) []))
+        (λ fault. ScriptUnless fault ((fault ≡ BadImage)
+        × (is_none (word_bytes kind word.now) ≡ true))) }
 {
     match kind {
         WordKind::Instruction => {
@@ -97,13 +98,13 @@ fn push_word(bytes: &mut Vec<u8>, kind: WordKind, word: &[u8]) -> Result<(), Scr
 /// Adds what the words of a line write.
 fn push_line(bytes: &mut Vec<u8>, kind: WordKind, line: &[u8]) -> Result<(), ScriptKind>
     ensures { MatchResult result
-        (λ _. (list_any (λ word. is_none (read_as kind word))
+        (λ _. (list_any (λ word. is_none (word_bytes kind word))
         (words_between (before_comment line.now)) ≡ false)
         × (bytes.new.items ≡ bytes.old.items
-        ++ flat_map (λ word. unwrap_or (read_as kind word) [])
+        ++ flat_map (λ word. unwrap_or (word_bytes kind word) [])
         (words_between (before_comment line.now))))
-        (λ fault. Unless fault ((fault ≡ BadImage)
-        × (list_any (λ word. is_none (read_as kind word))
+        (λ fault. ScriptUnless fault ((fault ≡ BadImage)
+        × (list_any (λ word. is_none (word_bytes kind word))
         (words_between (before_comment line.now)) ≡ true))) }
 {
     let mut rest = before_comment(line);
@@ -117,12 +118,12 @@ fn push_line(bytes: &mut Vec<u8>, kind: WordKind, line: &[u8]) -> Result<(), Scr
 /// The bytes that the words of a body write.
 fn bytes_of(alloc: Global, kind: WordKind, body: Body) -> Result<Vec<u8>, ScriptFault>
     ensures { MatchResult result
-        (λ bytes. (first_line_fault (has_bad_word (read_as kind)) BadImage
-        (lines_shown body.entry) ≡ None)
-        × (bytes.items ≡ body_bytes (read_as kind) (lines_shown body.entry)))
-        (λ fault. Unless fault.kind
-        (first_line_fault (has_bad_word (read_as kind)) BadImage
-        (lines_shown body.entry) ≡ Some fault)) }
+        (λ bytes. (first_line_fault (has_bad_word (word_bytes kind)) BadImage
+        (body_lines body.entry) ≡ None)
+        × (bytes.items ≡ body_bytes (word_bytes kind) (body_lines body.entry)))
+        (λ fault. ScriptUnless fault.kind
+        (first_line_fault (has_bad_word (word_bytes kind)) BadImage
+        (body_lines body.entry) ≡ Some fault)) }
 {
     let mut bytes = Vec::new(alloc);
     let mut number = body.line;

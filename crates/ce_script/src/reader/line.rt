@@ -45,7 +45,7 @@ pub fn is_end(line: &[u8]) -> bool
 
 impl<'a> WordedLine<'a> {
     ghost use Rattle.ce_script.specs.Statements.{operand};
-    ghost use Rattle.ce_script.specs.ReadLines.{plain_line, here_of};
+    ghost use Rattle.ce_script.specs.ReadLines.{plain_line, statement_of_line};
 
     /// The line with this number and these bytes.
     pub fn new(alloc: Global, number: u32, text: &'a [u8]) -> Result<WordedLine<'a>, NoMemory>
@@ -62,7 +62,7 @@ impl<'a> WordedLine<'a> {
 
     /// The word at this place behind the first; nothing where there is none.
     pub fn operand(&self, place: usize) -> &'a [u8]
-        ensures { result.now ≡ operand place (here_of self.now) }
+        ensures { result.now ≡ operand place (statement_of_line self.now) }
     {
         match self.words.get(place) {
             Some(word) => *word,

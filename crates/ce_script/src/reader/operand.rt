@@ -7,8 +7,8 @@ ghost use Rattle.ce_script.specs.Sayings.{operand_number, operand_place, command
 ghost use Rattle.ce_script.specs.Verbs.{OldImage, is_command};
 ghost use Rattle.ce_script.specs.Faults.{first_some, kind_where, operand_fault};
 ghost use Rattle.ce_script.specs.Sayings.{name_number};
-ghost use Rattle.ce_script.specs.Reading.{HasJudged, operands_judged};
-ghost use Rattle.ce_script.specs.ReadLines.{here_of};
+ghost use Rattle.ce_script.specs.Reading.{HasJudged, operands_judgment};
+ghost use Rattle.ce_script.specs.ReadLines.{statement_of_line};
 ghost use Rattle.ce_script.specs.Places.{IsIndexOf};
 
 use crate::grammar::Verb;
@@ -24,8 +24,8 @@ use std::alloc::Global;
 #[tactic(auto, using(crate::proofs::Numbers::number_there, crate::proofs::Numbers::number_missing))]
 pub fn number(line: &WordedLine, place: usize, most: u32) -> Result<u32, ScriptKind>
     ensures { HasJudged result
-        (kind_where (is_none (bounded_number most (operand place (here_of line.now)))) BadNumber)
-        (Some (operand_number place (here_of line.now))) }
+        (kind_where (is_none (bounded_number most (operand place (statement_of_line line.now)))) BadNumber)
+        (Some (operand_number place (statement_of_line line.now))) }
 {
     match number_to(line.operand(place), most) {
         Some(number) => Ok(number),
@@ -37,12 +37,12 @@ pub fn number(line: &WordedLine, place: usize, most: u32) -> Result<u32, ScriptK
 fn place(line: &WordedLine, place: usize) -> Result<Place, ScriptKind>
     requires { place < 2 ^ 32 }
     ensures { HasJudged result (first_some
-        (kind_where (is_none (bounded_number greatest_number (operand place (here_of line.now))))
+        (kind_where (is_none (bounded_number greatest_number (operand place (statement_of_line line.now))))
         BadNumber
         ∷ kind_where
-        (is_none (bounded_number greatest_number (operand (place + 1) (here_of line.now))))
+        (is_none (bounded_number greatest_number (operand (place + 1) (statement_of_line line.now))))
         BadNumber ∷ []))
-        (Some (operand_place place (here_of line.now))) }
+        (Some (operand_place place (statement_of_line line.now))) }
 {
     let node = number(line, place, u32::MAX)?;
     let pid = number(line, place + 1, u32::MAX)?;
@@ -67,8 +67,8 @@ fn old_image(images: &NameIndex, word: &[u8]) -> Result<u32, ScriptKind>
 /// The bytes of a message.
 fn data(alloc: Global, line: &WordedLine, place: usize) -> Result<Bytes, ScriptKind>
     ensures { HasJudged result
-        (kind_where (is_none (data_in (operand place (here_of line.now)))) BadHex)
-        (data_in (operand place (here_of line.now))) }
+        (kind_where (is_none (data_in (operand place (statement_of_line line.now)))) BadHex)
+        (data_in (operand place (statement_of_line line.now))) }
 {
     match data_in(alloc, line.operand(place))? {
         Some(bytes) => Ok(bytes),
@@ -86,8 +86,8 @@ pub fn command(
 ) -> Result<Command, ScriptKind>
     requires { IsTrue (is_command verb) }
     ensures { (names : List (List ℕ)) → IsIndexOf images.now names
-        → HasJudged result (operands_judged names verb (here_of line.now))
-        (command_of_verb verb names (here_of line.now)) }
+        → HasJudged result (operands_judgment names verb (statement_of_line line.now))
+        (command_of_verb verb names (statement_of_line line.now)) }
 {
     match verb {
         Verb::Getcube => Ok(Command::Getcube(number(line, 1, GREATEST_DIMENSION)?)),

@@ -1,5 +1,6 @@
 //! What is left of a text.
-ghost use Rattle.std.specs.Prelude.{◌+◌, ◌<◌, ◌≤◌, ◌^◌, length, option_map};
+ghost use Rattle.std.specs.Prelude.{◌+◌, ◌<◌, ◌≤◌, length, option_map};
+ghost use Rattle.ce_text.specs.declared.limits.TheConstants.{TEXT_LIMIT};
 ghost use Rattle.ce_script.specs.Lines.{size_of};
 
 use ce_text::next_line;
@@ -11,7 +12,7 @@ pub struct Rest<'a> {
     pub line_count: u32,
     /// Their bytes; none where no line is left.
     pub text: Option<&'a [u8]>,
-    ghost counted: { line_count + size_of (option_map (λ bytes. bytes.now) text) ≤ 2 ^ 31 },
+    ghost counted: { line_count + size_of (option_map (λ bytes. bytes.now) text) ≤ TEXT_LIMIT },
 }
 
 /// The body of an image.
@@ -21,16 +22,16 @@ pub struct Body<'a> {
     pub line: u32,
     /// The bytes of its lines, each with its line feed.
     pub text: &'a [u8],
-    ghost counted: { line + length text.now < 2 ^ 31 },
+    ghost counted: { line + length text.now < TEXT_LIMIT },
 }
 
 impl<'a> Rest<'a> {
     ghost use Rattle.std.specs.Prelude.{◌≡◌, [], Some, None, unwrap_or, MatchOption};
-    ghost use Rattle.ce_script.specs.ReadLines.{left_of, IsNext};
+    ghost use Rattle.ce_script.specs.ReadLines.{left_of, IsFirstLine};
 
     /// All lines of a text.
     pub fn new(text: &'a [u8]) -> Rest<'a>
-        requires { length text.now < 2 ^ 31 }
+        requires { length text.now < TEXT_LIMIT }
         ensures before { result.line_count ≡ 0 }
         ensures text { left_of result ≡ Some text.now }
     {
@@ -43,7 +44,7 @@ impl<'a> Rest<'a> {
     /// The first line, and the lines behind it.
     pub fn first_line(self) -> Option<(&'a [u8], Rest<'a>)>
         ensures { MatchOption result (left_of self.entry ≡ None)
-            (λ found. IsNext self.entry found.0.now found.1) }
+            (λ found. IsFirstLine self.entry found.0.now found.1) }
     {
         let bytes = self.text?;
         let (line, behind) = next_line(bytes);

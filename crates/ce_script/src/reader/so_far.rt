@@ -1,7 +1,7 @@
 //! What is known behind some statements.
 ghost use Rattle.std.specs.Prelude.{◌≡◌, Some, is_some};
 ghost use Rattle.ce_script.specs.Reading.{HasJudged, place_fault};
-ghost use Rattle.ce_script.specs.Standing.{nothing_said};
+ghost use Rattle.ce_script.specs.Standing.{blank_script};
 
 use crate::grammar::Verb;
 use crate::script::{Script, ScriptKind};
@@ -20,7 +20,7 @@ pub struct ScriptSoFar {
 impl ScriptSoFar {
     /// Nothing is said.
     pub fn new(alloc: Global) -> ScriptSoFar
-        ensures { result ≡ nothing_said }
+        ensures { result ≡ blank_script }
     {
         ScriptSoFar {
             script: Script {

@@ -3,14 +3,14 @@ ghost use Rattle.std.specs.Prelude.{◌≡◌, ◌&&◌, ◌∷◌, false, true,
 ghost use Rattle.ce_script.specs.declared.grammar.Verb.TheVariants.{Machine};
 ghost use Rattle.ce_script.specs.Lines.{words};
 ghost use Rattle.ce_script.specs.Verbs.{verb_of, is_image, is_command, form_of};
-ghost use Rattle.ce_script.specs.Statements.{Statement, operand};
+ghost use Rattle.ce_script.specs.Statements.{ScriptStatement, operand};
 ghost use Rattle.ce_script.specs.Sayings.{command_of_verb};
 ghost use Rattle.ce_script.specs.Names.{is_name};
 ghost use Rattle.ce_script.specs.Faults.{has_unknown_form};
-ghost use Rattle.ce_script.specs.Reading.{HasJudged, word_fault, operands_judged, user_fault};
-ghost use Rattle.ce_script.specs.ReadLines.{plain_line, here_of, lines_left, remaining_statements, IsLater};
+ghost use Rattle.ce_script.specs.Reading.{HasJudged, word_fault, operands_judgment, user_fault};
+ghost use Rattle.ce_script.specs.ReadLines.{plain_line, statement_of_line, lines_left, remaining_statements, IsLater};
 ghost use Rattle.ce_script.specs.Places.{AreIndexed, AreIndexed-prop};
-ghost use Rattle.ce_script.specs.Standing.{names_so_far, AreFew, AreFew-prop, with_user, with_image, with_command, with_statement, new_image_fault, rest_fault, HasReadUpTo, nothing_said};
+ghost use Rattle.ce_script.specs.Standing.{names_so_far, AreFew, AreFew-prop, with_user, with_image, with_command, with_statement, new_image_fault, rest_fault, HasReadUpTo, blank_script};
 
 use crate::grammar::{ImageForm, Verb, form_of, verb_of};
 use crate::name::Name;
@@ -64,7 +64,7 @@ fn lacks_form(verb: Verb, line: &WordedLine) -> bool
 
 /// The verb of a line whose words are as many as belong to it.
 pub fn verb_on(line: &WordedLine) -> Result<Verb, ScriptKind>
-    ensures { HasJudged result (word_fault (here_of line.now))
+    ensures { HasJudged result (word_fault (statement_of_line line.now))
         (verb_of (words (plain_line line.now))) }
 {
     if !are_plain(before_comment(line.text)) {
@@ -88,7 +88,7 @@ impl Reader {
 
     /// Nothing is said.
     pub fn new(alloc: Global) -> Reader
-        ensures { result.so_far ≡ nothing_said }
+        ensures { result.so_far ≡ blank_script }
     {
         Reader {
             alloc,
@@ -100,8 +100,8 @@ impl Reader {
     /// `machine D`
     #[tactic(auto, using(crate::proofs::OperandFaults::machine_fault))]
     fn machine(mut self, line: &WordedLine) -> Result<Reader, ScriptKind>
-        ensures { HasSaid result (rest_fault self.so_far Machine (here_of line.now))
-            (with_statement self.so_far Machine (here_of line.now)) }
+        ensures { HasSaid result (rest_fault self.so_far Machine (statement_of_line line.now))
+            (with_statement self.so_far Machine (statement_of_line line.now)) }
     {
         self.so_far.script.dim = Some(number(line, 1, GREATEST_DIMENSION)?);
         Ok(self)
@@ -135,9 +135,9 @@ impl Reader {
         requires command { IsTrue (is_command verb) }
         requires user { IsTrue (is_some self.so_far.user) }
         ensures { HasSaid result
-            (operands_judged (names_so_far self.so_far) verb (here_of line.now))
+            (operands_judgment (names_so_far self.so_far) verb (statement_of_line line.now))
             (with_command self.so_far
-            (command_of_verb verb (names_so_far self.so_far) (here_of line.now))) }
+            (command_of_verb verb (names_so_far self.so_far) (statement_of_line line.now))) }
     {
         let said = command(self.alloc, verb, line, &self.indexes.images)?;
         let Some(user) = self.so_far.user else {
@@ -171,7 +171,7 @@ impl Reader {
         form: ImageForm,
         rest: Rest<'a>,
     ) -> Result<(Reader, Rest<'a>), ScriptFault>
-        requires form { form_of (operand 2 (here_of line.now)) ≡ Some form }
+        requires form { form_of (operand 2 (statement_of_line line.now)) ≡ Some form }
         requires at { rest.line_count ≡ line.now.number }
         ensures image { HasSaidImage result self.so_far line.now rest.entry }
         ensures past { IfOk result (λ next. remaining_statements true (lines_left rest.entry)
@@ -210,8 +210,8 @@ impl Reader {
     fn other_statement(self, verb: Verb, line: &WordedLine) -> Result<Reader, ScriptKind>
         requires plain { is_image verb ≡ false }
         requires user { IsTrue (is_command verb) → IsTrue (is_some self.so_far.user) }
-        ensures { HasSaid result (rest_fault self.so_far verb (here_of line.now))
-            (with_statement self.so_far verb (here_of line.now)) }
+        ensures { HasSaid result (rest_fault self.so_far verb (statement_of_line line.now))
+            (with_statement self.so_far verb (statement_of_line line.now)) }
     {
         match verb {
             Verb::Machine => self.machine(line),
@@ -222,7 +222,7 @@ impl Reader {
 
     /// The verb of a statement that may stand here.
     fn verb(&self, line: &WordedLine) -> Result<Verb, ScriptKind>
-        ensures { HasBegun result self.now.so_far (here_of line.now) }
+        ensures { HasBegun result self.now.so_far (statement_of_line line.now) }
     {
         let verb = verb_on(line)?;
         self.so_far.check_place(verb)?;
@@ -254,7 +254,7 @@ impl Reader {
 
     /// A line; the lines that are left behind it, and behind the body of an image that it begins.
     pub fn line<'a>(self, text: &[u8], rest: Rest<'a>) -> Result<(Reader, Rest<'a>), ScriptFault>
-        ensures stands { (all : List Statement)
+        ensures stands { (all : List ScriptStatement)
             → HasReadUpTo all self.so_far (remaining_statements false
             (record { number = rest.entry.line_count; text = text.now } ∷ lines_left rest.entry))
             → HasKept all result }

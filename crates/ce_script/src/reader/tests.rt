@@ -25,7 +25,7 @@ end
 fn hello(rt: HostRuntime) -> Result<(), Fail> {
     let text =
         b"machine 0\nimage hello hex\n02A00513 00E00893 00000073 00D00893 00000073\nend\nuser alice\ngetcube 0\nspawn hello 0 0\nrun 10\n";
-    let script = read_script(rt.alloc(), text)?;
+    let script = read_script(rt.alloc(), text)?.script;
     assert_eq!(rt; script.dim, Some(0));
     assert_eq!(rt; script.images.len(), 1);
     assert_eq!(rt; script.users.len(), 1);
@@ -35,7 +35,7 @@ fn hello(rt: HostRuntime) -> Result<(), Fail> {
 
 #[test]
 fn bodies_in_each_form(rt: HostRuntime) -> Result<(), Fail> {
-    let script = read_script(rt.alloc(), THREE_FORMS)?;
+    let script = read_script(rt.alloc(), THREE_FORMS)?.script;
     assert_eq!(rt; script.images.len(), 3);
     for named in script.images.as_slice() {
         assert_eq!(rt; named.image.loaded(), [0x73, 0, 0, 0].as_slice());
@@ -47,7 +47,7 @@ fn bodies_in_each_form(rt: HostRuntime) -> Result<(), Fail> {
 fn names_and_numbers(rt: HostRuntime) -> Result<(), Fail> {
     let text =
         b"machine 0000000000\nimage end hex\n00000073\nend\nuser end\nuser host\nuser end\ngetcube 6\nspawn end 4294967295 0\n";
-    let script = read_script(rt.alloc(), text)?;
+    let script = read_script(rt.alloc(), text)?.script;
     assert_eq!(rt; script.dim, Some(0));
     assert_eq!(rt; script.images.len(), 1);
     assert_eq!(rt; script.users.len(), 2);

@@ -8,7 +8,7 @@ use Rattle.ce_model.specs.declared.entry.What.TheVariants.{Look, HostTake, Send,
 use Rattle.ce_model.specs.Parcels.{Item, start, mail, kill, is_eligible}
 use Rattle.ce_model.specs.Node.{Call, take_call, send_call, spawn_call, kill_call, note_call, arm_call, look_call, mail_call}
 use Rattle.ce_model.specs.Trace.{NodeRecord, Standing}
-use Rattle.ce_model.specs.Answers.{is_used_up, offer_of, is_among, kill_found, is_quiet_node, is_quiet, found_where, first_number, answer}
+use Rattle.ce_model.specs.Answers.{is_used_up, offer_of, is_among, kill_found, is_quiet_node, is_quiet, look_result_where, first_number, answer}
 use Rattle.ce_model.specs.Cube.{node_numbers}
 use Rattle.ce_model.specs.Subcubes.{node_of}
 use Rattle.ce_model.specs.Renaming.{CubeGrant, place_outward, block_outward, number_outward, renamed_targets, renamed_item, renamed_record, renamed_call_blocks}
@@ -54,7 +54,7 @@ module _ (rename : BlockId → BlockId) where
   first-renamed (kill pid ∷ items) = refl
 
   pub quiet-renamed : (kept : NodeRecord) → is_quiet_node (renamed_record rename kept) ≡ is_quiet_node kept
-  quiet-renamed kept = ap (λ b. kept.mark.is_idle && not b) (any-renamed kept.mark.asking_ids kept.mark.dead_ids kept.waiting_items)
+  quiet-renamed kept = ap (λ b. kept.mark.is_idle && not b) (any-renamed kept.mark.asking kept.mark.dead kept.waiting_items)
 
 -- ---- how the machine keeps a cube
 
@@ -121,6 +121,6 @@ module _ (dim : ℕ) (grant : CubeGrant) (of : IsPlaced dim grant) (there here :
       ap (λ (kept : NodeRecord). Kill pid (place_outward grant.sub to) (kill_found kept to.pid)) (record-outward to.node in_cube)
   answer-outward n (note_call pid word) num in_cube = refl
   answer-outward n (arm_call count) num in_cube = refl
-  answer-outward n look_call num in_cube = ap₂ (λ quiet used. Look (found_where quiet used)) quiet-outward used-outward
+  answer-outward n look_call num in_cube = ap₂ (λ quiet used. Look (look_result_where quiet used)) quiet-outward used-outward
   answer-outward n mail_call num in_cube =
       ap (λ items. HostTake (first_number items)) (waiting-outward n num) ∙ ap HostTake (first-renamed (block_outward grant) (here.node_record n).waiting_items)

@@ -83,7 +83,7 @@ module _ (cube : Cube) (s : CubeState) (of : IsCube cube) (sound : IsSound cube 
   by_place true x call e = (refl, e)
   by_place false x call e = absurd (cc)
 
-  host-within : (asked : HostCall) (call : Call) → host_call cube s.hoststore asked ≡ Some call → IsCallWithin cube.dim call
+  host-within : (wish : HostCall) (call : Call) → host_call cube s.hoststore wish ≡ Some call → IsCallWithin cube.dim call
   host-within (send_bytes to bytes) call e =
       let parts = by_place (is_place cube.dim to) _ call e in sends-within to bytes call (slice_get s.hoststore 0) refl parts.0 parts.1
   host-within (start_image image to) call e =
@@ -95,17 +95,17 @@ module _ (cube : Cube) (s : CubeState) (of : IsCube cube) (sound : IsSound cube 
   host-within look_round call e = within_of look_call call e tt
   host-within take_message call e = within_of mail_call call e tt
 
-  asked-within : (asked : Option HostCall) (call : Call) → option_and_then (host_call cube s.hoststore) asked ≡ Some call → IsCallWithin cube.dim call
+  asked-within : (wish : Option HostCall) (call : Call) → option_and_then (host_call cube s.hoststore) wish ≡ Some call → IsCallWithin cube.dim call
   asked-within None call e = absurd (cc)
-  asked-within (Some asked) call e = host-within asked call e
+  asked-within (Some wish) call e = host-within wish call e
 
-  pub made-within : (actor : ℕ) (asked : Option HostCall) (call : Call) → IsMadeCall cube s actor asked call → IsCallWithin cube.dim call
-  made-within actor asked call (by_host is e) = asked-within asked call e
-  made-within actor asked call (by_node below e) = node-within actor call below (made-leaves cube s actor call of below sound e)
+  pub made-within : (actor : ℕ) (wish : Option HostCall) (call : Call) → IsMadeCall cube s actor wish call → IsCallWithin cube.dim call
+  made-within actor wish call (by_host is e) = asked-within wish call e
+  made-within actor wish call (by_node below e) = node-within actor call below (made-leaves cube s actor call of below sound e)
 
-  pub made-number : (actor : ℕ) (asked : Option HostCall) (call : Call) → IsMadeCall cube s actor asked call → IsNumber cube.dim actor
-  made-number actor asked call (by_host is e) = inr is
-  made-number actor asked call (by_node below e) = inl below
+  pub made-number : (actor : ℕ) (wish : Option HostCall) (call : Call) → IsMadeCall cube s actor wish call → IsNumber cube.dim actor
+  made-number actor wish call (by_host is e) = inr is
+  made-number actor wish call (by_node below e) = inl below
 
   pub what-within : (actor : ℕ) (call : Call) → IsCallWithin cube.dim call → IsWhatOf cube.dim (answer (node_numbers cube.dim) s.standing actor call)
   unfolding answer

@@ -18,8 +18,9 @@ use Rattle.ce_model.specs.Owners.{IsBlockOf}
 use Rattle.ce_model.specs.Renaming.{CubeGrant, place_outward, block_outward, number_outward, renamed_targets, renamed_item, renamed_record}
 use Rattle.ce_model.specs.Machine.{item_inward, without_taken, waiting_items_after, record_by}
 use Rattle.ce_model.proofs.OneMore.{taken_for}
-use Rattle.ce_solo.proofs.Lists.{joined, joined-is, filter-all, none-from_count, count_by-cons, one_if-true, one_if-false}
-use Rattle.ce_solo.proofs.Steps.{waiting_after, record_by as record_after}
+use Rattle.ce_solo.proofs.Lists.{appended, appended-is, filter-all, none-from_count, count_by-cons, one_if-true, one_if-false}
+use Rattle.ce_solo.proofs.Entries.{waiting_after}
+use Rattle.ce_solo.proofs.Entries as steps
 use Rattle.ce_solo.proofs.Projection.Numbers.{IsPlaced, IsNumber, IsWhatOf, what_outward, entry_outward, out_test, place_in_out}
 
 -- ---- what an entry takes and counts has no places and blocks
@@ -189,7 +190,7 @@ module _ (dim : ℕ) (grant : CubeGrant) (of : IsPlaced dim grant) (entry : Entr
       → ((given : TakeResult) → taken ≡ Some given → (count_by (is_named_by given) waiting ≤ 1) × (sent ≡ []))
       → without_taken taken (outward_all grant waiting) ++ outward_all grant sent ≡ outward_all grant (waiting_after taken sent waiting)
   waiting_by_taken None sent waiting known =
-      sym (map-append (renamed_item (block_outward grant)) waiting sent) ∙ ap (outward_all grant) (joined-is waiting sent)
+      sym (map-append (renamed_item (block_outward grant)) waiting sent) ∙ ap (outward_all grant) (appended-is waiting sent)
   waiting_by_taken (Some given) sent waiting known =
       ap (λ sent. without_taken (Some given) (outward_all grant waiting) ++ outward_all grant sent) (known given refl).1
       ∙ append-nil (without_taken (Some given) (outward_all grant waiting)) ∙ first_out (block_outward grant) given waiting (known given refl).0
@@ -214,12 +215,12 @@ module _ (dim : ℕ) (grant : CubeGrant) (of : IsPlaced dim grant) (entry : Entr
 
   pub record-behind : (n : ℕ) (kept : NodeRecord) → IsNumber grant.dim n → IsOneTaken n kept.waiting_items
       → record_by grant.sub (entry_outward grant entry) (number_outward grant.sub n) (renamed_record (block_outward grant) kept)
-      ≡ renamed_record (block_outward grant) (record_after (entry.actor == n) n entry kept)
+      ≡ renamed_record (block_outward grant) (steps.record_by (entry.actor == n) n entry kept)
   record-behind n kept of_n one =
-      let spawned : kept.spawned_ids ++ start_ids_in (number_outward grant.sub n) (what_outward grant entry.what) ≡ joined kept.spawned_ids (start_ids_in n entry.what) =
-      ap (λ items. kept.spawned_ids ++ map item_id items) (starts-outward dim grant of n entry.what of_n is) ∙ joined-is kept.spawned_ids (start_ids_in n entry.what) in
-      let killed : kept.killed_ids ++ kill_ids_in (number_outward grant.sub n) (what_outward grant entry.what) ≡ joined kept.killed_ids (kill_ids_in n entry.what) =
-      ap (λ items. kept.killed_ids ++ map item_id items) (kills-outward dim grant of n entry.what of_n is) ∙ joined-is kept.killed_ids (kill_ids_in n entry.what) in
+      let spawned : kept.spawned_ids ++ start_ids_in (number_outward grant.sub n) (what_outward grant entry.what) ≡ appended kept.spawned_ids (start_ids_in n entry.what) =
+      ap (λ items. kept.spawned_ids ++ map item_id items) (starts-outward dim grant of n entry.what of_n is) ∙ appended-is kept.spawned_ids (start_ids_in n entry.what) in
+      let killed : kept.killed_ids ++ kill_ids_in (number_outward grant.sub n) (what_outward grant entry.what) ≡ appended kept.killed_ids (kill_ids_in n entry.what) =
+      ap (λ items. kept.killed_ids ++ map item_id items) (kills-outward dim grant of n entry.what of_n is) ∙ appended-is kept.killed_ids (kill_ids_in n entry.what) in
       let marks : (if (entry_outward grant entry).actor == number_outward grant.sub n then mark_after kept.mark (what_outward grant entry.what) else kept.mark)
       ≡ (if entry.actor == n then mark_after kept.mark entry.what else kept.mark) =
       ap₂ (λ (b : Bool) mark. if b then mark else kept.mark) (own_test n of_n) (marked-outward grant kept.mark entry.what) in

@@ -68,7 +68,7 @@ pub record IsProjected (parts : MachineParts) (state : MachineState) (h : List E
   pub views : (number : ℕ) (grant : CubeGrant) (behind : List Entry) → history_behind_grant h number ≡ Some (grant, behind) → IsViewed parts state number grant behind
 
 -- what an entry does to the state: the cubes of other users stay, and its own user's is held as it should be
-pub record IsStep (parts : MachineParts) (state : MachineState) (h : List Entry) (entry : Entry) (state' : MachineState) : Type 0 where
+pub record IsNextState (parts : MachineParts) (state : MachineState) (h : List Entry) (entry : Entry) (state' : MachineState) : Type 0 where
   pub count : state'.grant_count ≡ granted (h ++ entry ∷ [])
   pub others : (user : ℕ) → (entry.user == user) ≡ false → cube_held_by state' user ≡ cube_held_by state user
   pub records : (node : ℕ) → ((cube : HeldCube) → cube_held_by state entry.user ≡ Some cube → is_inside cube.grant.sub node ≡ false)
@@ -111,7 +111,7 @@ held-stays parts state state' h entry cube was none goes_on same = record {
       });
 }
 
-module _ (parts : MachineParts) (state state' : MachineState) (h : List Entry) (entry : Entry) (before : IsProjected parts state h) (step : IsStep parts state h entry state') where
+module _ (parts : MachineParts) (state state' : MachineState) (h : List Entry) (entry : Entry) (before : IsProjected parts state h) (step : IsNextState parts state h entry state') where
   -- the user of a cube of others
   other_user : (user : ℕ) (cube : HeldCube) → (entry.user == user) ≡ false → cube_held_by state user ≡ Some cube → (entry.user == cube.grant.user) ≡ false
   other_user user cube other held = subst (λ u. (entry.user == u) ≡ false) (sym (eqb-true _ _ (held-user state user cube held))) other
@@ -210,8 +210,8 @@ module _ (parts : MachineParts) (state state' : MachineState) (h : List Entry) (
             (subst (λ n. IsViewed parts state' n grant []) (sym num) (step.fresh grant some))
       ]
 
-  pub projected-step : IsProjected parts state' (h ++ entry ∷ [])
-  projected-step = record {
+  pub projected-entry : IsProjected parts state' (h ++ entry ∷ [])
+  projected-entry = record {
     count = step.count;
     held = held-now;
     apart = apart-now;

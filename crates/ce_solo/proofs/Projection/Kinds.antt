@@ -18,7 +18,7 @@ use Rattle.ce_solo.proofs.Stands.{state_after_trace-nil}
 use Rattle.ce_solo.proofs.Projection.Numbers.{IsPlaced}
 use Rattle.ce_solo.proofs.Projection.Views.{granted, granted-same, granted-one, found-more, found-new, is_over, over-more, trace-stays}
 use Rattle.ce_solo.proofs.Projection.Held.{held-user, held-own, held-other, record-own, record-other, granted-own, granted-other, free-outside, left-own, left-other}
-use Rattle.ce_solo.proofs.Projection.Invariant.{IsKept, IsHeld, IsByEntries, IsViewed, AreApart, IsProjected, IsStep, held-stays}
+use Rattle.ce_solo.proofs.Projection.Invariant.{IsKept, IsHeld, IsByEntries, IsViewed, AreApart, IsProjected, IsNextState, held-stays}
 
 pub and_false : (b c : Bool) → c ≡ false → (b && c) ≡ false
 and_false true c e = e
@@ -27,6 +27,13 @@ and_false false c e = refl
 -- an entry of these
 abbrev pub entry_of : ℕ → ℕ → What → Entry
 entry_of user actor what = record { user = user; actor = actor; what = what }
+
+-- a cube that is drained, and what is kept for a node of it
+abbrev pub drained_cube : HeldCube → HeldCube
+drained_cube cube = record cube { is_drained = true; mail = [] }
+
+abbrev pub drained_record : HeldCube → ℕ → NodeRecord → NodeRecord
+drained_record cube node kept = record kept { waiting_items = [] }
 
 module _ (parts : MachineParts) (state : MachineState) (h : List Entry) (before : IsProjected parts state h) where
   -- a grant that was not drained is the cube that its user holds
@@ -57,8 +64,8 @@ module _ (parts : MachineParts) (state : MachineState) (h : List Entry) (before 
 
   -- ---- entries that change nothing
 
-  pub idle-step : (entry : Entry) → entry_grant entry ≡ None → recorded_call entry.what ≡ None → is_drain entry.what ≡ false → IsStep parts state h entry state
-  idle-step entry none no_call goes = record {
+  pub idle-entry : (entry : Entry) → entry_grant entry ≡ None → recorded_call entry.what ≡ None → is_drain entry.what ≡ false → IsNextState parts state h entry state
+  idle-entry entry none no_call goes = record {
     count = before.count ∙ sym (granted-same h entry none);
     others = λ user other. refl;
     records = λ node outside. refl;
@@ -120,8 +127,8 @@ module _ (parts : MachineParts) (state : MachineState) (h : List Entry) (before 
     none_held : (cube : HeldCube) → cube_held_by state user ≡ Some cube → ⊥
     none_held cube held = cc
 
-    pub grant-step : IsStep parts state h entry_now (with_grant grant_now state)
-    grant-step = record {
+    pub grant-entry : IsNextState parts state h entry_now (with_grant grant_now state)
+    grant-entry = record {
       count = ap (λ n. n + 1) before.count ∙ sym (granted-one h entry_now grant_now refl);
       others = λ other differ. granted-other grant_now state other differ;
       records = λ node outside. refl;
@@ -146,12 +153,6 @@ module _ (parts : MachineParts) (state : MachineState) (h : List Entry) (before 
     abbrev drain : Entry
     drain = entry_of user actor Drain
 
-    abbrev drained_cube : HeldCube → HeldCube
-    drained_cube cube = record cube { is_drained = true; mail = [] }
-
-    abbrev drained_record : HeldCube → ℕ → NodeRecord → NodeRecord
-    drained_record cube node kept = record kept { waiting_items = [] }
-
     drained_held : cube_held_by (with_drained user state) user ≡ Some (drained_cube cube)
     drained_held = held-own user drained_cube (λ cube. refl) drained_record state cube holds
 
@@ -172,8 +173,8 @@ module _ (parts : MachineParts) (state : MachineState) (h : List Entry) (before 
           kept = λ goes. absurd (cc);
         }
 
-    pub drain-step : IsStep parts state h drain (with_drained user state)
-    drain-step = record {
+    pub drain-entry : IsNextState parts state h drain (with_drained user state)
+    drain-entry = record {
       count = before.count ∙ sym (granted-same h drain refl);
       others = λ other differ. held-other user drained_cube (λ cube. refl) drained_record state other differ;
       records = λ node outside. record-other drained_record node (state.node_record node) (cube_held_by state user) outside;
@@ -206,8 +207,8 @@ module _ (parts : MachineParts) (state : MachineState) (h : List Entry) (before 
     none_left : (cube' : HeldCube) → cube_held_by (without_cube user state) user ≡ Some cube' → ⊥
     none_left cube' held = let none = left-own user state in cc
 
-    pub free-step : IsStep parts state h freeing (without_cube user state)
-    free-step = record {
+    pub free-entry : IsNextState parts state h freeing (without_cube user state)
+    free-entry = record {
       count = before.count ∙ sym (granted-same h freeing refl);
       others = λ other differ. left-other user other state differ;
       records = λ node outside. record-other freed_record node (state.node_record node) (cube_held_by state user) outside;

@@ -20,9 +20,9 @@ use Rattle.ce_model.proofs.AloneByEntries.{alone_by_entries}
 use Rattle.ce_solo.specs.Laws.{ViewsAreAlone}
 use Rattle.ce_solo.proofs.Projection.Views.{granted-same, found-more, is_over, over-more, no_drain, view-is}
 use Rattle.ce_solo.proofs.Projection.Held.{held-user, held-own, held-other, record-own, record-other}
-use Rattle.ce_solo.proofs.Projection.Invariant.{IsKept, IsHeld, IsByEntries, IsViewed, AreApart, IsProjected, IsStep, projected-step, or_false}
+use Rattle.ce_solo.proofs.Projection.Invariant.{IsKept, IsHeld, IsByEntries, IsViewed, AreApart, IsProjected, IsNextState, projected-entry, or_false}
 use Rattle.ce_solo.proofs.Projection.Own.{IsOwnEntry, own-entry, kept-behind, trace-behind}
-use Rattle.ce_solo.proofs.Projection.Kinds.{and_false, entry_of, held-grant, idle-step, grant-step, drain-step, free-step}
+use Rattle.ce_solo.proofs.Projection.Kinds.{and_false, entry_of, held-grant, idle-entry, grant-entry, drain-entry, free-entry}
 
 no_grant : (user : ℕ) (what : What) (call : Call) → recorded_call what ≡ Some call → request_grant user what ≡ None
 no_grant user (Getcube dim None) call e = absurd (cc)
@@ -85,8 +85,8 @@ module _ (parts : MachineParts) (machine : IsMachine parts) (state : MachineStat
       last = inr (change cube, ap (cube_held_by now) (eqb-true _ _ (held-user state entry.user cube holds)) ∙ held_now, refl);
     }
 
-    pub call-step : IsStep parts state h entry now
-    call-step = record {
+    pub call-entry : IsNextState parts state h entry now
+    call-entry = record {
       count = before.count ∙ sym (granted-same h entry (no_grant entry.user entry.what is.call is.called));
       others = λ other differ. held-other entry.user change (λ cube. refl) change_record state other differ;
       records = λ node outside. record-other change_record node (state.node_record node) (cube_held_by state entry.user) outside;
@@ -117,41 +117,41 @@ abbrev pub IsProjectedHistory : MachineParts → List Entry → Type 0
 IsProjectedHistory parts h = IsProjected parts (after h) h
 
 -- an entry behind a history does what it has to
-abbrev pub IsStepBehind : MachineParts → List Entry → Entry → Type 0
-IsStepBehind parts h entry = IsStep parts (after h) h entry (after (h ++ entry ∷ []))
+abbrev pub IsNextStateBehind : MachineParts → List Entry → Entry → Type 0
+IsNextStateBehind parts h entry = IsNextState parts (after h) h entry (after (h ++ entry ∷ []))
 
 module _ (parts : MachineParts) (machine : IsMachine parts) (h : List Entry) (before : IsProjectedHistory parts h) where
-  by_step : (entry : Entry) (state : MachineState) → state_after_entry (after h) entry ≡ state → IsStep parts (after h) h entry state → IsStepBehind parts h entry
-  by_step entry state e step = subst (IsStep parts (after h) h entry) (sym (after-more h entry ∙ e)) step
+  by_step : (entry : Entry) (state : MachineState) → state_after_entry (after h) entry ≡ state → IsNextState parts (after h) h entry state → IsNextStateBehind parts h entry
+  by_step entry state e step = subst (IsNextState parts (after h) h entry) (sym (after-more h entry ∙ e)) step
 
-  by_what : (entry : Entry) (what : What) → Some what ≡ Some entry.what → IsStepBehind parts h (entry_of entry.user entry.actor what) → IsStepBehind parts h entry
+  by_what : (entry : Entry) (what : What) → Some what ≡ Some entry.what → IsNextStateBehind parts h (entry_of entry.user entry.actor what) → IsNextStateBehind parts h entry
   by_what entry what e steps =
-      let same : what ≡ entry.what = cc in subst (λ what. IsStepBehind parts h (entry_of entry.user entry.actor what)) same steps
+      let same : what ≡ entry.what = cc in subst (λ what. IsNextStateBehind parts h (entry_of entry.user entry.actor what)) same steps
 
   by_grant : (entry : Entry) (d : ℕ) (found : Option Subcube) → first_free (is_free (after h)) parts.dim d ≡ found → entry.user < parts.users
-      → cube_held_by (after h) entry.user ≡ None → Some (Getcube d found) ≡ Some entry.what → IsStepBehind parts h entry
+      → cube_held_by (after h) entry.user ≡ None → Some (Getcube d found) ≡ Some entry.what → IsNextStateBehind parts h entry
   by_grant entry d None is within none e =
       by_what entry (Getcube d None) e
       (by_step (entry_of entry.user entry.actor (Getcube d None)) (after h) refl
-      (idle-step parts (after h) h before (entry_of entry.user entry.actor (Getcube d None)) refl refl refl))
+      (idle-entry parts (after h) h before (entry_of entry.user entry.actor (Getcube d None)) refl refl refl))
   by_grant entry d (Some sub) is within none e =
       by_what entry (Getcube d (Some sub)) e
       (by_step (entry_of entry.user entry.actor (Getcube d (Some sub))) (with_grant (record { user = entry.user; dim = d; sub = sub }) (after h)) refl
-      (grant-step parts (after h) h before machine entry.user entry.actor d sub within none is))
+      (grant-entry parts (after h) h before machine entry.user entry.actor d sub within none is))
 
   by_drain : (entry : Entry) (held : Option HeldCube) → cube_held_by (after h) entry.user ≡ held → IsSomeAnd held (λ cube. cube.is_drained ≡ false)
-      → Some Drain ≡ Some entry.what → IsStepBehind parts h entry
+      → Some Drain ≡ Some entry.what → IsNextStateBehind parts h entry
   by_drain entry None is some e = absurd some
   by_drain entry (Some cube) is some e =
       by_what entry Drain e
-      (by_step (entry_of entry.user entry.actor Drain) (with_drained entry.user (after h)) refl (drain-step parts (after h) h before entry.user entry.actor cube is))
+      (by_step (entry_of entry.user entry.actor Drain) (with_drained entry.user (after h)) refl (drain-entry parts (after h) h before entry.user entry.actor cube is))
 
   by_free : (entry : Entry) (held : Option HeldCube) → cube_held_by (after h) entry.user ≡ held → IsSomeAnd held (λ cube. cube.is_drained ≡ true)
-      → Some Freecube ≡ Some entry.what → IsStepBehind parts h entry
+      → Some Freecube ≡ Some entry.what → IsNextStateBehind parts h entry
   by_free entry None is some e = absurd some
   by_free entry (Some cube) is some e =
       by_what entry Freecube e
-      (by_step (entry_of entry.user entry.actor Freecube) (without_cube entry.user (after h)) refl (free-step parts (after h) h before entry.user entry.actor cube is some))
+      (by_step (entry_of entry.user entry.actor Freecube) (without_cube entry.user (after h)) refl (free-entry parts (after h) h before entry.user entry.actor cube is some))
 
   -- a call of a cube that is held makes its next entry
   pub own-called : (entry : Entry) (call : Call) (cube : HeldCube) (is : cube_held_by (after h) entry.user ≡ Some cube) → IsCallOf parts h entry.actor call cube
@@ -169,27 +169,27 @@ module _ (parts : MachineParts) (machine : IsMachine parts) (h : List Entry) (be
 
   by_call : (entry : Entry) (call : Call) (held : Option HeldCube) → cube_held_by (after h) entry.user ≡ held → IsSomeAnd held (IsCallOf parts h entry.actor call)
       → option_map (λ cube. answer (nodes_of cube.grant) (cube_standing (after h) cube) entry.actor (with_places_outward cube.grant call)) held ≡ Some entry.what
-      → IsStepBehind parts h entry
+      → IsNextStateBehind parts h entry
   by_call entry call None is some e = absurd some
   by_call entry call (Some cube) is fits e =
       let own = own-called entry call cube is fits e in
       by_step entry (with_cube entry.user (cube_after_entry entry) (λ cube. record_by cube.grant.sub entry) (after h))
       (ap (λ call. state_after_call call entry (after h)) own.called)
-      (call-step parts machine (after h) h before entry cube is fits.not_drained own)
+      (call-entry parts machine (after h) h before entry cube is fits.not_drained own)
 
   by_request : (entry : Entry) (request : Request) → IsFitting parts h entry.user entry.actor request → what_of_request parts (after h) entry.user entry.actor request ≡ Some entry.what
-      → IsStepBehind parts h entry
+      → IsNextStateBehind parts h entry
   by_request entry (getcube d) fits e = by_grant entry d (first_free (is_free (after h)) parts.dim d) refl fits.0 fits.1.2 e
   by_request entry peek fits e =
       by_what entry Peek e
       (by_step (entry_of entry.user entry.actor Peek) (after h) refl
-      (idle-step parts (after h) h before (entry_of entry.user entry.actor Peek) refl refl refl))
+      (idle-entry parts (after h) h before (entry_of entry.user entry.actor Peek) refl refl refl))
   by_request entry drain fits e = by_drain entry (cube_held_by (after h) entry.user) refl fits.1.1 e
   by_request entry freecube fits e = by_free entry (cube_held_by (after h) entry.user) refl fits.1.1 e
   by_request entry (in_cube call) fits e = by_call entry call (cube_held_by (after h) entry.user) refl fits.1 e
 
-  pub lawful-step : (entry : Entry) → IsLawfulEntry parts h entry → IsStepBehind parts h entry
-  lawful-step entry lawful = by_request entry lawful.request lawful.fits lawful.answer
+  pub lawful-entry : (entry : Entry) → IsLawfulEntry parts h entry → IsNextStateBehind parts h entry
+  lawful-entry entry lawful = by_request entry lawful.request lawful.fits lawful.answer
 
 -- ---- a whole history
 
@@ -206,7 +206,7 @@ projected-nil parts = record {
 pub projected : (parts : MachineParts) (history : List Entry) → IsMachine parts → IsLawful parts history → IsProjectedHistory parts history
 projected parts history machine lawful =
     kept_by_each (IsLawfulEntry parts) (IsProjectedHistory parts)
-    (λ h entry before is. projected-step parts (after h) (after (h ++ entry ∷ [])) h entry before (lawful-step parts machine h before entry is)) [] history
+    (λ h entry before is. projected-entry parts (after h) (after (h ++ entry ∷ [])) h entry before (lawful-entry parts machine h before entry is)) [] history
     (projected-nil parts) lawful
 
 pub found_alone : (parts : MachineParts) (history : List Entry) (number : ℕ) → IsProjected parts (after history) history → (found : Option (CubeGrant × List Entry))

@@ -11,7 +11,7 @@ use Rattle.ce_model.specs.Parcels.{Parcel, Item, start, mail, kill, is_named_by}
 use Rattle.ce_model.specs.Node.{Call}
 use Rattle.ce_model.specs.Trace.{standing, allowed_dispatches_after, made_dispatches_after, NodeRecord, Standing, items_to}
 use Rattle.ce_model.specs.Answers.{answer, recorded_call}
-use Rattle.ce_model.specs.Cube.{Cube, CubeState, IsCube, opening, state_after_trace, asked_host_call, entry_host_call, actor_call, actor_entry, next_entry, node_numbers, HostCall, IsNext}
+use Rattle.ce_model.specs.Cube.{Cube, CubeState, IsCube, opening, state_after_trace, host_call_of, entry_host_call, actor_call, actor_entry, next_entry, node_numbers, HostCall, IsNext}
 use Rattle.ce_model.specs.Sound.{IsSound, IsHostItem, is_start_of, is_kill_of}
 use Rattle.ce_model.specs.Subcubes.{relative_number, extract, node_of, is_inside}
 use Rattle.ce_model.specs.Renaming.{CubeGrant, block_outward, number_outward, renamed_record, renamed_call_blocks, entry_inward}
@@ -22,7 +22,7 @@ use Rattle.ce_model.proofs.AloneByEntries.{call_of-answer}
 use Rattle.ce_model.proofs.OneMore.{taken_for}
 use Rattle.ce_solo.proofs.Lists.{count_by-agree, count_by-none}
 use Rattle.ce_solo.proofs.Items.{named-start, named-kill, named-mail}
-use Rattle.ce_solo.proofs.Steps.{entry_in, standing_after}
+use Rattle.ce_solo.proofs.Entries.{entry_in, standing_after}
 use Rattle.ce_solo.proofs.Made.{made, taking-sends_none}
 use Rattle.ce_solo.proofs.Stands.{IsSoundTrace, entry_of-next, left-made, stands-each}
 use Rattle.ce_solo.proofs.Fresh.{fresh_sound}
@@ -134,20 +134,20 @@ pub record IsOwnEntry (parts : MachineParts) (grant : CubeGrant) (t : List Entry
   pub called : recorded_call entry.what ≡ Some call
 
 asked_in_host : (cube : Cube) (o : CubeState) (t : List Entry) (actor : ℕ) (call : Call) → (actor == HOST) ≡ true
-    → entry_host_call (actor_entry cube o t actor call) ≡ asked_host_call call
+    → entry_host_call (actor_entry cube o t actor call) ≡ host_call_of call
 asked_in_host cube o t actor call is =
-    ap (λ (b : Bool). if b then option_and_then asked_host_call (recorded_call (actor_entry cube o t actor call).what) else None) is
-    ∙ ap (option_and_then asked_host_call) (call_of-answer (node_numbers cube.dim) (standing o.standing t) actor call)
+    ap (λ (b : Bool). if b then option_and_then host_call_of (recorded_call (actor_entry cube o t actor call).what) else None) is
+    ∙ ap (option_and_then host_call_of) (call_of-answer (node_numbers cube.dim) (standing o.standing t) actor call)
 
-next_by_call : (cube : Cube) (o : CubeState) (t : List Entry) (actor : ℕ) (call : Call) → actor_call cube o t actor (asked_host_call call) ≡ Some call
+next_by_call : (cube : Cube) (o : CubeState) (t : List Entry) (actor : ℕ) (call : Call) → actor_call cube o t actor (host_call_of call) ≡ Some call
     → IsNext cube o t (actor_entry cube o t actor call)
 unfolding next_entry
 next_by_call cube o t actor call e =
     elim (cases_Bool (actor == HOST)) [
       | inl is ↦
-          ap (λ asked. option_map (actor_entry cube o t actor) (actor_call cube o t actor asked)) (asked_in_host cube o t actor call is)
+          ap (λ wish. option_map (actor_entry cube o t actor) (actor_call cube o t actor wish)) (asked_in_host cube o t actor call is)
           ∙ ap (option_map (actor_entry cube o t actor)) e
-      | inr node ↦ next_of_node (entry_host_call (actor_entry cube o t actor call)) (asked_host_call call) node ∙ ap (option_map (actor_entry cube o t actor)) e
+      | inr node ↦ next_of_node (entry_host_call (actor_entry cube o t actor call)) (host_call_of call) node ∙ ap (option_map (actor_entry cube o t actor)) e
     ]
   where
     next_of_node : (x y : Option HostCall) → (actor == HOST) ≡ false
@@ -179,17 +179,17 @@ module _ (parts : MachineParts) (machine : IsMachine parts) (state : MachineStat
   stands = stands-each own (opening own) t (own_cube parts cube.grant machine was.placed) (fresh_sound own (own_cube parts cube.grant machine was.placed)) alone
 
   pub own-entry : (entry : Entry) (call : Call) → entry.user ≡ cube.grant.user → IsTrue (entry.actor == HOST) ⊎ IsTrue (is_inside cube.grant.sub entry.actor)
-      → actor_call own (opening own) (view h cube.number) (relative_number cube.grant.sub entry.actor) (asked_host_call call) ≡ Some call
+      → actor_call own (opening own) (view h cube.number) (relative_number cube.grant.sub entry.actor) (host_call_of call) ≡ Some call
       → answer (nodes_of cube.grant) (cube_standing state cube) entry.actor (with_places_outward cube.grant (renamed_call_blocks (block_outward cube.grant) call)) ≡ entry.what
       → IsOwnEntry parts cube.grant t entry
   own-entry entry call user inside called answered =
       let grant = cube.grant in
       let of = own_cube parts grant machine was.placed in
       let actor = relative_number grant.sub entry.actor in
-      let says = subst (λ t. actor_call own (opening own) t actor (asked_host_call call) ≡ Some call) (view-is h cube.number grant was.behind was.found) called in
-      let by = made own s actor (asked_host_call call) call says in
-      let number = made-number own s of stands.sound actor (asked_host_call call) call by in
-      let within = made-within own s of stands.sound actor (asked_host_call call) call by in
+      let says = subst (λ t. actor_call own (opening own) t actor (host_call_of call) ≡ Some call) (view-is h cube.number grant was.behind was.found) called in
+      let by = made own s actor (host_call_of call) call says in
+      let number = made-number own s of stands.sound actor (host_call_of call) call by in
+      let within = made-within own s of stands.sound actor (host_call_of call) call by in
       let back = actor_back parts.dim grant was.placed entry.actor inside in
       let inner = entry_in own s actor call in
       let what : entry.what ≡ what_outward grant inner.what =

@@ -9,7 +9,7 @@ use Rattle.ce_model.specs.declared.entry.What.TheVariants.{Peek}
 use Rattle.ce_model.specs.Node.{Node, Call}
 use Rattle.ce_model.specs.Answers.{answer, recorded_call}
 use Rattle.ce_model.specs.Saying.{says}
-use Rattle.ce_model.specs.Cube.{Cube, CubeState, opening, asked_host_call, actor_call, HostCall, is_node, state, hoststore}
+use Rattle.ce_model.specs.Cube.{Cube, CubeState, opening, host_call_of, actor_call, HostCall, is_node, state, hoststore}
 use Rattle.ce_model.specs.Subcubes.{is_inside, relative_number}
 use Rattle.ce_model.specs.Renaming.{renamed_call_blocks, block_outward, CubeGrant, number_outward}
 use Rattle.ce_model.specs.Views.{trace_behind, view}
@@ -21,14 +21,14 @@ use Rattle.ce_solo.proofs.Projection.Held.{held-user, held-own}
 use Rattle.ce_solo.proofs.Projection.Invariant.{IsHeld}
 use Rattle.ce_solo.proofs.Projection.Own.{IsOwnEntry, actor_back, trace-behind}
 use Rattle.ce_solo.proofs.Projection.Kinds.{and_false}
-use Rattle.ce_solo.proofs.Projection.Law.{IsProjectedHistory, after-more, projected, own-called, lawful-step}
+use Rattle.ce_solo.proofs.Projection.Law.{IsProjectedHistory, after-more, projected, own-called, lawful-entry}
 
 -- ---- the calls of others
 
 -- what an actor does next doesn't hang on the last entry, which is another's
-call_by-other : (cube : Cube) (o : CubeState) (t : List Entry) (actor : ℕ) (asked : Option HostCall) (entry : Entry) → (entry.actor == actor) ≡ false
-    → actor_call cube o (t ++ entry ∷ []) actor asked ≡ actor_call cube o t actor asked
-call_by-other cube o t actor asked entry other =
+call_by-other : (cube : Cube) (o : CubeState) (t : List Entry) (actor : ℕ) (wish : Option HostCall) (entry : Entry) → (entry.actor == actor) ≡ false
+    → actor_call cube o (t ++ entry ∷ []) actor wish ≡ actor_call cube o t actor wish
+call_by-other cube o t actor wish entry other =
     elim (cases_Bool (actor == HOST)) [
       | inl host ↦
           let apart : (entry.actor == HOST) ≡ false = subst (λ n. (entry.actor == n) ≡ false) (eqb-true actor HOST host) other in
@@ -39,11 +39,11 @@ call_by-other cube o t actor asked entry other =
           by_node node same
     ]
   where
-    by_host : (actor == HOST) ≡ true → hoststore o (t ++ entry ∷ []) ≡ hoststore o t → actor_call cube o (t ++ entry ∷ []) actor asked ≡ actor_call cube o t actor asked
+    by_host : (actor == HOST) ≡ true → hoststore o (t ++ entry ∷ []) ≡ hoststore o t → actor_call cube o (t ++ entry ∷ []) actor wish ≡ actor_call cube o t actor wish
     by_host host store = rw (host, store) refl
 
     by_node : (actor == HOST) ≡ false → state cube o actor (t ++ entry ∷ []) ≡ state cube o actor t
-        → actor_call cube o (t ++ entry ∷ []) actor asked ≡ actor_call cube o t actor asked
+        → actor_call cube o (t ++ entry ∷ []) actor wish ≡ actor_call cube o t actor wish
     by_node node same = rw node (ap (λ (now : Node). if is_node cube actor then Some (says now).call else None) same)
 
 -- ---- what is asked of the history
@@ -58,17 +58,17 @@ fits-on parts h h' user actor (getcube d) none drained call fits = (fits.0, fits
 fits-on parts h h' user actor peek none drained call fits = fits
 fits-on parts h h' user actor drain none drained call fits = (fits.0, drained false fits.1)
 fits-on parts h h' user actor freecube none drained call fits = (fits.0, drained true fits.1)
-fits-on parts h h' user actor (in_cube asked) none drained call fits = call asked fits
+fits-on parts h h' user actor (in_cube wish) none drained call fits = call wish fits
 
 call_of-kept : (parts : MachineParts) (h h' : List Entry) (actor : ℕ) (call : Call) (cube cube' : HeldCube) → cube'.grant ≡ cube.grant → cube'.is_drained ≡ cube.is_drained
-    → ((asked : Option HostCall) → actor_call (cube_of parts.images cube'.grant) (opening (cube_of parts.images cube'.grant)) (view h' cube'.number)
-    (relative_number cube'.grant.sub actor) asked
-    ≡ actor_call (cube_of parts.images cube.grant) (opening (cube_of parts.images cube.grant)) (view h cube.number) (relative_number cube.grant.sub actor) asked)
+    → ((wish : Option HostCall) → actor_call (cube_of parts.images cube'.grant) (opening (cube_of parts.images cube'.grant)) (view h' cube'.number)
+    (relative_number cube'.grant.sub actor) wish
+    ≡ actor_call (cube_of parts.images cube.grant) (opening (cube_of parts.images cube.grant)) (view h cube.number) (relative_number cube.grant.sub actor) wish)
     → IsCallOf parts h actor call cube → IsCallOf parts h' actor call cube'
 call_of-kept parts h h' actor call cube cube' grant drained same of = record {
   made = of.made;
   inside = subst (λ (g : CubeGrant). IsTrue (actor == HOST) ⊎ IsTrue (is_inside g.sub actor)) (sym grant) of.inside;
-  next = same (asked_host_call of.made) ∙ of.next;
+  next = same (host_call_of of.made) ∙ of.next;
   renamed = ap (λ g. renamed_call_blocks (block_outward g) of.made) grant ∙ of.renamed;
   within = of.within;
   not_drained = drained ∙ of.not_drained;
@@ -93,7 +93,7 @@ module _ (parts : MachineParts) (machine : IsMachine parts) (h : List Entry) (be
   quiet_call call None is quiet fits = fits
   quiet_call call (Some cube) is quiet fits =
       call_of-kept parts h h' actor call cube cube refl refl
-      (λ asked. ap (λ t. actor_call (cube_of parts.images cube.grant) (opening (cube_of parts.images cube.grant)) t (relative_number cube.grant.sub actor) asked) (view-stays cube is quiet)) fits
+      (λ wish. ap (λ t. actor_call (cube_of parts.images cube.grant) (opening (cube_of parts.images cube.grant)) t (relative_number cube.grant.sub actor) wish) (view-stays cube is quiet)) fits
 
   fits-quiet : (request : Request) → cube_held_by (after h') user ≡ cube_held_by (after h) user → (entry.user == user && is_some (recorded_call entry.what)) ≡ false
       → IsFittingIn parts h user actor request → IsFittingIn parts h' user actor request
@@ -132,9 +132,9 @@ module _ (parts : MachineParts) (machine : IsMachine parts) (h : List Entry) (be
     call-next call of =
         let c = cube_of parts.images cube.grant in
         call_of-kept parts h h' actor call cube (cube_after_entry entry cube) refl refl
-        (λ asked.
-        ap (λ t. actor_call c (opening c) t (relative_number cube.grant.sub actor) asked) view_next
-        ∙ call_by-other c (opening c) (view h cube.number) (relative_number cube.grant.sub actor) asked own.inner (inner_other of.inside)) of
+        (λ wish.
+        ap (λ t. actor_call c (opening c) t (relative_number cube.grant.sub actor) wish) view_next
+        ∙ call_by-other c (opening c) (view h cube.number) (relative_number cube.grant.sub actor) wish own.inner (inner_other of.inside)) of
 
     fits-beside : (request : Request) → IsFittingIn parts h user actor request → IsFittingIn parts h' user actor request
     fits-beside request fits =
@@ -158,8 +158,8 @@ module _ (parts : MachineParts) (machine : IsMachine parts) (h : List Entry) (be
       fits-quiet request (ap (λ state. cube_held_by state user) (after-more h entry ∙ ap (λ what. state_after_entry (after h) (record { user = entry.user; actor = entry.actor; what = what })) (same ∙ sym is)))
       (and_false _ _ (ap is_some call)) fits
 
-  by_asked : (request asked : Request) → IsFitting parts h entry.user entry.actor asked → what_of_request parts (after h) entry.user entry.actor asked ≡ Some entry.what
-      → is_alone asked ≡ false → entry.user ≡ user → (entry.actor == actor) ≡ false → IsFittingIn parts h user actor request → IsFittingIn parts h' user actor request
+  by_asked : (request wish : Request) → IsFitting parts h entry.user entry.actor wish → what_of_request parts (after h) entry.user entry.actor wish ≡ Some entry.what
+      → is_alone wish ≡ false → entry.user ≡ user → (entry.actor == actor) ≡ false → IsFittingIn parts h user actor request → IsFittingIn parts h' user actor request
   by_asked request (getcube d) of e beside same other fits = absurd (cc)
   by_asked request drain of e beside same other fits = absurd (cc)
   by_asked request freecube of e beside same other fits = absurd (cc)
@@ -176,7 +176,7 @@ module _ (parts : MachineParts) (machine : IsMachine parts) (h : List Entry) (be
               | inr beside ↦ by_asked request lawful.request lawful.fits lawful.answer beside.1 (eqb-true _ _ same) beside.0 fits
             ]
         | inr other ↦
-            fits-quiet request ((lawful-step parts machine h before entry lawful).others user other) (ap (λ b. b && is_some (recorded_call entry.what)) other) fits
+            fits-quiet request ((lawful-entry parts machine h before entry lawful).others user other) (ap (λ b. b && is_some (recorded_call entry.what)) other) fits
       ]
 
 pub still_fits : RequestsStillFit

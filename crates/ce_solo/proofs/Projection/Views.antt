@@ -37,13 +37,13 @@ pub granted-one : (h : List Entry) (entry : Entry) (grant : CubeGrant) → entry
 granted-one h entry grant some = omega (arith, granted-more h entry, ap one_grant some)
 
 -- a grant that was found, with an entry more behind it
-abbrev Found : Type 0
-Found = CubeGrant × List Entry
+abbrev pub FoundGrant : Type 0
+FoundGrant = CubeGrant × List Entry
 
-abbrev with_more : Entry → Found → Found
+abbrev with_more : Entry → FoundGrant → FoundGrant
 with_more entry found = (found.0, found.1 ++ entry ∷ [])
 
-later_found : (entry : Entry) (grant : Option CubeGrant) (behind : List Entry) (number : ℕ) (found : Found)
+later_found : (entry : Entry) (grant : Option CubeGrant) (behind : List Entry) (number : ℕ) (found : FoundGrant)
     → ((m : ℕ) → history_behind_grant behind m ≡ Some found → history_behind_grant (behind ++ entry ∷ []) m ≡ Some (with_more entry found))
     → grant_or_later grant behind number (history_behind_grant behind) ≡ Some found
     → grant_or_later grant (behind ++ entry ∷ []) number (history_behind_grant (behind ++ entry ∷ [])) ≡ Some (with_more entry found)
@@ -65,7 +65,7 @@ found-more [] entry number grant behind e = absurd (cc)
 found-more (first ∷ h) entry number grant behind e =
     later_found entry (entry_grant first) h number (grant, behind) (λ m e. found-more h entry m grant behind e) e
 
-new_first : (entry : Entry) (first : Option CubeGrant) (h : List Entry) (number : ℕ) (found : Found)
+new_first : (entry : Entry) (first : Option CubeGrant) (h : List Entry) (number : ℕ) (found : FoundGrant)
     → history_behind_grant (h ++ entry ∷ []) number ≡ Some found
     → grant_or_later first (h ++ entry ∷ []) (one_grant first + number) (history_behind_grant (h ++ entry ∷ [])) ≡ Some found
 new_first entry None h number found e = let same : 0 + number ≡ number = omega arith in rw same e
@@ -101,7 +101,7 @@ found_by h entry number grant behind (Some other) later first' is e =
           let first : (number == 0) ≡ true = eq-eqb _ _ zero_is in
           let here : Some (other, h ++ entry ∷ []) ≡ Some (grant, behind) = rw first at e in
           let both : (other, h ++ entry ∷ []) ≡ (grant, behind) = cc in
-          old h (rw (is, first) (ap (λ (f : Found). Some (f.0, h)) both)) (sym (ap (λ (f : Found). f.1) both))
+          old h (rw (is, first) (ap (λ (f : FoundGrant). Some (f.0, h)) both)) (sym (ap (λ (f : FoundGrant). f.1) both))
       | inr differ ↦
           let fails : (number == 0) ≡ false = ne_eqb _ _ differ in
           let there : history_behind_grant (h ++ entry ∷ []) (number - 1) ≡ Some (grant, behind) = rw fails at e in
@@ -118,12 +118,12 @@ found_last entry number grant behind (Some other) is e =
     elim (cases_eq number 0) [
       | inl zero_is ↦
           let first : (number == 0) ≡ true = eq-eqb _ _ zero_is in
-          let here : ◌≡◌ {A = Option Found} (Some (other, [])) (Some (grant, behind)) = rw first at e in
-          let both : ◌≡◌ {A = Found} (other, []) (grant, behind) = cc in
-          new zero_is (is ∙ ap (λ (f : Found). Some f.0) both) (sym (ap (λ (f : Found). f.1) both))
+          let here : ◌≡◌ {A = Option FoundGrant} (Some (other, [])) (Some (grant, behind)) = rw first at e in
+          let both : ◌≡◌ {A = FoundGrant} (other, []) (grant, behind) = cc in
+          new zero_is (is ∙ ap (λ (f : FoundGrant). Some f.0) both) (sym (ap (λ (f : FoundGrant). f.1) both))
       | inr differ ↦
           let fails : (number == 0) ≡ false = ne_eqb _ _ differ in
-          let there : ◌≡◌ {A = Option Found} None (Some (grant, behind)) = rw fails at e in
+          let there : ◌≡◌ {A = Option FoundGrant} None (Some (grant, behind)) = rw fails at e in
           absurd (cc)
     ]
 

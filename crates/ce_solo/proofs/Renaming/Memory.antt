@@ -14,7 +14,7 @@ use Rattle.ce_model.specs.declared.topology.Place.{Place}
 use Rattle.ce_model.specs.declared.topology.BlockId.{BlockId}
 use Rattle.ce_model.specs.Limits.{window_base}
 use Rattle.ce_model.specs.Blocks.{Block}
-use Rattle.ce_model.specs.Space.{Space, window_of, offset_of, mapped_space, unmapped_space, emptied_space, mapped_ids, AccessSite, in_private, in_block, site_in, access_site, number_in, with_number_in, result_map, loaded_at, stored_at, named_in, is_window_start, block_named, and_then, memory_place, places_at}
+use Rattle.ce_model.specs.Space.{Space, window_of, offset_of, mapped_space, unmapped_space, emptied_space, mapped_ids, AccessSite, in_private, in_block, site_in, access_site, number_in, with_number_in, result_map, loaded_at, stored_at, block_at_window, is_window_start, block_named, and_then, memory_place, places_at}
 use Rattle.ce_model.specs.Renaming.{renamed_block, renamed_space}
 use Rattle.ce_solo.proofs.Lists.{all-append, all-get}
 use Rattle.ce_solo.proofs.Renaming.Lists.{if_ap, if_each, all-set, set-map}
@@ -93,7 +93,7 @@ module _ (rename : BlockId → BlockId) where
   -- ---- what a kernel call reads
 
   named_in-renamed : (window : Option (Option Block)) (p : ℕ)
-      → named_in (option_map (window_with rename) window) p ≡ result_map (found_with rename) (named_in window p)
+      → block_at_window (option_map (window_with rename) window) p ≡ result_map (found_with rename) (block_at_window window p)
   named_in-renamed None p = refl
   named_in-renamed (Some None) p = refl
   named_in-renamed (Some (Some block)) p = refl
@@ -102,7 +102,7 @@ module _ (rename : BlockId → BlockId) where
   unfolding block_named
   named-renamed space p =
       ap (λ named. if is_window_start p then named else Err (NotABlock p))
-      (ap (λ window. named_in window p) (slice_get-map (window_with rename) space.windows (window_of p))
+      (ap (λ window. block_at_window window p) (slice_get-map (window_with rename) space.windows (window_of p))
       ∙ named_in-renamed (slice_get space.windows (window_of p)) p)
       ∙ sym (if_ap (result_map (found_with rename)) (is_window_start p) _ _)
 
@@ -162,7 +162,7 @@ module _ (P : BlockId → Type 0) where
   pub space-named : (space : Space) → AllByRecursion P (mapped_ids space) → IsNamedSpace P space
   space-named space named = windows_named space.windows named
 
-  named_in-named : (window : Option (Option Block)) (p : ℕ) → IfSome window (IsNamedWindow P) → IfOk (named_in window p) (λ found. P found.1.id)
+  named_in-named : (window : Option (Option Block)) (p : ℕ) → IfSome window (IsNamedWindow P) → IfOk (block_at_window window p) (λ found. P found.1.id)
   named_in-named None p named = tt
   named_in-named (Some None) p named = tt
   named_in-named (Some (Some block)) p named = named

@@ -8,7 +8,7 @@ use Rattle.ce_model.specs.declared.process.Status.TheVariants.{Asking, Polling}
 use Rattle.ce_model.specs.declared.topology.Place.{Place}
 use Rattle.ce_model.specs.declared.topology.BlockId.{BlockId}
 use Rattle.ce_model.specs.Limits.{block_room, window_count, greatest_targets, turn_calls}
-use Rattle.ce_model.specs.Blocks.{Block, put}
+use Rattle.ce_model.specs.Blocks.{Block, with_id}
 use Rattle.ce_model.specs.Space.{window_start, has_unused_window, block_named, mapped_space, result_map, places_at}
 use Rattle.ce_model.specs.Process.{Process, argument, call_number}
 use Rattle.ce_model.specs.Node.{Turn, Node, is_place, send_call, spawn_call, kill_call, note_call}
@@ -57,7 +57,7 @@ module _ (names : Names) where
   frees-alike : (node : Node) (turn : Turn) (p : Process) (found : ℕ × Block) → AreNamedBoth names node p → names.P found.1.id
       → AreDid names (free_outcome (node_by names node) turn (process_by names p) (found_with names.rename found)) (free_outcome node turn p found)
   frees-alike node turn p found both new =
-      returns-alike names _ (record node { store = put found.1.id node.store }) turn _ (process_left_behind found.0 p) 0 0
+      returns-alike names _ (record node { store = with_id found.1.id node.store }) turn _ (process_left_behind found.0 p) 0 0
       (ap (λ store. record (node_by names node) { store = store }) (put-renamed names.rename names.P found.1.id node.store names.order new both.around.store))
       (process_without-same found.0 p) refl
       (record {

@@ -5,10 +5,10 @@ use Rattle.rv_model.specs.declared.stop.Stop.{Stop}
 use Rattle.ce_model.specs.declared.process.Status.{Status}
 use Rattle.ce_model.specs.declared.process.Status.TheVariants.{Stopped}
 use Rattle.ce_model.specs.declared.topology.BlockId.{BlockId}
-use Rattle.ce_model.specs.Blocks.{put_all}
+use Rattle.ce_model.specs.Blocks.{with_ids}
 use Rattle.ce_model.specs.Space.{mapped_ids}
 use Rattle.ce_model.specs.Process.{Process, unborn_process, ended_process, is_receiving, is_stopped}
-use Rattle.ce_model.specs.Node.{Node, process_at, with_process, without_poller, with_stopped, blocks_of, take_call, ids_of, take_of}
+use Rattle.ce_model.specs.Node.{Node, process_at, with_process, without_poller, with_stopped, blocks_of, take_call, process_set, take_of}
 use Rattle.ce_model.specs.Renaming.{renamed_process}
 use Rattle.ce_solo.proofs.Lists.{all-front, all-back, all-weaker}
 use Rattle.ce_solo.proofs.Renaming.Lists.{all-set, all-at, all-flat, at-map, set-map}
@@ -69,7 +69,7 @@ module _ (rename : BlockId → BlockId) (home : ℕ → ℕ) where
       ap₂ (λ processes store. node_stopped processes store)
       (ap (λ q. slice_set (map (renamed_process rename) node.processes) pid q) (ended-renamed cause p)
       ∙ set-map (renamed_process rename) node.processes pid (ended_process cause p))
-      (ap (λ ids. put_all ids (map rename node.store)) (ids-renamed rename p.space)
+      (ap (λ ids. with_ids ids (map rename node.store)) (ids-renamed rename p.space)
       ∙ put_all-renamed rename P (mapped_ids p.space) node.store order (ids-named P p.space own) named.store)
     where
       node_stopped : List Process → List BlockId → Node
@@ -81,7 +81,7 @@ module _ (rename : BlockId → BlockId) (home : ℕ → ℕ) where
         turn = None;
       }
 
-  ids-same : (test : Status → Bool) (ps : List Process) → ids_of test (map (renamed_process rename) ps) ≡ ids_of test ps
+  ids-same : (test : Status → Bool) (ps : List Process) → process_set test (map (renamed_process rename) ps) ≡ process_set test ps
   ids-same test [] = refl
   ids-same test (p ∷ ps) = ap (λ n. (if test p.status then 1 else 0) + 2 * n) (ids-same test ps)
 

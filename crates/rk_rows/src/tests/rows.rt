@@ -1,7 +1,9 @@
 //! What a node that is driven by hand says and hears, worked by hand.
 
 use ce_model::{Status, Stop};
-use rk_programs::{ALL_WINDOWS, BLOCK_SIZES, GONE_BLOCK, MULTICAST, UNREADABLE_LIST, WAIT};
+use rk_programs::{
+    ALL_WINDOWS, BLOCK_SIZES, GONE_BLOCK, MULTICAST, REQUESTS, UNREADABLE_LIST, WAIT,
+};
 
 /// What the driver does.
 #[derive(Clone, Copy, Debug)]
@@ -323,26 +325,43 @@ pub(super) const STARTED: Row = Row {
     ends: &[(0, Status::Stopped(Stop::Exited(5)))],
 };
 
-/// A process in xrecvb gets a message: its window's address, and the block there.
-pub(super) const MAIL_FOR_ONE_THAT_ASKS: Row = Row {
-    title: "mail_for_one_that_asks",
-    images: &[
-        "\
-                li a7, 7\n\
+/// Waits for a message by the call of this number, and notes where its block is and the word there.
+macro_rules! reader {
+    ($call:literal) => {
+        concat!(
+            "\
+                li a7, ",
+            $call,
+            "\n\
                 ecall\n\
                 li a7, 14\n\
                 ecall\n\
                 lw a0, 0(a0)\n\
                 ecall\n\
                 li a7, 13\n\
-                ecall\n",
-        SENDER,
-    ],
-    steps: &[
-        Step::Spawn { image: 0, pid: 0 },
-        Step::Spawn { image: 1, pid: 1 },
-        Step::Run,
-    ],
+                ecall\n"
+        )
+    };
+}
+
+/// One process waits, and then another sends.
+const READER_AND_SENDER: &[Step] = &[
+    Step::Spawn { image: 0, pid: 0 },
+    Step::Spawn { image: 1, pid: 1 },
+    Step::Run,
+];
+
+/// The one has read the block, and the other has sent it.
+const READ_AND_SENT: &[(u32, Status)] = &[
+    (0, Status::Stopped(Stop::Exited(99))),
+    (1, Status::Stopped(Stop::Exited(0))),
+];
+
+/// A process in xrecvb gets a message: its window's address, and the block there.
+pub(super) const MAIL_FOR_ONE_THAT_ASKS: Row = Row {
+    title: "mail_for_one_that_asks",
+    images: &[reader!("7"), SENDER],
+    steps: READER_AND_SENDER,
     transcript: "\
         take 0 0 - start 0 0\n\
         take 1 0 - start 1 1\n\
@@ -351,32 +370,14 @@ pub(super) const MAIL_FOR_ONE_THAT_ASKS: Row = Row {
         note 0 2147483648\n\
         note 0 99\n\
         take 0 3 - idle\n",
-    ends: &[
-        (0, Status::Stopped(Stop::Exited(99))),
-        (1, Status::Stopped(Stop::Exited(0))),
-    ],
+    ends: READ_AND_SENT,
 };
 
 /// The same in xrecv.
 pub(super) const MAIL_FOR_ONE_THAT_POLLS: Row = Row {
     title: "mail_for_one_that_polls",
-    images: &[
-        "\
-                li a7, 6\n\
-                ecall\n\
-                li a7, 14\n\
-                ecall\n\
-                lw a0, 0(a0)\n\
-                ecall\n\
-                li a7, 13\n\
-                ecall\n",
-        SENDER,
-    ],
-    steps: &[
-        Step::Spawn { image: 0, pid: 0 },
-        Step::Spawn { image: 1, pid: 1 },
-        Step::Run,
-    ],
+    images: &[reader!("6"), SENDER],
+    steps: READER_AND_SENDER,
     transcript: "\
         take 0 0 - start 0 0\n\
         take 1 0 0 start 1 1\n\
@@ -385,10 +386,7 @@ pub(super) const MAIL_FOR_ONE_THAT_POLLS: Row = Row {
         note 0 2147483648\n\
         note 0 99\n\
         take 0 3 - idle\n",
-    ends: &[
-        (0, Status::Stopped(Stop::Exited(99))),
-        (1, Status::Stopped(Stop::Exited(0))),
-    ],
+    ends: READ_AND_SENT,
 };
 
 /// A message for a process that has stopped: its block is in the store, where another process finds all 32.
@@ -477,54 +475,10 @@ pub(super) const POLLED: Row = Row {
     ends: &[(0, Status::Stopped(Stop::Exited(0)))],
 };
 
-/// What a process is told of a spawn, a kill and a message: 0, 2 and 3.
+/// What a process is told of a spawn, a kill and a message: 0 to 3.
 pub(super) const ANSWERS: Row = Row {
     title: "answers",
-    images: &[
-        WAIT,
-        "\
-                li a0, 0\n\
-                li a1, 0\n\
-                li a2, 1\n\
-                li a7, 8\n\
-                ecall\n\
-                li a7, 14\n\
-                ecall\n\
-                li a0, 0\n\
-                li a7, 8\n\
-                ecall\n\
-                li a7, 14\n\
-                ecall\n\
-                li a0, 0\n\
-                li a1, 1\n\
-                li a7, 9\n\
-                ecall\n\
-                li a7, 14\n\
-                ecall\n\
-                li a0, 0\n\
-                li a7, 9\n\
-                ecall\n\
-                li a7, 14\n\
-                ecall\n\
-                li a0, 0\n\
-                li a1, 5\n\
-                li a7, 9\n\
-                ecall\n\
-                li a7, 14\n\
-                ecall\n\
-                li a0, 4\n\
-                li a7, 1\n\
-                ecall\n\
-                li a1, -1\n\
-                li a2, 0\n\
-                li a7, 4\n\
-                ecall\n\
-                li a7, 14\n\
-                ecall\n\
-                li a0, 9\n\
-                li a7, 13\n\
-                ecall\n",
-    ],
+    images: &[WAIT, REQUESTS],
     steps: &[Step::Spawn { image: 1, pid: 0 }, Step::Run],
     transcript: "\
         take 0 0 - start 0 1\n\
@@ -532,12 +486,16 @@ pub(super) const ANSWERS: Row = Row {
         note 0 0\n\
         spawn 0 0 0.1 used\n\
         note 0 2\n\
+        note 0 3\n\
+        note 0 1\n\
         kill 0 0.1 ok\n\
         note 0 0\n\
         kill 0 0.1 already\n\
         note 0 3\n\
         kill 0 0.5 unused\n\
         note 0 2\n\
+        note 0 1\n\
+        note 0 1\n\
         send 0 0 00000000 host.0=0.0\n\
         note 0 0\n\
         take 0 1 - start 1 0\n\

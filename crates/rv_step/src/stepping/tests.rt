@@ -1,7 +1,7 @@
 // The expected values were worked out by hand from the RISC-V unprivileged specification.
 use super::*;
 use crate::PrivateMemory;
-use rv_model::Stop;
+use rv_model::{AccessSize, Register, Stop};
 use std::process::Abort;
 use std::test::Fail;
 
@@ -20,9 +20,9 @@ const MIN: u32 = 0x8000_0000;
 // Registers of which x1, x2 and x3 are these, and the others 0.
 fn registers(x1: u32, x2: u32, x3: u32) -> Regs {
     let mut regs = Regs::new();
-    regs.set(1, x1);
-    regs.set(2, x2);
-    regs.set(3, x3);
+    regs.set(Register { number: 1 }, x1);
+    regs.set(Register { number: 2 }, x2);
+    regs.set(Register { number: 3 }, x3);
     regs
 }
 
@@ -37,7 +37,7 @@ fn check(
     target: u32,
 ) {
     let mut pc = START;
-    assert_eq!(rt; memory.store(START, 4, word), Ok(()));
+    assert_eq!(rt; memory.store(START, AccessSize::word(), word), Ok(()));
     assert_eq!(rt; step(&mut regs, &mut pc, memory), event, "{word:x}");
     assert_eq!(rt; regs, after, "{word:x}");
     assert_eq!(rt; pc, target, "{word:x}");
@@ -257,7 +257,7 @@ fn jumps(rt: HostRuntime) -> Result<(), Fail> {
 #[test]
 fn loads(rt: HostRuntime) -> Result<(), Fail> {
     let mut memory = PrivateMemory::new(rt.alloc())?;
-    assert_eq!(rt; memory.store(DATA, 4, 0x017F_FF80), Ok(()));
+    assert_eq!(rt; memory.store(DATA, AccessSize::word(), 0x017F_FF80), Ok(()));
     let rows = [
         // lb
         (0x00008183, DATA, 0, 0xFFFF_FF80),
@@ -284,12 +284,16 @@ fn loads(rt: HostRuntime) -> Result<(), Fail> {
 
 // Checks the word at DATA, which was 0x017F_FF80, after a store of 0x1234_5678, where x1 is `addr`.
 fn check_store(rt: &impl Abort, memory: &mut PrivateMemory, word: u32, addr: u32, stored: u32) {
-    assert_eq!(rt; memory.store(DATA, 4, 0x017F_FF80), Ok(()));
+    assert_eq!(rt; memory.store(DATA, AccessSize::word(), 0x017F_FF80), Ok(()));
     let regs = registers(addr, 0x1234_5678, 77);
     check(rt, memory, word, regs, Event::Went, regs, NEXT);
-    assert_eq!(rt; memory.load(DATA, 4), Ok(stored), "{word:x} {addr:x}");
-    assert_eq!(rt; memory.load(DATA - 4, 4), Ok(0));
-    assert_eq!(rt; memory.load(DATA + 4, 4), Ok(0));
+    assert_eq!(rt;
+        memory.load(DATA, AccessSize::word()),
+        Ok(stored),
+        "{word:x} {addr:x}"
+    );
+    assert_eq!(rt; memory.load(DATA - 4, AccessSize::word()), Ok(0));
+    assert_eq!(rt; memory.load(DATA + 4, AccessSize::word()), Ok(0));
 }
 
 #[test]
@@ -353,15 +357,15 @@ fn stops(rt: HostRuntime) -> Result<(), Fail> {
 fn calls(rt: HostRuntime) -> Result<(), Fail> {
     let mut memory = PrivateMemory::new(rt.alloc())?;
     memory.load_into_zeros(&[0x6F, 0, 0, 0, 9]);
-    assert_eq!(rt; memory.load(START, 4), Ok(0x6F));
-    assert_eq!(rt; memory.load(NEXT, 4), Ok(9));
+    assert_eq!(rt; memory.load(START, AccessSize::word()), Ok(0x6F));
+    assert_eq!(rt; memory.load(NEXT, AccessSize::word()), Ok(9));
     let regs = registers(1, 2, 3);
     check(&rt, &mut memory, 0x00000073, regs, Event::Call, regs, NEXT);
     memory.load_image(&[0x13, 0, 0, 0, 7]);
-    assert_eq!(rt; memory.load(START, 4), Ok(0x13));
-    assert_eq!(rt; memory.load(NEXT, 4), Ok(7));
+    assert_eq!(rt; memory.load(START, AccessSize::word()), Ok(0x13));
+    assert_eq!(rt; memory.load(NEXT, AccessSize::word()), Ok(7));
     memory.load_image(&[0x6F]);
     assert_eq!(rt; memory.bytes().first(), Some(&0x6F));
-    assert_eq!(rt; memory.load(NEXT, 4), Ok(0));
+    assert_eq!(rt; memory.load(NEXT, AccessSize::word()), Ok(0));
     Ok(())
 }

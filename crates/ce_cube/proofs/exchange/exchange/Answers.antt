@@ -2,7 +2,7 @@ use Rattle.std.proofs.Common.{length, refl, subst, sym, ap, ◌∙◌}
 use Rattle.rk_node.specs.Answering.{IsAbleToHear}
 use Rattle.rk_node.specs.Boxes.{Box, IsClean}
 use Rattle.ce_model.specs.Machine.{IsFitting, in_cube}
-use Rattle.rk_mail.specs.Talk.{call_said, heard_as}
+use Rattle.rk_mail.specs.Talk.{call_said, hearing_model}
 use Rattle.ce_model.specs.Hearing.{node_after_hearing}
 use Rattle.ce_cube.specs.Exchanges.{HasExchanged}
 use Rattle.ce_machine.specs.Meanings.{IsAnsweredBy}
@@ -52,7 +52,7 @@ returns c box called =
     (λ box. box.node.home) IsClean c.args.said refl c.heard_in-heard.result grown.0 c.node_of.result c.node_of.ensures
     (subst (IsAnsweredBy (λ (box : Box). box.node.home) IsClean m.parts m.history grown.0 (record { family = c.args.grant.now.user; actor = c.node_of.result }) (Say c.args.said)) c.heard_in-heard.ensures grown.2)
     c.act.new.self c.hears.new.self c.in-Ok.ensures.fixed grown.1
-    (c.hears.ensures.node ∙ ap (λ images. node_after_hearing images c.args.node.now.node (heard_as c.heard_in-heard.result)) c.requires.images) c.hears.ensures.room c.hears.ensures.out c.in-Ok.ensures.few)
+    (c.hears.ensures.node ∙ ap (λ images. node_after_hearing images c.args.node.now.node (hearing_model c.heard_in-heard.result)) c.requires.images) c.hears.ensures.room c.hears.ensures.out c.in-Ok.ensures.few)
 
 pub heard_in-heard-requires : goal.heard_in-heard-requires
 heard_in-heard-requires c =

@@ -1,5 +1,5 @@
 use Rattle.std.proofs.Common.{length, ap, ◌∙◌, arith}
-use Rattle.ce_model.specs.Blocks.{put_all}
+use Rattle.ce_model.specs.Blocks.{with_ids}
 use Rattle.ce_model.specs.Node.{blocks_of}
 use Rattle.xm_block.specs.Stores.{ids_of}
 use Rattle.rk_node.specs.Boxes.{Box}
@@ -37,7 +37,7 @@ loop-node-preserved c =
     record {
       boxes = one_changed emptied_box c.args.nodes.now c.loop-node.nodes i within c.loop-node.invariant.boxes d c.scrub.new.self (c.scrub.ensures.after ∙ ap emptied_box same);
       moved = moved-more has c.args.nodes.now i d within (ids_of c.args.store.now.blocks) (ids_of c.loop-node.store.blocks) (ids_of c.scrub.new.out.blocks)
-          c.loop-node.invariant.moved (c.scrub.ensures.moved ∙ ap (λ (box : Box). put_all (blocks_of box.node) (ids_of c.loop-node.store.blocks)) same);
+          c.loop-node.invariant.moved (c.scrub.ensures.moved ∙ ap (λ (box : Box). with_ids (blocks_of box.node) (ids_of c.loop-node.store.blocks)) same);
       spare = omega (
         arith,
         length-more has c.args.nodes.now i d within,

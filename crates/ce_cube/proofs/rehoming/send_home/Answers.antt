@@ -3,7 +3,7 @@ use Rattle.std.specs.List.{Contains}
 use Rattle.std.proofs.lemmas.List.{append-nil}
 use Rattle.ce_model.specs.declared.topology.BlockId.{BlockId}
 use Rattle.ce_model.specs.Limits.{home_blocks, home_blocks_lem}
-use Rattle.ce_model.specs.Blocks.{Block, put, blocks_of_home}
+use Rattle.ce_model.specs.Blocks.{Block, with_id, blocks_of_home}
 use Rattle.ce_model.specs.Space.{mapped_ids}
 use Rattle.ce_model.specs.Node.{Node, blocks_of}
 use Rattle.ce_model.specs.Kernel.{with_store}
@@ -77,11 +77,11 @@ module _ (box now : Box) (store : List BlockId) (i : ℕ) (block : Block) (held 
         ap (λ (one : Box). one.room) filled,
       )
 
-  filled-more : (after : Box) → after ≡ record now { node = with_store (put block.id now.node.store) now.node }
+  filled-more : (after : Box) → after ≡ record now { node = with_store (with_id block.id now.node.store) now.node }
       → after ≡ record box { node = with_store (first_names box.node.home (i + 1)) box.node }
   filled-more after is =
-      is ∙ ap (λ (one : Box). record one { node = with_store (put block.id one.node.store) one.node }) filled
-      ∙ ap (λ store. record box { node = with_store store box.node }) (ap (λ id. put id (first_names box.node.home i)) id-is ∙ put-next box.node.home i)
+      is ∙ ap (λ (one : Box). record one { node = with_store (with_id block.id one.node.store) one.node }) filled
+      ∙ ap (λ store. record box { node = with_store store box.node }) (ap (λ id. with_id id (first_names box.node.home i)) id-is ∙ put-next box.node.home i)
 
 pub put_home-requires-clause-home : goal.put_home-requires-clause-home
 put_home-requires-clause-home c =

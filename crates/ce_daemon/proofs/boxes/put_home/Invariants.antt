@@ -1,4 +1,4 @@
-use Rattle.std.proofs.Common.{◌≡◌, ◌<◌, ℕ, length, slice_index_or}
+use Rattle.std.proofs.Common.{◌≡◌, ℕ, length}
 use Rattle.std.specs.Prelude.{All}
 use Rattle.ce_daemon.specs.Boxes.{HasBox}
 use Rattle.ce_daemon.proofs.boxes.put_home.Given as goal

@@ -1,12 +1,12 @@
-use Rattle.std.proofs.Common.{◌≡◌, ℕ, ◌+◌, ◌*◌, ◌%◌, ◌^◌, ◌<◌, ◌≤◌, ◌≢◌, List, [], ◌∷◌, ◌++◌, Option, None, Some, length, get_or, set, refl, sym, ap, ◌∙◌, subst, arith, get_or-set_other, true, false, inl, inr, length-set, length-append}
+use Rattle.std.proofs.Common.{◌≡◌, ℕ, ◌*◌, ◌%◌, ◌^◌, ◌<◌, ◌≢◌, List, Option, None, Some, length, get_or, set, sym, ap, ◌∙◌, subst, arith, get_or-set_other, true, length-set}
 use Rattle.std.specs.Prelude.{IsSomeAnd}
-use Rattle.std.proofs.lemmas.Bool.{cases_lt, false≢true}
-use Rattle.std.proofs.lemmas.List.{get_or_read, get_or_push, get_or_append_left}
+use Rattle.std.proofs.lemmas.Bool.{false≢true}
+use Rattle.std.proofs.lemmas.List.{get_or_read}
 use Rattle.std.proofs.lemmas.Nat.{one_shl}
 use Rattle.ce_model.specs.Limits.{greatest_dim, greatest_dim_lem}
-use Rattle.ce_model.specs.Subcubes.{node_of, is_inside, IsSubcube, ones_of}
+use Rattle.ce_model.specs.Subcubes.{node_of, is_inside, ones_of}
 use Rattle.ce_model.proofs.Subcubes.{ones_of-bound, same_from_node_of, is_inside-node_of}
-use Rattle.ce_daemon.specs.Boxes.{AreBoxes, HasBox, IsBoxOf}
+use Rattle.ce_daemon.specs.Boxes.{HasBox, IsBoxOf}
 use Rattle.ce_daemon.proofs.Rows.{AreBoxes-push}
 use Rattle.ce_daemon.proofs.boxes.take_out.Goals as goal
 

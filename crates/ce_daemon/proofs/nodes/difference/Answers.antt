@@ -1,9 +1,8 @@
-use Rattle.std.proofs.Common.{◌≡◌, ℕ, ◌-◌, ◌/◌, ◌%◌, ◌^◌, ◌<◌, Bool, true, false, not, ◌&&◌, ◌==◌, refl, sym, ap, ◌∙◌, arith, inl, inr, w64, bit_and}
-use Rattle.std.specs.Int.{bit_at, bit_not}
+use Rattle.std.proofs.Common.{◌≡◌, ℕ, ◌-◌, ◌^◌, ◌<◌, Bool, false, not, ◌&&◌, ◌==◌, refl, ap, ◌∙◌, arith, inl, inr, w64, bit_and}
+use Rattle.std.specs.Int.{bit_at}
 use Rattle.std.proofs.lemmas.Bool.{cases_lt}
 use Rattle.std.proofs.lemmas.Bool.Decides.{nat_tests}
 use Rattle.std.proofs.lemmas.Nat.Bits.{bit_at_not, bit_at-lt}
-use Rattle.std.proofs.lemmas.Nat.{and_le_l}
 use Rattle.ce_set.specs.Words.{has_bit}
 use Rattle.ce_set.proofs.WordBits.{has_bit-and, has_bit-above}
 use Rattle.ce_daemon.proofs.nodes.difference.Goals as goal

@@ -1,9 +1,8 @@
-use Rattle.std.proofs.Common.{◌≡◌, ℕ, ◌+◌, List, arith, sym, ap, ◌∙◌}
+use Rattle.std.proofs.Common.{◌≡◌, ℕ, ◌+◌, List, arith, ap, ◌∙◌}
 use Rattle.std.specs.List.{Contains}
 use Rattle.ce_model.specs.declared.topology.BlockId.{BlockId}
 use Rattle.ce_model.specs.Limits.{host_home, host_home_lem}
 use Rattle.ce_model.specs.Blocks.{blocks_of_home}
-use Rattle.xm_block.specs.Stores.{ids_of}
 use Rattle.xm_block.proofs.HomeBlocks.{of_home}
 use Rattle.ce_host.proofs.tests.a_received_block_is_sent_next.Goals as goal
 

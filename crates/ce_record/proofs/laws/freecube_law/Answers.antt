@@ -1,5 +1,5 @@
-use Rattle.ce_record.proofs.AtOnce.{freecube}
+use Rattle.ce_record.proofs.AtOnce.{freecube_next}
 use Rattle.ce_record.proofs.laws.freecube_law.Goals as goal
 
 pub returns : goal.returns
-returns c = record { law = freecube }
+returns c = record { law = freecube_next }

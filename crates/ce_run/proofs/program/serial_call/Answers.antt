@@ -3,7 +3,7 @@ use Rattle.std.specs.String.{string_bytes}
 use Rattle.ce_io.specs.Whole.{reading, writing}
 use Rattle.ce_words.specs.Line.{asked_line}
 use Rattle.ce_script.specs.Load.{load}
-use Rattle.ce_run.specs.declared.ended.RunEnd.{RunEnd}
+use Rattle.ce_run.specs.declared.run_end.RunEnd.{RunEnd}
 use Rattle.ce_run.specs.Promise.{HasEnded, HasFinished, HasScript}
 use Rattle.ce_run.proofs.Ends.{ends_at_words, ends_of_load, runs_as_promised}
 use Rattle.ce_run.proofs.program.serial_call.Goals as goal
@@ -42,6 +42,6 @@ returns-in-Ok-clause-headline g c =
     let sink = writing g.K.Sink.written g.K.Sink.faults c.args.sink.now c.run_script.new.sink in
     let asked : None ≡ line.load = sym (c.in-Ok-None.ensures.load ∙ c.in-Ok-None.field-0-is) in
     let read = c.in-Ok.ensures.read in
-    runs_as_promised line source sink c.in-Ok.script c.run_script.result c.in-Ok-None.ensures.served.serial
-    (subst (λ load. HasScript load source c.in-Ok.script) asked (read.bytes, read.is_script.1, read.gave, read.is_script.0))
-    (subst (λ load. HasFinished c.in-Ok.script load sink c.run_script.result) asked c.run_script.ensures)
+    runs_as_promised line source sink c.in-Ok.script.script c.run_script.result c.in-Ok-None.ensures.served.serial
+    (subst (λ load. HasScript load source c.in-Ok.script.script) asked (read.bytes, read.is_script.1, read.gave, read.is_script.0))
+    (subst (λ load. HasFinished c.in-Ok.script.script load sink c.run_script.result) asked c.run_script.ensures)

@@ -42,5 +42,7 @@ loop-line-preserved c = c.in_ok-reader.ensures.stands (statements c.args.bytes.n
 pub returns-clause-script : goal.returns-clause-script
 returns-clause-script c = ends_reading c.args.bytes.now c.loop-line.reader.so_far c.loop-line.rest c.in_default.ensures c.loop-line.invariant
 
-pub returns-clause-within : goal.returns-clause-within
-returns-clause-within c = within_limits c.args.bytes.now c.loop-line.reader.so_far.script (returns-clause-script c)
+pub invariant_of-result : goal.invariant_of-result
+invariant_of-result c =
+    let is_script = ends_reading c.args.bytes.now c.loop-line.reader.so_far c.loop-line.rest c.in_default.ensures c.loop-line.invariant in
+    record { within = within_limits c.args.bytes.now c.loop-line.reader.so_far.script is_script }

@@ -1,7 +1,7 @@
 use Rattle.std.proofs.Common.{◌≡◌, ℕ, suc, ◌+◌, ◌-◌, ◌/◌, ◌%◌, ◌^◌, ◌≤◌, Bool, ◌&&◌, ◌==◌, refl, sym, ap, ◌∙◌, arith}
 use Rattle.std.proofs.lemmas.Bool.{and_parts, and_from, eqb-true, eq-eqb}
 use Rattle.ce_model.specs.Limits.{greatest_dim, greatest_dim_lem}
-use Rattle.ce_model.specs.Subcubes.{extract, extracted_bits, deposit, ones_of, is_base, all_nodes, masked_subcube}
+use Rattle.ce_model.specs.Subcubes.{extract, extracted_bits, deposit, ones_of, is_base, are_all_nodes, subcube}
 use Rattle.ce_model.proofs.Subcubes.{all_nodes-at, all_nodes-each}
 use Rattle.ce_set.specs.Words.{has_bit}
 use Rattle.ce_set.proofs.Steps.{low_bit}
@@ -49,20 +49,20 @@ loop-place-preserved c = λ n.
     l.invariant n ∙ none_more greatest_dim p l.place (has_bit c.args.set) c.args.mask n (omega arith) (omega (arith, greatest_dim_lem)) none
 
 -- once all places are done, the bases are those of the subcubes whose nodes all pass
-covers-all : (test : ℕ → Bool) (mask n : ℕ) → covers greatest_dim 0 test mask n ≡ (is_base mask n && all_nodes test (ones_of greatest_dim mask) (masked_subcube mask n))
+covers-all : (test : ℕ → Bool) (mask n : ℕ) → covers greatest_dim 0 test mask n ≡ (is_base mask n && are_all_nodes test (ones_of greatest_dim mask) (subcube mask n))
 unfolding extract deposit
 covers-all test mask n =
     let d = ones_of greatest_dim mask in
     let whole : n / 1 ≡ n = omega arith in
-    same_test (covers greatest_dim 0 test mask n) (is_base mask n && all_nodes test d (masked_subcube mask n))
+    same_test (covers greatest_dim 0 test mask n) (is_base mask n && are_all_nodes test d (subcube mask n))
     (λ covered.
-    and_from (is_base mask n) (all_nodes test d (masked_subcube mask n))
+    and_from (is_base mask n) (are_all_nodes test d (subcube mask n))
     (eq-eqb (extract n mask) 0 (ap (λ k. extracted_bits greatest_dim k mask) (sym whole) ∙ covers-apart greatest_dim 0 test mask n covered))
-    (all_nodes-each test d (masked_subcube mask n) (λ r small. ap test (omega arith) ∙ covers-each greatest_dim 0 test mask n r covered small)))
+    (all_nodes-each test d (subcube mask n) (λ r small. ap test (omega arith) ∙ covers-each greatest_dim 0 test mask n r covered small)))
     (λ both.
-    let parts = and_parts (is_base mask n) (all_nodes test d (masked_subcube mask n)) both in
+    let parts = and_parts (is_base mask n) (are_all_nodes test d (subcube mask n)) both in
     covers-from greatest_dim 0 test mask n (ap (λ k. extracted_bits greatest_dim k mask) whole ∙ eqb-true (extract n mask) 0 parts.0)
-    (λ r small. ap test (omega arith) ∙ all_nodes-at test d (masked_subcube mask n) r parts.1 small))
+    (λ r small. ap test (omega arith) ∙ all_nodes-at test d (subcube mask n) r parts.1 small))
 
 pub returns : goal.returns
 returns c = λ n.

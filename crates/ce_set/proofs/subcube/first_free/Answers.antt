@@ -2,7 +2,7 @@ use Rattle.std.proofs.Common.{◌≡◌, ℕ, suc, ◌+◌, ◌-◌, ◌*◌, �
 use Rattle.std.proofs.lemmas.Bool.{eq-eqb, ne_eqb}
 use Rattle.std.proofs.lemmas.Nat.{one_shl}
 use Rattle.ce_model.specs.Limits.{greatest_dim, greatest_dim_lem}
-use Rattle.ce_model.specs.Subcubes.{first_free, has_node, all_nodes, ones_of, subcubes}
+use Rattle.ce_model.specs.Subcubes.{first_free, has_node, are_all_nodes, ones_of, subcubes}
 use Rattle.ce_set.proofs.Steps.{pow_le}
 use Rattle.ce_set.proofs.Masks.{first_from-other, first_from-none, first_from-found, count_ones-below}
 use Rattle.ce_set.proofs.subcube.first_free.Goals as goal
@@ -32,13 +32,13 @@ returns-in-loop-mask c =
     let ones : ones_of greatest_dim mask ≡ c.args.d = sym (count_ones-below greatest_dim mask in_range.1) ∙ c.if-mask-d.true in
     let found = rw ones at (c.first_with.ensures dim c.requires.nodes_within) in
     sym (c.loop-mask.invariant
-    ∙ first_from-found (all_nodes (has_node c.args.free) c.args.d) c.args.d (2 ^ dim) mask (2 ^ dim - mask) (2 ^ dim - (mask + 1)) c.in-Some.sub (omega (arith, in_range.0)) (eq-eqb _ _ ones) (sym found ∙ c.in-Some.is))
+    ∙ first_from-found (are_all_nodes (has_node c.args.free) c.args.d) c.args.d (2 ^ dim) mask (2 ^ dim - mask) (2 ^ dim - (mask + 1)) c.in-Some.sub (omega (arith, in_range.0)) (eq-eqb _ _ ones) (sym found ∙ c.in-Some.is))
 
 pub loop-mask-preserved : goal.loop-mask-preserved
 loop-mask-preserved c =
     let dim = c.args.dim in
     let mask = c.loop-mask.mask in
-    let test = all_nodes (has_node c.args.free) c.args.d in
+    let test = are_all_nodes (has_node c.args.free) c.args.d in
     let in_range = within dim mask c.requires.dim_within c.loop-mask-test.true in
     let more : 2 ^ dim - mask ≡ suc (2 ^ dim - (mask + 1)) = omega (arith, in_range.0) in
     let count = count_ones-below greatest_dim mask in_range.1 in

@@ -1,11 +1,11 @@
 use Rattle.std.proofs.Common.{◌≡◌, ℕ, drop, length, unwrap_or}
 use Rattle.std.specs.BTreeMap.{get}
 use Rattle.std.specs.Ordering.{nat_cmp}
-use Rattle.ce_trace.specs.Links.{links_of, own_from}
+use Rattle.ce_trace.specs.Links.{links_of, entries_from_own}
 use Rattle.ce_trace.proofs.links.links_of.Given as goal
 
 abbrev pub invariant-loop-at : goal.invariant-loop-at
 invariant-loop-at l = record {
   linked : l.links.items ≡ links_of (drop l.at l.history);
-  nearest : (user : ℕ) → unwrap_or (get nat_cmp l.nearest user) 0 ≡ length (own_from user (drop l.at l.history));
+  nearest : (user : ℕ) → unwrap_or (get nat_cmp l.nearest user) 0 ≡ length (entries_from_own user (drop l.at l.history));
 }

@@ -5,4 +5,4 @@ use Rattle.ce_trace.proofs.replies.push_grants.Given as goal
 
 abbrev pub invariant-loop-grant : goal.invariant-loop-grant
 invariant-loop-grant l =
-    l.text.items ≡ l.fn.text.items ++ flat_map (grant_text l.kept) (take l.grant-index l.grants)
+    l.text.items ≡ l.fn.text.items ++ flat_map (grant_text l.run_record) (take l.grant-index l.grants)

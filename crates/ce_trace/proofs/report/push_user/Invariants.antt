@@ -5,4 +5,4 @@ use Rattle.ce_trace.proofs.report.push_user.Given as goal
 
 abbrev pub invariant-loop-done : goal.invariant-loop-done
 invariant-loop-done l =
-    l.text.items ≡ l.initial.text.items ++ flat_map (done_text l.script l.kept) (take l.done-index l.done-items)
+    l.text.items ≡ l.initial.text.items ++ flat_map (done_text l.script l.run_record) (take l.done-index l.done-items)

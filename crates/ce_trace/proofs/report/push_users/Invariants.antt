@@ -5,4 +5,4 @@ use Rattle.ce_trace.proofs.report.push_users.Given as goal
 
 abbrev pub invariant-loop-user : goal.invariant-loop-user
 invariant-loop-user l =
-    l.text.items ≡ l.fn.text.items ++ flat_map (user_text l.script l.kept) (take l.user-index l.user-items)
+    l.text.items ≡ l.fn.text.items ++ flat_map (user_text l.script l.run_record) (take l.user-index l.user-items)

@@ -1,5 +1,5 @@
 use Rattle.std.proofs.Common.{◌++◌, ap, sym, ◌∙◌, arith, length}
-use Rattle.ce_trace.specs.Sections.{cube_of}
+use Rattle.ce_daemon.specs.Peeks.{cube_grant}
 use Rattle.ce_trace.proofs.Ahead.{ahead-none, ahead-some}
 use Rattle.ce_trace.proofs.Lasts.{behind_linked, length-links_of}
 use Rattle.ce_trace.proofs.sections.push_sections.Goals as goal
@@ -10,26 +10,26 @@ bounds-links-history c = omega (arith, ap length c.requires, length-links_of c.a
 
 pub push_trace-requires-clause-own : goal.push_trace-requires-clause-own
 push_trace-requires-clause-own c =
-    (behind_linked (cube_of c.in-Some.grant) c.args.history.now c.args.links.now c.loop-at.at c.index-history-at.result c.requires (omega arith) c.index-history-at.is (sym c.in-Some.ensures.user)).own
+    (behind_linked (cube_grant c.in-Some.grant) c.args.history.now c.args.links.now c.loop-at.at c.index-history-at.result c.requires (omega arith) c.index-history-at.is (sym c.in-Some.ensures.user)).own
 
 pub loop-at-preserved : goal.loop-at-preserved
 loop-at-preserved c =
     let script = c.args.script.now in
-    let kept = c.args.kept.now in
+    let run_record = c.args.run_record.now in
     let history = c.args.history.now in
     let number = c.loop-at.number in
     let at = c.loop-at.at in
     let entry = c.index-history-at.result in
     elim c.match-grant_by.branch [
       | in-Some+in_ok-push_head+in_ok-push_trace w ↦
-          let own = behind_linked (cube_of w.in-Some.grant) history c.args.links.now at entry c.requires (omega arith) c.index-history-at.is (sym w.in-Some.ensures.user) in
+          let own = behind_linked (cube_grant w.in-Some.grant) history c.args.links.now at entry c.requires (omega arith) c.index-history-at.is (sym w.in-Some.ensures.user) in
           record {
             counted = omega arith;
-            sections = rw (w.text-is, w.number-is) (ahead-some script kept number history at entry w.in-Some.grant _ _ _ _ _ (omega arith) c.index-history-at.is w.in-Some.ensures.cube own c.loop-at.invariant.sections w.in_ok-push_head.ensures w.in_ok-push_trace.ensures);
+            sections = rw (w.text-is, w.number-is) (ahead-some script run_record number history at entry w.in-Some.grant _ _ _ _ _ (omega arith) c.index-history-at.is w.in-Some.ensures.cube own c.loop-at.invariant.sections w.in_ok-push_head.ensures w.in_ok-push_trace.ensures);
           }
       | in_default w ↦
           record {
             counted = omega arith;
-            sections = rw (w.text-is, w.number-is) (ap (λ later. c.loop-at.text.items ++ later) (sym (ahead-none script kept number history at entry (omega arith) c.index-history-at.is (sym w.in_default.is ∙ c.grant_by.ensures.cube))) ∙ c.loop-at.invariant.sections);
+            sections = rw (w.text-is, w.number-is) (ap (λ later. c.loop-at.text.items ++ later) (sym (ahead-none script run_record number history at entry (omega arith) c.index-history-at.is (sym w.in_default.is ∙ c.grant_by.ensures.cube))) ∙ c.loop-at.invariant.sections);
           }
     ]

@@ -5,7 +5,7 @@ use Rattle.ce_model.specs.Renaming.{entry_inward}
 use Rattle.ce_model.specs.Views.{trace_behind}
 use Rattle.ce_script.specs.EntryText.{entry_line}
 use Rattle.ce_trace.specs.Links.{last_of}
-use Rattle.ce_trace.specs.Sections.{cube_of}
+use Rattle.ce_daemon.specs.Peeks.{cube_grant}
 use Rattle.ce_trace.proofs.Lasts.{length-links_of, turn_at}
 use Rattle.ce_trace.proofs.Traces.{trace-call, trace-drain, trace-pass, gathered-line}
 use Rattle.ce_trace.proofs.sections.push_trace.Goals as goal
@@ -16,12 +16,12 @@ bounds-links-left c = omega (arith, ap length c.requires.linked, length-links_of
 
 pub loop-left-smaller : goal.loop-left-smaller
 loop-left-smaller c =
-    let t = turn_at (cube_of c.args.grant.now) c.args.history.now c.args.links.now c.loop-left.left c.index-history-history.result c.requires.linked c.loop-left.invariant.own (omega arith) c.index-history-history.is in
+    let t = turn_at (cube_grant c.args.grant.now) c.args.history.now c.args.links.now c.loop-left.left c.index-history-history.result c.requires.linked c.loop-left.invariant.own (omega arith) c.index-history-history.is in
     omega (arith, t.on.fewer)
 
 pub loop-left-preserved : goal.loop-left-preserved
 loop-left-preserved c =
-    let cube = cube_of c.args.grant.now in
+    let cube = cube_grant c.args.grant.now in
     let history = c.args.history.now in
     let left = c.loop-left.left in
     let entry = c.index-history-history.result in
@@ -43,7 +43,7 @@ loop-left-preserved c =
 
 pub returns-then-is_drain : goal.returns-then-is_drain
 returns-then-is_drain c =
-    let cube = cube_of c.args.grant.now in
+    let cube = cube_grant c.args.grant.now in
     let history = c.args.history.now in
     let left = c.loop-left.left in
     let entry = c.index-history-history.result in

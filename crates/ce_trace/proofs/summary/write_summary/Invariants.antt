@@ -6,4 +6,4 @@ use Rattle.ce_trace.proofs.summary.write_summary.Given as goal
 
 abbrev pub invariant-loop-user : goal.invariant-loop-user
 invariant-loop-user l =
-    l.text.items ≡ l.initial.text.items ++ flat_map (λ user. line (user.name ∷ received_text l.kept user ∷ [])) (take l.user-index l.user-items)
+    l.text.items ≡ l.initial.text.items ++ flat_map (λ user. line (user.name ∷ received_text l.run_record user ∷ [])) (take l.user-index l.user-items)

@@ -1,13 +1,13 @@
 use Rattle.std.proofs.Common.{◌≡◌, [], ◌∷◌, ◌++◌, refl, sym, ◌∙◌, arith}
 use Rattle.ce_model.specs.Renaming.{entry_inward}
-use Rattle.ce_trace.specs.Sections.{cube_of}
+use Rattle.ce_daemon.specs.Peeks.{cube_grant}
 use Rattle.ce_trace.proofs.Traces.{at_call, at_pass, at_other, gathered-call}
 use Rattle.ce_trace.proofs.views.trace_behind.Goals as goal
 use Rattle.ce_trace.proofs.views.trace_behind.Goals.{then-entry-grant+else-is_drain+then-is_call+in_ok-entry_inward+in_ok-push, then-entry-grant+else-is_drain+else-is_call, else-entry-grant}
 
 pub loop-entry-preserved : goal.loop-entry-preserved
 loop-entry-preserved c =
-    let cube = cube_of c.args.grant.now in
+    let cube = cube_grant c.args.grant.now in
     let behind = c.args.behind.now in
     let i = c.loop-entry.entry-index in
     let entry = c.entry-item.result in

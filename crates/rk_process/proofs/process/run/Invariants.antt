@@ -2,13 +2,13 @@ use Rattle.std.proofs.Common.{◌≡◌}
 use Rattle.ce_model.specs.declared.process.Status.{Status}
 use Rattle.ce_model.specs.Process.{turn_end}
 use Rattle.rk_process.specs.Runs.{process_of_parts}
-use Rattle.rk_process.specs.Memories.{memory_seen, memory_rest}
+use Rattle.rk_process.specs.Memories.{memory_space, memory_rest}
 use Rattle.rk_process.proofs.process.run.Given as goal
 
 abbrev pub invariant-loop-remaining : goal.invariant-loop-remaining
 invariant-loop-remaining l = record {
-  same : (status : Status) → turn_end l.fn.left (process_of_parts status l.fn.registers.x l.fn.pc (memory_seen l.fn.memory))
-      ≡ turn_end l.remaining (process_of_parts status l.registers.x l.at (memory_seen l.memory));
+  same : (status : Status) → turn_end l.fn.left (process_of_parts status l.fn.registers.x l.fn.pc (memory_space l.fn.memory))
+      ≡ turn_end l.remaining (process_of_parts status l.registers.x l.at (memory_space l.memory));
   rest : memory_rest l.memory ≡ memory_rest l.fn.memory;
 }
 

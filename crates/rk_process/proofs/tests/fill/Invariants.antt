@@ -1,4 +1,4 @@
-use Rattle.std.proofs.Common.{◌≡◌, ◌≢◌, ℕ, ◌+◌, ◌≤◌, All}
+use Rattle.std.proofs.Common.{◌≢◌, ℕ, ◌+◌, ◌≤◌, All}
 use Rattle.ce_model.specs.declared.topology.BlockId.{BlockId}
 use Rattle.xm_block.specs.Stores.{ids_of}
 use Rattle.rk_process.proofs.tests.fill.Given as goal

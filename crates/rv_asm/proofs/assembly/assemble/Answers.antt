@@ -1,6 +1,6 @@
 use Rattle.std.proofs.Common.{◌≡◌, length, sym, ap, subst, ◌∙◌, arith, rules}
 use Rattle.rv_model.specs.Image.{ImageParts}
-use Rattle.rv_asm.specs.LaidOut.{laid_out}
+use Rattle.rv_asm.specs.LaidOut.{layout_view}
 use Rattle.rv_asm.specs.Spelling.{IsSpellingOf}
 use Rattle.rv_asm.specs.Assembly.{entry_of, Assembly}
 use Rattle.rv_asm.proofs.Assembling.{fails_first, fails_second, described, has_no_entry, entry_there, entry_missing}
@@ -13,17 +13,15 @@ returns-in_err-layout c =
 
 pub returns-in_err-bytes : goal.returns-in_err-bytes
 returns-in_err-bytes c =
-    let known = fails_second c.args.text.now (laid_out c.in_ok-layout.layout) c.in_err-bytes.field-0.0 c.in_ok-layout.ensures c.in_err-bytes.ensures.parts in
+    let known = fails_second c.args.text.now (layout_view c.in_ok-layout.layout) c.in_err-bytes.field-0.0 c.in_ok-layout.ensures c.in_err-bytes.ensures.parts in
     search rules
 
 pub returns-in-Ok : goal.returns-in-Ok
 returns-in-Ok c =
-    let laid = laid_out c.in_ok-layout.layout in
-    let items = c.in_ok-bytes.bytes.items in
+    let laid = layout_view c.in_ok-layout.layout in
     let parts = c.in_ok-bytes.ensures.parts.0 in
-    let len : length items ≡ laid.size = omega (arith, c.in_ok-bytes.bytes.ok.0, c.in_ok-bytes.ensures.size) in
-    let fault = rw c.entry_of.ensures at c.in-Ok.ensures.fault in
-    let begins = entry_there (entry_of laid.names) laid.size items len c.in_ok-layout.layout.fits fault in
+    let len : length c.in_ok-bytes.bytes.items ≡ laid.size = omega (arith, c.in_ok-bytes.bytes.ok.0, c.in_ok-bytes.ensures.size) in
+    let begins = entry_there laid c.in_ok-bytes.bytes.items _ c.entry_of.ensures len c.in_ok-layout.layout.fits c.in-Ok.ensures.fault in
     let assembly : Assembly = record { entry = entry_of laid.names; parts = parts } in
     let same = c.in-Ok.ensures.same in (
       assembly,
@@ -37,10 +35,7 @@ returns-in-Ok c =
 
 pub returns : goal.returns
 returns c =
-    let laid = laid_out c.in_ok-layout.layout in
-    let items = c.in_ok-bytes.bytes.items in
-    let parts = c.in_ok-bytes.ensures.parts.0 in
-    let len : length items ≡ laid.size = omega (arith, c.in_ok-bytes.bytes.ok.0, c.in_ok-bytes.ensures.size) in
-    let fault = rw c.entry_of.ensures at c.in-Err.ensures.fault in
-    let missing = entry_missing (entry_of laid.names) laid.size items c.in-Err.field-0 len c.in_ok-layout.layout.fits fault in
-    has_no_entry c.args.text.now laid parts c.in_ok-layout.ensures c.in_ok-bytes.ensures.parts.1 missing
+    let laid = layout_view c.in_ok-layout.layout in
+    let len : length c.in_ok-bytes.bytes.items ≡ laid.size = omega (arith, c.in_ok-bytes.bytes.ok.0, c.in_ok-bytes.ensures.size) in
+    let missing = entry_missing laid c.in_ok-bytes.bytes.items _ c.in-Err.field-0 c.entry_of.ensures len c.in_ok-layout.layout.fits c.in-Err.ensures.fault in
+    has_no_entry c.args.text.now laid c.in_ok-bytes.ensures.parts.0 c.in_ok-layout.ensures c.in_ok-bytes.ensures.parts.1 missing

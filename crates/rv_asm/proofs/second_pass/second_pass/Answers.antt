@@ -1,11 +1,11 @@
 use Rattle.std.proofs.Common.{◌≡◌, ℕ, ◌+◌, vec_len, Ok, sym, subst, arith, length, drop}
 use Rattle.std.proofs.lemmas.Grind.{common_steps}
-use Rattle.rv_model.specs.Image.{image_start}
+use Rattle.rv_model.specs.declared.limits.TheConstants.{PRIVATE_START}
 use Rattle.rv_asm.specs.declared.statement.PlacedStatement.{PlacedStatement}
 use Rattle.ce_text.specs.Names.{meanings_of}
 use Rattle.rv_asm.specs.Sizes.{size_of}
 use Rattle.rv_asm.specs.Faults.{◌>>=◌, IsHaltOf}
-use Rattle.rv_asm.specs.FirstPass.{at_line}
+use Rattle.rv_asm.specs.FirstPass.{judgment_at_line}
 use Rattle.rv_asm.specs.SecondPass.{parts_of, second_pass}
 use Rattle.rv_asm.proofs.Stopping.{stops_all}
 use Rattle.rv_asm.proofs.Putting.{put_none, put_step, put_more, put_all, onward, sound_at}
@@ -33,14 +33,14 @@ returns-in-Err-clause-parts c =
     let before = c.loop-placed.invariant.put in
     let item = rw c.deref-placed-items.ensures.value at c.placed-item.is in
     let len : length out ≡ vec_len c.loop-placed.out = omega (arith, c.loop-placed.out.ok.0) in
-    let stopped = subst (λ (n : ℕ). IsHaltOf c.in-Err.halt (parts_of names (image_start + n) d.statement)) (sym len) c.in-Err.ensures.parts in
+    let stopped = subst (λ (n : ℕ). IsHaltOf c.in-Err.halt (parts_of names (PRIVATE_START + n) d.statement)) (sym len) c.in-Err.ensures.parts in
     let step = put_step names all i d out (omega arith) before in
     let step_here = subst
-    (λ (p : PlacedStatement). second_pass names image_start all ≡ (at_line p.line (parts_of names (image_start + length out) p.statement) >>= onward names (image_start + length out + size_of p.statement) (drop (i + 1) all) before.parts))
+    (λ (p : PlacedStatement). second_pass names PRIVATE_START all ≡ (judgment_at_line p.line (parts_of names (PRIVATE_START + length out) p.statement) >>= onward names (PRIVATE_START + length out + size_of p.statement) (drop (i + 1) all) before.parts))
     (sym item) step in
     rw c.at.ensures
-    (stops_all c.in-Err.halt d.line (parts_of names (image_start + length out) d.statement) (onward names (image_start + length out + size_of d.statement) (drop (i + 1) all) before.parts)
-    (second_pass names image_start all) step_here stopped)
+    (stops_all c.in-Err.halt d.line (parts_of names (PRIVATE_START + length out) d.statement) (onward names (PRIVATE_START + length out + size_of d.statement) (drop (i + 1) all) before.parts)
+    (second_pass names PRIVATE_START all) step_here stopped)
 
 pub loop-placed-preserved : goal.loop-placed-preserved
 loop-placed-preserved c =
@@ -53,8 +53,8 @@ loop-placed-preserved c =
     let len : length out ≡ vec_len c.loop-placed.out = omega (arith, c.loop-placed.out.ok.0) in
     let new_len : length c.put_statement.new.out.items ≡ vec_len c.put_statement.new.out = omega (arith, c.put_statement.new.out.ok.0) in
     let parts = c.in_default.ensures.parts.0 in
-    let known = subst (λ (n : ℕ). parts_of names (image_start + n) d.statement ≡ Ok parts) (sym len) c.in_default.ensures.parts.1 in
-    let known_here = subst (λ (p : PlacedStatement). parts_of names (image_start + length out) p.statement ≡ Ok parts) item known in
+    let known = subst (λ (n : ℕ). parts_of names (PRIVATE_START + n) d.statement ≡ Ok parts) (sym len) c.in_default.ensures.parts.1 in
+    let known_here = subst (λ (p : PlacedStatement). parts_of names (PRIVATE_START + length out) p.statement ≡ Ok parts) item known in
     let grown : length c.put_statement.new.out.items ≡ length out + size_of d.statement = omega (arith, c.in_default.ensures.size) in
     let grown_here = subst (λ (p : PlacedStatement). length c.put_statement.new.out.items ≡ length out + size_of p.statement) item grown in
     record {

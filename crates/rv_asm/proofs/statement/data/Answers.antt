@@ -1,14 +1,14 @@
 use Rattle.std.proofs.Common.{List, ℕ, Result, refl, ap, ◌∙◌}
 use Rattle.rv_asm.specs.declared.fault.AsmKind.{AsmKind}
 use Rattle.rv_asm.specs.declared.statement.Statement.{Statement}
-use Rattle.rv_asm.specs.Faults.{all_of, with_judged}
+use Rattle.rv_asm.specs.Faults.{judgment_of_list, with_judged}
 use Rattle.ce_text.specs.Names.{meanings_of}
 use Rattle.rv_asm.specs.Views.{datum_value, list_judgment}
 use Rattle.rv_asm.proofs.Gathering.{left, with_rest, with_more}
 use Rattle.rv_asm.proofs.statement.data.Goals as goal
 
 pub loop-rest-init : goal.loop-rest-init
-unfolding all_of
+unfolding judgment_of_list
 loop-rest-init c = record {
   whole = rw c.new-list.ensures.items refl;
   sound = rw c.new-list.ensures.items tt;

@@ -2,7 +2,8 @@ use Rattle.std.proofs.Common.{◌≡◌, List, length, slice_index_or, ap, sym, 
 use Rattle.std.proofs.lemmas.List.{with_items_is}
 use Rattle.ce_model.specs.declared.entry.Entry.{Entry}
 use Rattle.rk_node.specs.Boxes.{Box}
-use Rattle.ce_cube.specs.Crews.{AreBoxesInStep, cube_grant}
+use Rattle.ce_cube.specs.Crews.{AreBoxesInStep}
+use Rattle.ce_daemon.specs.Peeks.{cube_grant}
 use Rattle.ce_cube.specs.Homecoming.{entered_box}
 use Rattle.ce_cube.proofs.Openings.{host-begins, boxes-begin}
 use Rattle.ce_cube.proofs.crew.SerialCrew.new.Goals as goal

@@ -1,9 +1,9 @@
-use Rattle.std.proofs.Common.{◌≡◌, ℕ, ◌^◌, ◌<◌, ◌≤◌, Bool, true, not, ◌||◌, ◌==◌, List, Option, Some, None, length, get_or, refl, sym, ap, ◌∙◌, subst, arith, rules, tests}
-use Rattle.std.specs.Prelude.{find, filter, IsSomeAnd, All}
+use Rattle.std.proofs.Common.{◌≡◌, ℕ, Bool, not, ◌||◌, ◌==◌, List, Option, Some, refl, sym, ap, ◌∙◌, subst, arith, rules, tests}
+use Rattle.std.specs.Prelude.{find, IsSomeAnd, All}
 use Rattle.std.proofs.lemmas.Bool.{eq-eqb}
 use Rattle.std.proofs.lemmas.Fn.{filter_same}
 use Rattle.ce_model.specs.Limits.{greatest_dim}
-use Rattle.ce_model.specs.Subcubes.{has_node, is_inside, node_of, IsSubcube}
+use Rattle.ce_model.specs.Subcubes.{has_node, IsSubcube}
 use Rattle.ce_model.proofs.Subcubes.{find-among, node_of-within}
 use Rattle.ce_set.proofs.WordBits.{word-below}
 use Rattle.ce_daemon.specs.declared.grant.Grant.{Grant}

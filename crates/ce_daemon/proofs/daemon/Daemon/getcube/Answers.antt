@@ -1,10 +1,10 @@
-use Rattle.std.proofs.Common.{◌≡◌, ℕ, ◌+◌, ◌*◌, ◌%◌, ◌^◌, ◌<◌, ◌≤◌, Bool, not, ◌&&◌, List, Option, Some, None, length, refl, sym, ap, ◌∙◌, arith}
+use Rattle.std.proofs.Common.{◌≡◌, ℕ, ◌≤◌, Bool, not, ◌&&◌, Option, Some, sym, ap, ◌∙◌, arith}
 use Rattle.std.proofs.lemmas.Bool.{eq-eqb}
 use Rattle.std.proofs.lemmas.Nat.{one_shl}
 use Rattle.ce_model.specs.declared.topology.NodeSet.{NodeSet}
 use Rattle.ce_model.specs.declared.topology.Subcube.{Subcube}
 use Rattle.ce_model.specs.Limits.{greatest_dim, greatest_dim_lem}
-use Rattle.ce_model.specs.Subcubes.{has_node, is_inside, node_of, first_free, ones_of, IsSubcube}
+use Rattle.ce_model.specs.Subcubes.{has_node, node_of, first_free, IsSubcube}
 use Rattle.ce_model.proofs.Subcubes.{all_nodes-at, first_free-subcube, first_free-all_free, node_of-within, ones_of-bound}
 use Rattle.ce_daemon.proofs.Partition.{first_free-partition}
 use Rattle.ce_daemon.proofs.Sound.{IsSubcube-larger, IsSound-granted}

@@ -1,49 +1,22 @@
-use Rattle.std.proofs.Common.{◌≡◌, ◌<◌, List, [], ◌∷◌, ◌++◌, length, map, sym, ap, ◌∙◌, subst, arith}
+use Rattle.std.proofs.Common.{◌≡◌, ◌<◌, List, ◌∷◌, ◌++◌, length, map, sym, ap, ◌∙◌, subst, arith}
 use Rattle.std.proofs.lemmas.List.{nil_from_length}
-use Rattle.ce_lock.specs.Entries.{IsIn}
+use Rattle.std.specs.List.{Contains}
 use Rattle.ce_lock.specs.Telling.{last_of}
 use Rattle.ce_lock.specs.Sitting.{Sitting, who}
+use Rattle.ce_lock.proofs.Members.{in_none}
 use Rattle.ce_lock.proofs.Endings.{table_of, next_closed, one_of}
 use Rattle.ce_lock.proofs.book.Book.join_heads.Goals as goal
 
 pub unreachable-requires : goal.unreachable-requires
 unreachable-requires g c = let e = ap (λ b. b.families) c.self.view_is in let some_families : 0 < c.args.self.now.families = omega (arith, e, c.self.invariant) in
     let empty : length c.args.heads.items ≡ 0 = sym c.args.heads.ok.0 ∙ c.in_default.ensures.cases.0 in
-    subst (λ (l : List (Sitting g.row.O.Denot g.row.O-Entry.Denot)). IsIn 0 (map (λ (s : Sitting g.row.O.Denot g.row.O-Entry.Denot). (who s).family) l)) (nil_from_length c.args.heads.items empty) (c.requires.all 0 some_families)
-
-pub copy_seat-closer-requires-clause-chair : goal.copy_seat-closer-requires-clause-chair
-copy_seat-closer-requires-clause-chair g c = let head = one_of _ _ c.pop.new.self.items c.in-Some.last [] c.args.heads.items (sym c.in-Some.ensures.items) c.requires.each in
-    ap (λ s. s.0) c.into_chair-chair.ensures.chair ∙ (table_of c.args.self.now c.in-Some.last head.of_book ∙ sym (ap (λ b. b.table) c.self.view_is))
-
-pub join_last-requires-clause-chairs : goal.join_last-requires-clause-chairs
-join_last-requires-clause-chairs g c = let head = one_of _ _ c.pop.new.self.items c.in-Some.last [] c.args.heads.items (sym c.in-Some.ensures.items) c.requires.each in
-    let table = ap (λ s. s.0) c.into_chair-chair.ensures.chair ∙ table_of c.args.self.now c.in-Some.last head.of_book in
-    (c.copy_seat-closer.ensures.made.0 ∙ table, c.copy_seat-closer.ensures.chair.0.0 ∙ table)
-
-pub join_last-requires-clause-head : goal.join_last-requires-clause-head
-join_last-requires-clause-head g c = let head = one_of _ _ c.pop.new.self.items c.in-Some.last [] c.args.heads.items (sym c.in-Some.ensures.items) c.requires.each in
-    let view = ap (λ me. me.0) c.copy_seat-closer.ensures.chair.1 ∙ ap (λ s. s.1) c.into_chair-chair.ensures.chair in
-    (ap (λ v. v.right.actor) view ∙ head.host, ap (λ v. v.right.absent_actors) view ∙ head.nobody_out)
-
-pub loop-head-init : goal.loop-head-init
-loop-head-init g c = let head = one_of _ _ c.pop.new.self.items c.in-Some.last [] c.args.heads.items (sym c.in-Some.ensures.items) c.requires.each in
-    let table = ap (λ s. s.0) c.into_chair-chair.ensures.chair ∙ table_of c.args.self.now c.in-Some.last head.of_book in
-    let view = ap (λ me. me.0) c.copy_seat-closer.ensures.chair.1 ∙ ap (λ s. s.1) c.into_chair-chair.ensures.chair in record {
-      chair = c.join_last.ensures.chair.0 ∙ (c.copy_seat-closer.ensures.made.0 ∙ table);
-      place = c.join_last.ensures.copied.0;
-      right = c.join_last.ensures.copied.1;
-      joined_heads = (
-        c.in-Some.last ∷ [],
-        sym c.in-Some.ensures.items,
-        c.join_last.ensures.joined_heads ∙ (λ k. last_of (view k) ∷ ap (λ me. me.0.page.joined_heads) c.copy_seat-closer.ensures.made.1 k),
-      );
-    }
+    in_none 0 (subst (λ (l : List (Sitting g.row.O.Denot g.row.O-Entry.Denot)). Contains (map (λ (s : Sitting g.row.O.Denot g.row.O-Entry.Denot). (who s).family) l) 0) (nil_from_length c.args.heads.items empty) (c.requires.all 0 some_families))
 
 pub join_last-requires-in-Some-pop-clause-chairs : goal.join_last-requires-in-Some-pop-clause-chairs
 join_last-requires-in-Some-pop-clause-chairs g c = let i = c.loop-head.invariant in
     let whole = next_closed c.pop-in-loop-head.new.self.items c.in-Some-pop.head i.joined_heads.0 c.args.heads.items c.loop-head.heads.items i.joined_heads.1 c.in-Some-pop.ensures.items in
     let head = one_of _ _ c.pop-in-loop-head.new.self.items c.in-Some-pop.head i.joined_heads.0 c.args.heads.items whole c.requires.each in
-    (i.chair, ap (λ s. s.0) c.into_chair.ensures.chair ∙ table_of c.args.self.now c.in-Some-pop.head head.of_book)
+    (i.chair, ap (λ s. s.0) c.into_chair-in-Some-pop.ensures.chair ∙ table_of c.args.self.now c.in-Some-pop.head head.of_book)
 
 pub join_last-requires-in-Some-pop-clause-copied : goal.join_last-requires-in-Some-pop-clause-copied
 join_last-requires-in-Some-pop-clause-copied g c = (c.loop-head.invariant.place, c.loop-head.invariant.right)
@@ -52,7 +25,7 @@ pub join_last-requires-in-Some-pop-clause-head : goal.join_last-requires-in-Some
 join_last-requires-in-Some-pop-clause-head g c = let i = c.loop-head.invariant in
     let whole = next_closed c.pop-in-loop-head.new.self.items c.in-Some-pop.head i.joined_heads.0 c.args.heads.items c.loop-head.heads.items i.joined_heads.1 c.in-Some-pop.ensures.items in
     let head = one_of _ _ c.pop-in-loop-head.new.self.items c.in-Some-pop.head i.joined_heads.0 c.args.heads.items whole c.requires.each in
-    (ap (λ s. s.1.right.actor) c.into_chair.ensures.chair ∙ head.host, ap (λ s. s.1.right.absent_actors) c.into_chair.ensures.chair ∙ head.nobody_out)
+    (ap (λ s. s.1.right.actor) c.into_chair-in-Some-pop.ensures.chair ∙ head.host, ap (λ s. s.1.right.absent_actors) c.into_chair-in-Some-pop.ensures.chair ∙ head.nobody_out)
 
 pub loop-head-preserved : goal.loop-head-preserved
 loop-head-preserved g c = let i = c.loop-head.invariant in let j = c.join_last-in-Some-pop.ensures in record {
@@ -62,7 +35,7 @@ loop-head-preserved g c = let i = c.loop-head.invariant in let j = c.join_last-i
   joined_heads = (
     c.in-Some-pop.head ∷ i.joined_heads.0,
     next_closed c.pop-in-loop-head.new.self.items c.in-Some-pop.head i.joined_heads.0 c.args.heads.items c.loop-head.heads.items i.joined_heads.1 c.in-Some-pop.ensures.items,
-    j.joined_heads ∙ (λ k. last_of (ap (λ s. s.1) c.into_chair.ensures.chair k) ∷ i.joined_heads.2 k),
+    j.joined_heads ∙ (λ k. last_of (ap (λ s. s.1) c.into_chair-in-Some-pop.ensures.chair k) ∷ i.joined_heads.2 k),
   );
 }
 

@@ -2,7 +2,7 @@ use Rattle.std.proofs.Common.{◌≡◌, ℕ, ◌+◌, ◌-◌, List, [], length
 use Rattle.std.proofs.lemmas.List.{length_push}
 use Rattle.ce_lock.specs.Meanings.{meanings}
 use Rattle.ce_lock.specs.Sitting.{Sitting, IsNewHead}
-use Rattle.ce_lock.specs.Telling.{view_after_making, next_head, fresh_head}
+use Rattle.ce_lock.specs.Telling.{fresh_head}
 use Rattle.ce_lock.proofs.Endings.{new_head, heads_grow}
 use Rattle.ce_lock.proofs.book.Book.seat_heads.Goals as goal
 
@@ -16,9 +16,6 @@ loop-family-init g c = record {
   heads = λ k d low. absurd (omega arith);
 }
 
-pub next_seat-next-requires-clause-chair : goal.next_seat-next-requires-clause-chair
-next_seat-next-requires-clause-chair g c = c.loop-family.invariant.chair ∙ sym (ap (λ b. b.table) c.self.view_is)
-
 pub next_seat-next-requires-clause-live : goal.next_seat-next-requires-clause-live
 next_seat-next-requires-clause-live g c = ap (λ me. me.0.right.is_spent) c.loop-family.invariant.view
 
@@ -29,25 +26,8 @@ pub next_seat-next-requires-clause-room : goal.next_seat-next-requires-clause-ro
 next_seat-next-requires-clause-room g c = let e = ap (λ me. me.0.right.heads) c.loop-family.invariant.view in let f = ap (λ b. b.families) c.self.view_is in
     omega (arith, e, f, c.requires.families.1, c.loop-family-test.true)
 
-pub of_head-requires : goal.of_head-requires
-of_head-requires g c = (c.args.self.now.opening, 0, c.next_seat-next.ensures.chair.1 ∙ ap (λ me. (view_after_making me.0, me.1)) c.loop-family.invariant.view)
-
 pub push_reserved-requires : goal.push_reserved-requires
 push_reserved-requires g c = let i = c.loop-family.invariant in omega (arith, i.len, i.room, c.loop-family-test.true)
-
-pub loop-family-preserved : goal.loop-family-preserved
-loop-family-preserved g c = let i = c.loop-family.invariant in let K = g.O.Kept in record {
-  chair = c.next_seat-next.ensures.made.0 ∙ i.chair;
-  view = c.next_seat-next.ensures.made.1 ∙ ap (λ me. (next_head me.0, [])) i.view;
-  count = ap length c.push_reserved.ensures.items ∙ (length_push c.loop-family.heads.items c.of_head.result ∙ ap (λ (n : ℕ). n + 1) i.count);
-  len = c.push_reserved.ensures.len ∙ ap (λ (n : ℕ). n + 1) i.len;
-  room = omega (arith, i.room, c.push_reserved.ensures.capacity);
-  heads = λ k d low. subst (λ (l : List (Sitting g.row.O.Denot g.row.O-Entry.Denot)). IsNewHead (meanings K.fixed K.history K.lawful K.whose K.alone_entry) c.args.self.now k (get_or l k d)) (sym c.push_reserved.ensures.items)
-      (heads_grow (meanings K.fixed K.history K.lawful K.whose K.alone_entry) c.args.self.now c.loop-family.heads.items c.loop-family.family c.of_head.result i.count i.heads
-      (subst (IsNewHead (meanings K.fixed K.history K.lawful K.whose K.alone_entry) c.args.self.now c.loop-family.family) (sym c.of_head.ensures)
-      (new_head (meanings K.fixed K.history K.lawful K.whose K.alone_entry) c.args.self.now c.loop-family.family 0 c.next_seat-next.new.chair.table_id c.next_seat-next.new.chair.me.0 (c.next_seat-next.ensures.chair.0.0 ∙ i.chair)
-      (ap (λ me. me.0) c.next_seat-next.ensures.chair.1 ∙ ap (λ me. view_after_making me.0) i.view))) k d low);
-}
 
 pub of_head-requires-2 : goal.of_head-requires-2
 of_head-requires-2 g c = let i = c.loop-family.invariant in let last : c.loop-family.family ≡ c.args.families - 1 = omega (arith, c.loop-family-test.false, c.loop-family.auto.family-end) in

@@ -1,5 +1,5 @@
-use Rattle.ce_machine.proofs.Steps.{begun, history-is, fits-inside, answered-outside}
-use Rattle.ce_machine.proofs.HeadSteps.{armed}
+use Rattle.ce_machine.proofs.Entries.{begun, history-is, fits-inside, answered-outside}
+use Rattle.ce_machine.proofs.HeadEntries.{armed}
 use Rattle.ce_machine.proofs.machine.Machine.arm.Goals as goal
 
 pub invariant_of-self-2 : goal.invariant_of-self-2

@@ -5,8 +5,8 @@ use Rattle.ce_machine.specs.declared.call.Reply.TheVariants.{Drained}
 use Rattle.ce_machine.specs.Tables.{desk_at}
 use Rattle.ce_machine.proofs.Callers.{caller-grant, caller-desks}
 use Rattle.ce_machine.proofs.Loops.{few-blocks}
-use Rattle.ce_machine.proofs.Steps.{begun, history-is, fits-inside, answered-outside, blocks-joined}
-use Rattle.ce_machine.proofs.HeadSteps.{draining, drained}
+use Rattle.ce_machine.proofs.Entries.{begun, history-is, fits-inside, answered-outside, blocks-joined}
+use Rattle.ce_machine.proofs.HeadEntries.{draining, drained}
 use Rattle.ce_machine.proofs.machine.Machine.drain.Goals as goal
 
 pub grant_of-grant-requires : goal.grant_of-grant-requires

@@ -1,5 +1,5 @@
-use Rattle.ce_machine.proofs.Steps.{begun, history-is, fits-inside, answered-outside}
-use Rattle.ce_machine.proofs.HeadSteps.{free-has, free-boxes, free-desks, free-nodes, free-mail, freed}
+use Rattle.ce_machine.proofs.Entries.{begun, history-is, fits-inside, answered-outside}
+use Rattle.ce_machine.proofs.HeadEntries.{free-has, free-boxes, free-desks, free-nodes, free-mail, freed}
 use Rattle.ce_machine.proofs.machine.Machine.freecube.Goals as goal
 
 pub grant_of-grant-requires : goal.grant_of-grant-requires

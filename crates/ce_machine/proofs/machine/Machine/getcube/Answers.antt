@@ -1,5 +1,5 @@
-use Rattle.ce_machine.proofs.Steps.{begun, history-is, fits-inside, answered-outside}
-use Rattle.ce_machine.proofs.HeadSteps.{granted, none_granted, getcube_free}
+use Rattle.ce_machine.proofs.Entries.{begun, history-is, fits-inside, answered-outside}
+use Rattle.ce_machine.proofs.HeadEntries.{granted, none_granted, getcube_free}
 use Rattle.ce_machine.proofs.machine.Machine.getcube.Goals as goal
 
 pub getcube-requires : goal.getcube-requires

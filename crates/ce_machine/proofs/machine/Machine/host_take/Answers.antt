@@ -1,7 +1,7 @@
 use Rattle.std.proofs.Common.{ap, ◌∙◌, ◌∷◌}
 use Rattle.rk_mail.specs.Items.{item_of}
-use Rattle.ce_machine.proofs.Steps.{begun, history-is, fits-inside, answered-outside}
-use Rattle.ce_machine.proofs.HeadSteps.{mail_taken, no_mail, no_start, no_kill}
+use Rattle.ce_machine.proofs.Entries.{begun, history-is, fits-inside, answered-outside}
+use Rattle.ce_machine.proofs.HeadEntries.{mail_taken, no_mail, no_start, no_kill}
 use Rattle.ce_machine.proofs.machine.Machine.host_take.Goals as goal
 
 pub invariant_of-self-in-Some-Mail : goal.invariant_of-self-in-Some-Mail

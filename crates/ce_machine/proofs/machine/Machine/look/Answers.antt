@@ -1,8 +1,8 @@
 use Rattle.std.proofs.Common.{ap₂, ◌∙◌}
-use Rattle.ce_model.specs.Answers.{found_where}
+use Rattle.ce_model.specs.Answers.{look_result_where}
 use Rattle.ce_machine.proofs.Callers.{caller-grant, caller-desks}
-use Rattle.ce_machine.proofs.Steps.{begun, history-is, fits-inside, answered-outside}
-use Rattle.ce_machine.proofs.HeadSteps.{looking, looked}
+use Rattle.ce_machine.proofs.Entries.{begun, history-is, fits-inside, answered-outside}
+use Rattle.ce_machine.proofs.HeadEntries.{looking, looked}
 use Rattle.ce_machine.proofs.machine.Machine.look.Goals as goal
 
 pub grant_of-grant-requires : goal.grant_of-grant-requires
@@ -14,10 +14,10 @@ is_quiet-requires g c = let m = begun c.self.invariant c.in_ok-make_room.ensures
 pub invariant_of-self-2 : goal.invariant_of-self-2
 invariant_of-self-2 g c =
     (looked (begun c.self.invariant c.in_ok-make_room.ensures.few) _ (fits-inside c.self.view_is c.requires) c.grant_of-grant.ensures c.index-host.ensures
-    (c.found_where-found.ensures ∙ ap₂ found_where c.is_quiet.ensures c.is_used_up.ensures.value) c.found_reply-reply.ensures (history-is _ c.add_entry.ensures c.make_room.ensures.same)).sound
+    (c.look_result_where-found.ensures ∙ ap₂ look_result_where c.is_quiet.ensures c.is_used_up.ensures.value) c.found_reply-reply.ensures (history-is _ c.add_entry.ensures c.make_room.ensures.same)).sound
 
 pub returns-clause-answered : goal.returns-clause-answered
 returns-clause-answered g c =
     answered-outside c.self.view_is
     (looked (begun c.self.invariant c.in_ok-make_room.ensures.few) _ (fits-inside c.self.view_is c.requires) c.grant_of-grant.ensures c.index-host.ensures
-    (c.found_where-found.ensures ∙ ap₂ found_where c.is_quiet.ensures c.is_used_up.ensures.value) c.found_reply-reply.ensures (history-is _ c.add_entry.ensures c.make_room.ensures.same)).answered
+    (c.look_result_where-found.ensures ∙ ap₂ look_result_where c.is_quiet.ensures c.is_used_up.ensures.value) c.found_reply-reply.ensures (history-is _ c.add_entry.ensures c.make_room.ensures.same)).answered

@@ -1,6 +1,6 @@
 use Rattle.ce_machine.proofs.Callers.{caller-known}
-use Rattle.ce_machine.proofs.Steps.{begun, history-is, fits-inside, answered-outside, few-desks}
-use Rattle.ce_machine.proofs.SaySteps.{noting, noted}
+use Rattle.ce_machine.proofs.Entries.{begun, history-is, fits-inside, answered-outside, few-desks}
+use Rattle.ce_machine.proofs.SayEntries.{noting, noted}
 use Rattle.ce_machine.proofs.machine.Machine.note.Goals as goal
 
 pub mark_busy-requires-clause-actor : goal.mark_busy-requires-clause-actor

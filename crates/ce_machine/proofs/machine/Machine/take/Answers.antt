@@ -1,6 +1,6 @@
 use Rattle.std.proofs.Common.{◌<◌, length, arith}
-use Rattle.ce_machine.proofs.Steps.{begun, history-is, fits-inside, answered-outside}
-use Rattle.ce_machine.proofs.SaySteps.{took-by, taker-below, work-left}
+use Rattle.ce_machine.proofs.Entries.{begun, history-is, fits-inside, answered-outside}
+use Rattle.ce_machine.proofs.SayEntries.{took-by, taker-below, work-left}
 use Rattle.ce_machine.proofs.machine.Machine.take.Goals as goal
 
 pub index_mut-desk-requires : goal.index_mut-desk-requires

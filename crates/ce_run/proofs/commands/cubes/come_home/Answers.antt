@@ -1,6 +1,7 @@
 use Rattle.std.proofs.Common.{sym, subst, ◌∙◌}
 use Rattle.std.proofs.lemmas.List.{take_at}
-use Rattle.ce_cube.specs.Crews.{AreAllHome, HasAllBlocks, cube_grant}
+use Rattle.ce_cube.specs.Crews.{AreAllHome, HasAllBlocks}
+use Rattle.ce_daemon.specs.Peeks.{cube_grant}
 use Rattle.ce_run.proofs.commands.cubes.come_home.Goals as goal
 
 pub rehome-requires : goal.rehome-requires

@@ -1,4 +1,4 @@
-use Rattle.ce_run.proofs.Seating.{may-allow}
+use Rattle.ce_run.proofs.StatesBehind.{may-allow}
 use Rattle.ce_run.proofs.Looking.{allowed}
 use Rattle.ce_run.proofs.commands.running.allow.Goals as goal
 

@@ -1,5 +1,5 @@
 use Rattle.ce_model.specs.declared.entry.LookResult.TheVariants as look_result
-use Rattle.ce_run.proofs.Seating.{may-look}
+use Rattle.ce_run.proofs.StatesBehind.{may-look}
 use Rattle.ce_run.proofs.Looking.{looked, look-ends}
 use Rattle.ce_run.proofs.commands.running.look.Goals as goal
 

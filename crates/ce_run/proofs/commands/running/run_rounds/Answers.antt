@@ -5,15 +5,15 @@ use Rattle.ce_run.proofs.Going.{images-stay, no-round, one-round-more, rounds-ov
 use Rattle.ce_run.proofs.commands.running.run_rounds.Goals as goal
 
 pub rounds-init : goal.rounds-init
-rounds-init c = no-round c.args.machine.now c.args.crew.now c.requires.crew.user.book c.requires.crew.in_step
+rounds-init c = no-round c.args.machine.now c.args.crew.now c.requires.crew_is.user.book c.requires.crew_is.in_step
 
 pub round_serial-requires-clause-machine : goal.round_serial-requires-clause-machine
 round_serial-requires-clause-machine c =
-    still-sound c.args.machine.now c.rounds.machine c.args.crew.now c.rounds.crew _ c.requires.crew.user.book c.rounds.invariant.goes_on
+    still-sound c.args.machine.now c.rounds.machine c.args.crew.now c.rounds.crew _ c.requires.crew_is.user.book c.rounds.invariant.goes_on
 
 pub round_serial-requires-clause-images : goal.round_serial-requires-clause-images
 round_serial-requires-clause-images c =
-    images-stay c.args.machine.now c.rounds.machine c.args.crew.now c.rounds.crew _ c.args.images.now c.rounds.invariant.goes_on c.requires.images
+    images-stay c.args.machine.now c.rounds.machine c.args.crew.now c.rounds.crew _ c.args.images.now c.rounds.invariant.goes_on c.requires.images_are
 
 pub rounds-preserved : goal.rounds-preserved
 rounds-preserved c =

@@ -1,4 +1,4 @@
-use Rattle.ce_run.proofs.Seating.{may-take}
+use Rattle.ce_run.proofs.StatesBehind.{may-take}
 use Rattle.ce_run.proofs.Looking.{no-message, take-ends, accept-room, accept-apart, message-taken}
 use Rattle.ce_run.proofs.commands.running.take_message.Goals as goal
 

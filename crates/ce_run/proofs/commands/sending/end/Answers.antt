@@ -1,9 +1,9 @@
 use Rattle.std.proofs.Common.{refl, sym, ◌∙◌}
 use Rattle.ce_model.specs.Node.{kill_call}
 use Rattle.ce_host.specs.declared.command.Command.TheVariants.{Kill}
-use Rattle.ce_run.specs.declared.seat.Seat.TheVariants.{Holding}
-use Rattle.ce_run.specs.Seats.{HasDone, HasTold}
-use Rattle.ce_run.proofs.Seating.{if-ok, no-place-done, may-end}
+use Rattle.ce_run.specs.declared.user_state.UserState.TheVariants.{Holding}
+use Rattle.ce_run.specs.UserStates.{HasDone, HasTold}
+use Rattle.ce_run.proofs.StatesBehind.{if-ok, no-place-done, may-end}
 use Rattle.ce_run.proofs.commands.sending.end.Goals as goal
 
 pub tell-requires-clause-call : goal.tell-requires-clause-call

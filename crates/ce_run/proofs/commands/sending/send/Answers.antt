@@ -2,7 +2,7 @@ use Rattle.std.proofs.Common.{refl, ap, sym, ◌∙◌, []}
 use Rattle.ce_host.specs.Hosts.{message_to}
 use Rattle.ce_host.specs.declared.command.Command.TheVariants.{Send}
 use Rattle.rk_mail.specs.declared.talk.Hearing.TheVariants.{Posted}
-use Rattle.ce_run.proofs.Seating.{no-place-done}
+use Rattle.ce_run.proofs.StatesBehind.{no-place-done}
 use Rattle.ce_run.proofs.Sent.{none-left, nothing-done, may-send, heard-posted, send-reply, sent-done}
 use Rattle.ce_run.proofs.commands.sending.send.Goals as goal
 

@@ -2,7 +2,7 @@ use Rattle.std.proofs.Common.{ap, subst, ◌∙◌, Some}
 use Rattle.rk_mail.specs.Talk.{call_said}
 use Rattle.ce_machine.specs.declared.call.Call.TheVariants as calls
 use Rattle.ce_run.specs.Asking.{IsStartOrEnd}
-use Rattle.ce_run.proofs.Seating.{inner-same, heard-as, heard-told, reply-some, told-done}
+use Rattle.ce_run.proofs.StatesBehind.{inner-same, heard-as, heard-told, reply-some, told-done}
 use Rattle.ce_run.proofs.commands.sending.tell.Goals as goal
 
 pub answer_of_heard-requires : goal.answer_of_heard-requires

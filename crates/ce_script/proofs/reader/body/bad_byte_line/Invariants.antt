@@ -1,13 +1,13 @@
 use Rattle.std.proofs.Common.{◌≡◌, ◌+◌, ◌≤◌, length}
 use Rattle.std.specs.Prelude.{find}
 use Rattle.ce_script.specs.Lines.{has_bad_byte, size_of}
-use Rattle.ce_script.specs.ReadLines.{numbered_lines, texts_left, lines_shown}
+use Rattle.ce_script.specs.ReadLines.{numbered_lines, texts_left, body_lines}
 use Rattle.ce_script.proofs.BodyLines.{left}
 use Rattle.ce_script.proofs.reader.body.bad_byte_line.Given as goal
 
 abbrev pub invariant-loop-rest : goal.invariant-loop-rest
 invariant-loop-rest l = record {
-  found : find has_bad_byte (numbered_lines (l.number + 1) (texts_left (left l.rest))) ≡ find has_bad_byte (lines_shown l.fn.body);
+  found : find has_bad_byte (numbered_lines (l.number + 1) (texts_left (left l.rest))) ≡ find has_bad_byte (body_lines l.fn.body);
   count : l.number + size_of (left l.rest) ≤ l.fn.body.line + length l.fn.body.text.now + 1;
 }
 

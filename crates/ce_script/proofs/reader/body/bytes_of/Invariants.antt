@@ -2,15 +2,15 @@ use Rattle.std.proofs.Common.{◌≡◌, ◌+◌, ◌≤◌, ◌++◌, length}
 use Rattle.std.specs.Prelude.{find}
 use Rattle.ce_script.specs.Bodies.{has_bad_word, body_bytes}
 use Rattle.ce_script.specs.Lines.{size_of}
-use Rattle.ce_script.specs.ReadLines.{numbered_lines, texts_left, lines_shown}
-use Rattle.ce_script.specs.ReadWords.{read_as}
+use Rattle.ce_script.specs.ReadLines.{numbered_lines, texts_left, body_lines}
+use Rattle.ce_script.specs.ReadWords.{word_bytes}
 use Rattle.ce_script.proofs.BodyLines.{left}
 use Rattle.ce_script.proofs.reader.body.bytes_of.Given as goal
 
 abbrev pub invariant-loop-rest : goal.invariant-loop-rest
 invariant-loop-rest l = record {
-  found : find (has_bad_word (read_as l.kind)) (numbered_lines (l.number + 1) (texts_left (left l.rest))) ≡ find (has_bad_word (read_as l.kind)) (lines_shown l.fn.body);
-  bytes : l.bytes.items ++ body_bytes (read_as l.kind) (numbered_lines (l.number + 1) (texts_left (left l.rest))) ≡ body_bytes (read_as l.kind) (lines_shown l.fn.body);
+  found : find (has_bad_word (word_bytes l.kind)) (numbered_lines (l.number + 1) (texts_left (left l.rest))) ≡ find (has_bad_word (word_bytes l.kind)) (body_lines l.fn.body);
+  bytes : l.bytes.items ++ body_bytes (word_bytes l.kind) (numbered_lines (l.number + 1) (texts_left (left l.rest))) ≡ body_bytes (word_bytes l.kind) (body_lines l.fn.body);
   count : l.number + size_of (left l.rest) ≤ l.fn.body.line + length l.fn.body.text.now + 1;
 }
 

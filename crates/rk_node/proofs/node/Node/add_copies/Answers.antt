@@ -3,13 +3,13 @@ use Rattle.ce_model.specs.Node as model
 use Rattle.ce_model.specs.Kernel.{with_store}
 use Rattle.xm_block.specs.Stores.{ids_of}
 use Rattle.rk_mail.specs.Targets.{bytes_of, targets_of}
-use Rattle.rk_node.specs.Standing.{node_of}
+use Rattle.rk_node.specs.Standing.{node_model}
 use Rattle.rk_node.proofs.Copies.{zip-more, drop-next, targets-more, bytes-more, count-more}
 use Rattle.rk_node.proofs.node.Node.add_copies.Goals as goal
 
 pub loop-to-preserved : goal.loop-to-preserved
 loop-to-preserved c =
-    let before = node_of c.args.self.now in
+    let before = node_model c.args.self.now in
     let was = c.loop-to.invariant in
     let block = c.in-Some.block in
     let rest = ids_of c.take_least.new.self.blocks in

@@ -9,10 +9,9 @@ pub returns-clause-node : goal.returns-clause-node
 returns-clause-node c =
     let node = c.args.self.now in
     node-change node c.args.pid.number c.index_mut-process.result.now c.answer.new.self (with_answer c.args.value) (omega arith) c.index_mut-process.ensures.value
-    (ap (λ o. process_in node.held.mappings c.args.pid.number o) c.answer.ensures)
+    (ap (λ o. process_in node.held_blocks.mappings c.args.pid.number o) c.answer.ensures)
 
-pub invariant_of-self : goal.invariant_of-self
-invariant_of-self c = record {
-  stocked = stocked-change c.args.self.now c.args.pid.number c.index_mut-process.result.now c.answer.new.self (omega arith) c.index_mut-process.ensures.value
-      (ap (λ (o : Own). o.used_count) c.answer.ensures);
-}
+pub invariant_of-self-clause-stocked : goal.invariant_of-self-clause-stocked
+invariant_of-self-clause-stocked c =
+    stocked-change c.args.self.now c.args.pid.number c.index_mut-process.result.now c.answer.new.self (omega arith) c.index_mut-process.ensures.value
+    (ap (λ (o : Own). o.used_count) c.answer.ensures)

@@ -6,4 +6,4 @@ use Rattle.rk_node.proofs.node.Node.argument.Goals as goal
 pub returns : goal.returns
 returns c =
     let node = c.args.self.now in
-    c.reg.ensures ∙ ap (λ p. argument p c.args.index) (sym (process-read node.held.mappings node.processes.items c.args.pid.number c.index.result.now (omega arith) c.index.ensures))
+    c.register.ensures ∙ ap (λ p. argument p c.args.index) (sym (process-read node.held_blocks.mappings node.processes.items c.args.pid.number c.index.result.now (omega arith) c.index.ensures))

@@ -3,14 +3,14 @@ use Rattle.ce_model.specs.Limits.{turn_calls, turn_calls_lem}
 use Rattle.ce_model.specs.Kernel.{kernel_calls}
 use Rattle.std.proofs.lemmas.Bool.{le-ltb}
 use Rattle.ce_model.specs.Node.{process_at}
-use Rattle.rk_node.specs.Standing.{node_of, turn_of}
+use Rattle.rk_node.specs.Standing.{node_model, turn_of}
 use Rattle.rk_node.proofs.Made.{made-as}
 use Rattle.rk_node.proofs.Calls.{in_turn-more, made-counted, spent, is_note}
 use Rattle.rk_node.proofs.node.Node.counted_call.Goals as goal
 
 pub returns-then-turn-ge-TURN_CALLS-clause-made : goal.returns-then-turn-ge-TURN_CALLS-clause-made
 returns-then-turn-ge-TURN_CALLS-clause-made c =
-    let n = node_of c.args.self.now in
+    let n = node_model c.args.self.now in
     let turn = turn_of c.args.turn.now in
     made-as c.stop_outcome.ensures (spent c.args.number c.requires.counted n turn (process_at n turn.pid) (le-ltb turn.calls turn_calls (omega (arith, turn_calls_lem, c.if-turn-ge-TURN_CALLS.true))))
 
@@ -20,11 +20,11 @@ invariant_of-turn c = record {
   counted = omega (arith, turn_calls_lem, c.if-turn-ge-TURN_CALLS.false);
 }
 
-pub xsend-requires : goal.xsend-requires
-xsend-requires c = in_turn-more c.requires.ready
+pub call_on_block-requires : goal.call_on_block-requires
+call_on_block-requires c = in_turn-more c.requires.ready
 
-pub xmsend-requires : goal.xmsend-requires
-xmsend-requires c = in_turn-more c.requires.ready
+pub call_on_block-requires-in-5 : goal.call_on_block-requires-in-5
+call_on_block-requires-in-5 c = in_turn-more c.requires.ready
 
 pub spawn-requires : goal.spawn-requires
 spawn-requires c = in_turn-more c.requires.ready
@@ -37,11 +37,11 @@ note-requires c = in_turn-more c.requires.ready
 
 pub returns-in-4-clause-made : goal.returns-in-4-clause-made
 unfolding kernel_calls
-returns-in-4-clause-made c = made-counted c.xsend.ensures c.in-4.is (omega (arith, turn_calls_lem, c.if-turn-ge-TURN_CALLS.false)) (λ node p t. rw t refl)
+returns-in-4-clause-made c = made-counted c.call_on_block.ensures c.in-4.is (omega (arith, turn_calls_lem, c.if-turn-ge-TURN_CALLS.false)) (λ node p t. rw t refl)
 
 pub returns-in-5-clause-made : goal.returns-in-5-clause-made
 unfolding kernel_calls
-returns-in-5-clause-made c = made-counted c.xmsend.ensures c.in-5.is (omega (arith, turn_calls_lem, c.if-turn-ge-TURN_CALLS.false)) (λ node p t. rw t refl)
+returns-in-5-clause-made c = made-counted c.call_on_block-in-5.ensures c.in-5.is (omega (arith, turn_calls_lem, c.if-turn-ge-TURN_CALLS.false)) (λ node p t. rw t refl)
 
 pub returns-in-8-clause-made : goal.returns-in-8-clause-made
 unfolding kernel_calls

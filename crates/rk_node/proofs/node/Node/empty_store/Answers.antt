@@ -1,7 +1,7 @@
 use Rattle.std.proofs.Common.{◌≡◌, ℕ, List, [], ◌∷◌, length, suc, ap, sym, ◌∙◌, subst, arith}
-use Rattle.ce_model.specs.Blocks.{Block, put_all}
+use Rattle.ce_model.specs.Blocks.{Block, with_ids}
 use Rattle.ce_model.specs.Node.{Node}
-use Rattle.xm_block.specs.Stores.{KeptBlock, ids_of}
+use Rattle.xm_block.specs.Stores.{BlockStore, ids_of}
 use Rattle.rk_node.specs.Hearings.{AreApartFrom}
 use Rattle.rk_node.proofs.Names.{length-ids_of}
 use Rattle.rk_node.proofs.Moved.{apart-next, not_stored}
@@ -25,11 +25,11 @@ loop-block-preserved c =
     let out = c.loop-block.out in
     let taken : c.loop-block.self.store.blocks ≡ block ∷ rest = c.in-Some.ensures.taken in
     let fewer : length c.loop-block.self.store.blocks ≡ suc (length rest) = ap (λ (blocks : List Block). length blocks) taken in
-    let spare = ap (λ (store : KeptBlock). store.spare) c.give.ensures.after in
+    let spare = ap (λ (store : BlockStore). store.spare) c.give.ensures.after in
     record {
       node = ap (λ (n : Node). record n { store = ids_of rest }) was.node;
-      moved = ap (put_all (ids_of rest)) c.give.ensures.ids
-          ∙ sym (ap (λ blocks. put_all (ids_of blocks) (ids_of out.blocks)) taken) ∙ was.moved;
+      moved = ap (with_ids (ids_of rest)) c.give.ensures.ids
+          ∙ sym (ap (λ blocks. with_ids (ids_of blocks) (ids_of out.blocks)) taken) ∙ was.moved;
       apart = apart-next (block.id ∷ []) (ids_of rest) out c.give.new.self c.give.ensures.ids
           (subst (λ ids. AreApartFrom ids out) (ap ids_of taken) was.apart);
       spare = omega (arith, was.spare, spare, fewer, c.requires.room, length-ids_of c.args.self.now.store.blocks);

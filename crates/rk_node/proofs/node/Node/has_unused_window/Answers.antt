@@ -7,4 +7,4 @@ pub returns : goal.returns
 unfolding window_count
 returns c =
     let node = c.args.self.now in
-    ap (λ n. nat_lt n window_count) (c.windows.ensures ∙ sym (used-read node.held.mappings node.processes.items c.args.pid.number c.index.result.now (omega arith) c.index.ensures))
+    ap (λ n. nat_lt n window_count) (c.windows.ensures ∙ sym (used-read node.held_blocks.mappings node.processes.items c.args.pid.number c.index.result.now (omega arith) c.index.ensures))

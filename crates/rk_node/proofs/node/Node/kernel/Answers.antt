@@ -1,6 +1,6 @@
-use Rattle.std.proofs.Common.{refl, arith}
+use Rattle.std.proofs.Common.{rules, refl, arith}
 use Rattle.ce_model.specs.Kernel.{kernel_calls}
-use Rattle.rk_node.proofs.Calls.{made-call, made-number, made-none, call_none}
+use Rattle.rk_node.proofs.Calls.{made-call, made-number, made-none, call_none, counted-number}
 use Rattle.rk_node.proofs.node.Node.kernel.Goals as goal
 
 pub returns-in-1-clause-made : goal.returns-in-1-clause-made
@@ -9,11 +9,11 @@ returns-in-1-clause-made c = made-call c.xmalloc.ensures c.argument-number.ensur
 
 pub returns-in-2-clause-made : goal.returns-in-2-clause-made
 unfolding kernel_calls
-returns-in-2-clause-made c = made-call c.xfree.ensures c.argument-number.ensures c.in-2.is (λ node p. refl)
+returns-in-2-clause-made c = made-call c.call_on_block.ensures c.argument-number.ensures c.in-2.is (λ node p. refl)
 
 pub returns-in-3-clause-made : goal.returns-in-3-clause-made
 unfolding kernel_calls
-returns-in-3-clause-made c = made-call c.xlength.ensures c.argument-number.ensures c.in-3.is (λ node p. refl)
+returns-in-3-clause-made c = made-call c.call_on_block-in-3.ensures c.argument-number.ensures c.in-3.is (λ node p. refl)
 
 pub returns-in-6-clause-made : goal.returns-in-6-clause-made
 unfolding kernel_calls
@@ -38,6 +38,9 @@ returns-in-12-clause-made c = made-call c.nnodes.ensures c.argument-number.ensur
 pub returns-in-13-clause-made : goal.returns-in-13-clause-made
 unfolding kernel_calls
 returns-in-13-clause-made c = made-call c.exit.ensures c.argument-number.ensures c.in-13.is (λ node p. refl)
+
+pub counted_call-requires-clause-counted : goal.counted_call-requires-clause-counted
+counted_call-requires-clause-counted c = counted-number c.argument-number.result (search rules)
 
 pub returns-in-4-clause-made : goal.returns-in-4-clause-made
 returns-in-4-clause-made c = made-number c.counted_call.ensures.made c.argument-number.ensures

@@ -4,7 +4,7 @@ use Rattle.ce_model.specs.Node.{process_at}
 use Rattle.ce_model.specs.Kernel.{return_outcome, map_outcome, with_store}
 use Rattle.xm_block.specs.Stores.{ids_of}
 use Rattle.rk_node.specs.Moves.{with_mapped}
-use Rattle.rk_node.specs.Standing.{node_of, turn_of}
+use Rattle.rk_node.specs.Standing.{node_model, turn_of}
 use Rattle.rk_node.proofs.Processes.{length-processes}
 use Rattle.rk_node.proofs.Made.{returns-after}
 use Rattle.rk_node.proofs.node.Node.map_outcome.Goals as goal
@@ -12,7 +12,7 @@ use Rattle.rk_node.proofs.node.Node.map_outcome.Goals as goal
 pub returns-in-Some : goal.returns-in-Some
 returns-in-Some c =
     let node = c.args.self.now in
-    let n = node_of node in
+    let n = node_model node in
     let turn = turn_of c.args.turn in
     let p = process_at n turn.pid in
     let rest = ids_of c.take_least.new.self.blocks in
@@ -20,7 +20,7 @@ returns-in-Some c =
     let block : c.reset.new.self ≡ record { id = c.in-Some.block.id; bytes = replicate c.args.length 0 } = c.reset.ensures in
     record {
       did = c.return_outcome-in-Some.ensures.did
-          ∙ returns-after n (node_of c.map-address.new.self) turn (with_mapped c.reset.new.self p) rest c.map-address.result (omega (arith, length-processes node, c.args.turn.pid.within)) c.map-address.ensures.node
+          ∙ returns-after n (node_model c.map-address.new.self) turn (with_mapped c.reset.new.self p) rest c.map-address.result (omega (arith, length-processes node, c.args.turn.pid.within)) c.map-address.ensures.node
           ∙ ap (λ (b : Block). return_outcome (with_store rest n) turn (with_mapped b p) c.map-address.result) block
           ∙ ap (λ a. return_outcome (with_store rest n) turn (with_mapped (record { id = c.in-Some.block.id; bytes = replicate c.args.length 0 }) p) a) c.map-address.ensures.start
           ∙ sym (ap (λ ids. map_outcome n turn p c.args.length ids) taken);

@@ -1,12 +1,12 @@
 use Rattle.std.proofs.Common.{◌≡◌}
 use Rattle.ce_model.specs.Saying.{turn_saying}
-use Rattle.rk_node.specs.Standing.{node_of, turn_of}
+use Rattle.rk_node.specs.Standing.{node_model, turn_of}
 use Rattle.rk_node.specs.Ready.{IsInTurn}
 use Rattle.rk_node.proofs.node.Node.run_turn.Given as goal
 
 abbrev pub invariant-loop-say : goal.invariant-loop-say
 invariant-loop-say l = record {
-  said : turn_saying l.turn.instructions_left (node_of l.self) (turn_of l.turn) ≡ turn_saying l.fn.begun.instructions_left (node_of l.fn.self) (turn_of l.fn.begun);
+  said : turn_saying l.turn.instructions_left (node_model l.self) (turn_of l.turn) ≡ turn_saying l.fn.begun.instructions_left (node_model l.fn.self) (turn_of l.fn.begun);
   ready : IsInTurn l.self (turn_of l.turn);
   room : l.self.room ≡ l.fn.self.room;
 }

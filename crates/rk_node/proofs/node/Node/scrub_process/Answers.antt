@@ -1,7 +1,7 @@
 use Rattle.std.proofs.Common.{ℕ, length, slice_set, ap, ◌∙◌, arith, length-set}
-use Rattle.xm_block.specs.Stores.{KeptBlock}
-use Rattle.xm_owner.specs.Holdings.{MappingTable, blocks_of}
-use Rattle.rk_node.specs.Standing.{node_of, process_in}
+use Rattle.xm_block.specs.Stores.{BlockStore}
+use Rattle.xm_owner.specs.Holdings.{MappingTable, process_blocks}
+use Rattle.rk_node.specs.Standing.{node_model, process_in}
 use Rattle.rk_node.specs.Hearings.{ids_in}
 use Rattle.rk_node.proofs.Maps.{rising-filter, length-drained}
 use Rattle.rk_node.proofs.Names.{ids_of-process, ids_of-drained, length-ids_of}
@@ -14,53 +14,49 @@ pub drain-requires-clause-room : goal.drain-requires-clause-room
 drain-requires-clause-room c =
     let node = c.args.self.now in
     let ids = ids_of-process node c.args.pid.number c.args.pid.within in
-    omega (arith, c.requires.room, ap {B = ℕ} length ids, length-ids_of (blocks_of c.args.pid.number node.held.mappings))
+    omega (arith, c.requires.room, ap {B = ℕ} length ids, length-ids_of (process_blocks c.args.pid.number node.held_blocks.mappings))
 
 pub drain-requires-clause-apart : goal.drain-requires-clause-apart
 drain-requires-clause-apart c =
     let node = c.args.self.now in
-    apart-blocks (blocks_of c.args.pid.number node.held.mappings) (ids_in c.args.pid.number (node_of node)) c.args.out.now
+    apart-blocks (process_blocks c.args.pid.number node.held_blocks.mappings) (ids_in c.args.pid.number (node_model node)) c.args.out.now
     (ids_of-process node c.args.pid.number c.args.pid.within) c.requires.apart
 
 pub returns-clause-node : goal.returns-clause-node
 returns-clause-node c =
     let node = c.args.self.now in
-    let m = node.held.mappings in
+    let m = node.held_blocks.mappings in
     let m' = c.drain.new.self.mappings in
     let owns = node.processes.items in
-    ap (λ ps. record (node_of node) { processes = ps })
+    ap (λ ps. record (node_model node) { processes = ps })
     (processes-set m m' owns c.args.pid.number c.reset.new.self (omega (arith, node.stocked.every_id)) (same-but c.args.pid.number m m' owns (λ q w differ. c.drain.ensures.others q w differ))
-    ∙ ap (λ own. slice_set (node_of node).processes c.args.pid.number (process_in m' c.args.pid.number own)) c.reset.ensures
-    ∙ ap (slice_set (node_of node).processes c.args.pid.number) (unborn-in m' c.args.pid.number))
+    ∙ ap (λ own. slice_set (node_model node).processes c.args.pid.number (process_in m' c.args.pid.number own)) c.reset.ensures
+    ∙ ap (slice_set (node_model node).processes c.args.pid.number) (unborn-in m' c.args.pid.number))
 
 pub returns-clause-moved : goal.returns-clause-moved
 returns-clause-moved c =
     let node = c.args.self.now in
-    ids_of-drained node c.args.pid.number c.args.out.now.blocks _ c.args.pid.within (ap (λ (store : KeptBlock). store.blocks) c.drain.ensures.moved)
+    ids_of-drained node c.args.pid.number c.args.out.now.blocks _ c.args.pid.within (ap (λ (store : BlockStore). store.blocks) c.drain.ensures.moved)
 
 pub returns-clause-spare : goal.returns-clause-spare
 returns-clause-spare c =
     let node = c.args.self.now in
     let ids = ids_of-process node c.args.pid.number c.args.pid.within in
-    omega (arith, c.requires.room, ap {B = ℕ} length ids, length-ids_of (blocks_of c.args.pid.number node.held.mappings), ap (λ (store : KeptBlock). store.spare) c.drain.ensures.moved)
+    omega (arith, c.requires.room, ap {B = ℕ} length ids, length-ids_of (process_blocks c.args.pid.number node.held_blocks.mappings), ap (λ (store : BlockStore). store.spare) c.drain.ensures.moved)
 
-pub invariant_of-self : goal.invariant_of-self
-invariant_of-self c =
+pub invariant_of-self-clause-stocked : goal.invariant_of-self-clause-stocked
+invariant_of-self-clause-stocked c =
     let node = c.args.self.now in
-    let m = node.held.mappings in
+    let m = node.held_blocks.mappings in
     let owns = node.processes.items in
-    let left = ap (λ (held : MappingTable). held.mappings) c.drain.ensures.left in
-    let spare = ap (λ (held : MappingTable). held.spare) c.drain.ensures.left in
+    let left = ap (λ (table : MappingTable). table.mappings) c.drain.ensures.left in
+    let spare = ap (λ (table : MappingTable). table.spare) c.drain.ensures.left in
     let fewer = length-drained c.args.pid.number m c.drain.new.self.mappings left in
     record {
-      stocked = record {
-        few_nodes = node.stocked.few_nodes;
-        every_id = length-set owns c.args.pid.number c.reset.new.self ∙ node.stocked.every_id;
-        windows = rw left (within-reset owns c.args.pid.number c.reset.new.self m node.stocked.windows);
-        rising = rw left (rising-filter _ m node.stocked.rising);
-        held_room = omega (arith, fewer, spare, node.stocked.held_room);
-        store_room = node.stocked.store_room;
-        within = omega (arith, fewer, node.stocked.within);
-        poll_room = node.stocked.poll_room;
-      };
+      every_id = length-set owns c.args.pid.number c.reset.new.self ∙ node.stocked.every_id;
+      windows = rw left (within-reset owns c.args.pid.number c.reset.new.self m node.stocked.windows);
+      rising = rw left (rising-filter _ m node.stocked.rising);
+      held_room = omega (arith, fewer, spare, node.stocked.held_room);
+      store_room = node.stocked.store_room;
+      within = omega (arith, fewer, node.stocked.within);
     }

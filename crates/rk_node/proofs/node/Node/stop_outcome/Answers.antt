@@ -1,11 +1,11 @@
 use Rattle.std.proofs.Common.{Some, ap, ◌∙◌}
 use Rattle.ce_model.specs.Kernel.{turn_conclusion}
-use Rattle.rk_node.specs.Standing.{node_of, turn_of}
+use Rattle.rk_node.specs.Standing.{node_model, turn_of}
 use Rattle.rk_node.proofs.Made.{well-once}
 use Rattle.rk_node.proofs.node.Node.stop_outcome.Goals as goal
 
 pub stop-requires : goal.stop-requires
-stop-requires c = well-once (Some (turn_of c.args.turn)) (node_of c.args.self.now) c.requires.well
+stop-requires c = well-once (Some (turn_of c.args.turn)) (node_model c.args.self.now) c.requires.well
 
 pub returns : goal.returns
 returns c = record {

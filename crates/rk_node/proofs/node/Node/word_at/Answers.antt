@@ -8,4 +8,4 @@ pub returns : goal.returns
 returns c =
     let node = c.args.self.now in
     c.load_word.ensures
-    ∙ ap (λ (p : Process). loaded_at p.space c.args.address 4) (sym (process-read node.held.mappings node.processes.items c.args.pid.number c.index-process.result.now (omega arith) c.index-process.ensures))
+    ∙ ap (λ (p : Process). loaded_at p.space c.args.address 4) (sym (process-read node.held_blocks.mappings node.processes.items c.args.pid.number c.index-process.result.now (omega arith) c.index-process.ensures))

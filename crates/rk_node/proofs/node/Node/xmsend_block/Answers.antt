@@ -5,14 +5,14 @@ use Rattle.ce_model.specs.Space.{places_at}
 use Rattle.ce_model.specs.Process.{argument}
 use Rattle.ce_model.specs.Node.{process_at}
 use Rattle.ce_model.specs.Kernel.{xmsend_block}
-use Rattle.rk_node.specs.Standing.{node_of, turn_of}
+use Rattle.rk_node.specs.Standing.{node_model, turn_of}
 use Rattle.rk_node.proofs.Made.{made-as}
 use Rattle.rk_node.proofs.Copies.{for_some, for_each, too_many, places-read, places-as}
 use Rattle.rk_node.proofs.node.Node.xmsend_block.Goals as goal
 
 pub returns-then-count-gt-GREATEST_TARGETS : goal.returns-then-count-gt-GREATEST_TARGETS
 returns-then-count-gt-GREATEST_TARGETS c =
-    let node = node_of c.args.self.now in
+    let node = node_model c.args.self.now in
     let turn = turn_of c.args.turn in
     let p = process_at node turn.pid in
     let many : greatest_targets < argument p 1 = omega (arith, greatest_targets_lem, c.if-count-gt-GREATEST_TARGETS.true, c.argument-count.ensures) in
@@ -24,7 +24,7 @@ copies_outcome-requires-clause-few c = omega (arith, greatest_targets_lem, c.if-
 
 pub returns-in-Ok : goal.returns-in-Ok
 returns-in-Ok c =
-    let node = node_of c.args.self.now in
+    let node = node_model c.args.self.now in
     let turn = turn_of c.args.turn in
     let p = process_at node turn.pid in
     let few : c.argument-count.result ≤ greatest_targets = omega (arith, greatest_targets_lem, c.if-count-gt-GREATEST_TARGETS.false) in
@@ -36,7 +36,7 @@ returns-in-Ok c =
 
 pub returns-in-Err : goal.returns-in-Err
 returns-in-Err c =
-    let node = node_of c.args.self.now in
+    let node = node_model c.args.self.now in
     let turn = turn_of c.args.turn in
     let p = process_at node turn.pid in
     for_each _ _ (λ block.

@@ -2,7 +2,7 @@ use Rattle.std.proofs.Common.{IfSome, ap, sym, ◌∙◌, subst}
 use Rattle.ce_model.specs.Hearing.{node_after_hearing}
 use Rattle.ce_model.specs.Sound.{IsSoundTurn}
 use Rattle.ce_solo.proofs.Nodes.{IsWell}
-use Rattle.rk_mail.specs.Talk.{heard_as}
+use Rattle.rk_mail.specs.Talk.{hearing_model}
 use Rattle.rk_node.specs.Boxes.{Box}
 use Rattle.rk_node.specs.Hearings.{IsWorkOf}
 use Rattle.rk_node.specs.Wording.{HasBatch}
@@ -30,7 +30,7 @@ invariant_of-self c =
     let sound = subst (λ (b : Box). IfSome b.node.turn IsSoundTurn) c.self.view_is (sound_if c.self.inside.node.turn) in
     let has = subst (λ (b : Box). HasBatch b.out c.self.inside.node.batch) c.self.view_is c.self.invariant.batch in
     let can = c.requires.heard in
-    let after = subst IsWellNow (ap (λ (b : Box). node_after_hearing images b.node (heard_as c.args.heard)) (sym c.self.view_is) ∙ sym c.hears.ensures.node)
+    let after = subst IsWellNow (ap (λ (b : Box). node_after_hearing images b.node (hearing_model c.args.heard)) (sym c.self.view_is) ∙ sym c.hears.ensures.node)
     (hears-well images box well sound c.args.heard can) in
     record {
       well = after;

@@ -2,8 +2,8 @@ use Rattle.std.proofs.Common.{ap, sym, ◌∙◌, subst}
 use Rattle.ce_model.specs.Saying.{says}
 use Rattle.rk_mail.specs.Talk.{call_said}
 use Rattle.rk_node.specs.Boxes.{Box}
-use Rattle.rk_node.specs.Standing.{node_of}
-use Rattle.rk_node.specs.Taken.{HasTakenOut}
+use Rattle.rk_node.specs.Standing.{node_model}
+use Rattle.rk_node.specs.Withdrawal.{HasTakenOut}
 use Rattle.rk_node.specs.Wording.{HasBatch}
 use Rattle.rk_node.proofs.Said.{said-whole, has_said, has_batch}
 use Rattle.rk_node.proofs.node_box.NodeBox.says.Goals as goal
@@ -38,10 +38,10 @@ pub returns-clause-said : goal.returns-clause-said
 returns-clause-said c =
     let said = c.says-said.ensures in
     let after = said-whole _ _ c.says-said.new.self (call_said c.says-said.result) c.self.invariant said.call said.node in
-    has_said (record { node = node_of c.says-said.new.self; room = c.says-said.new.self.room; out = c.out_by-self-inside.result }) (call_said c.says-said.result) c.out_by-self-inside.ensures after.of_node
+    has_said (record { node = node_model c.says-said.new.self; room = c.says-said.new.self.room; out = c.out_by-self-inside.result }) (call_said c.says-said.result) c.out_by-self-inside.ensures after.of_node
 
 pub returns-clause-blocks : goal.returns-clause-blocks
 returns-clause-blocks c =
     let said = c.says-said.ensures in
     let after = said-whole _ _ c.says-said.new.self (call_said c.says-said.result) c.self.invariant said.call said.node in
-    subst (λ (b : Box). HasTakenOut b.node (node_of c.says-said.new.self) (call_said c.says-said.result)) c.self.view_is after.takes_out
+    subst (λ (b : Box). HasTakenOut b.node (node_model c.says-said.new.self) (call_said c.says-said.result)) c.self.view_is after.takes_out

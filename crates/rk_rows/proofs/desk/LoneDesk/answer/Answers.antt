@@ -22,7 +22,7 @@ returns-in_ok-spawn-in-Spawn c =
     let after = c.accept_spawn.new.self.mailbox.items in
     let call = spawn_call c.in-Spawn.pid c.in-Spawn.image c.in-Spawn.to in
     let can = subst (λ said. IsAnswerable node (call_said said) before) c.in-Spawn.is c.requires in
-    subst (λ heard. IsAnsweredAlone images node heard after) (sym c.heard_of_spawn.ensures)
+    subst (λ heard. IsAnsweredAlone images node heard after) (sym c.spawn_hearing.ensures)
     (spawn-answers images node c.in-Spawn.pid c.in-Spawn.image c.in-Spawn.to before after c.in_ok-is_fresh-in-Spawn.is_fresh can c.in_ok-is_fresh-in-Spawn.ensures)
 
 pub returns-in_ok-kill-in-Kill : goal.returns-in_ok-kill-in-Kill
@@ -32,5 +32,5 @@ returns-in_ok-kill-in-Kill c =
     let before = c.args.self.now.mailbox.items in
     let after = c.accept_kill.new.self.mailbox.items in
     let can = subst (λ said. IsAnswerable node (call_said said) before) c.in-Kill.is c.requires in
-    subst (λ heard. IsAnsweredAlone images node heard after) (sym c.heard_of_kill.ensures)
+    subst (λ heard. IsAnsweredAlone images node heard after) (sym c.kill_hearing.ensures)
     (kill-answers images node c.in-Kill.pid c.in-Kill.to before after c.in_ok-found-in-Kill.found can c.in_ok-found-in-Kill.ensures)

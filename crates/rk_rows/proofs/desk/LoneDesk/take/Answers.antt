@@ -1,4 +1,4 @@
-use Rattle.std.proofs.Common.{sym, ap, ◌∙◌, subst}
+use Rattle.std.proofs.Common.{sym, ap, subst}
 use Rattle.ce_model.specs.Node.{take_call}
 use Rattle.rk_mail.specs.declared.talk.Hearing.TheVariants.{Poll, Idle}
 use Rattle.rk_mail.specs.Queue.{Queue}

@@ -1,9 +1,9 @@
 use Rattle.std.proofs.Common.{List, length, ap, ◌∙◌, subst}
 use Rattle.rv_model.specs.Image.{ImageParts}
 use Rattle.ce_model.specs.Hearing.{node_after_hearing}
-use Rattle.rk_mail.specs.Talk.{heard_as}
+use Rattle.rk_mail.specs.Talk.{hearing_model}
 use Rattle.rk_rows.specs.Lone.{IsAnsweredAlone}
-use Rattle.rk_rows.proofs.Steps.{said-images, heard-rests}
+use Rattle.rk_rows.proofs.Exchanges.{said-images, heard-rests}
 use Rattle.rk_rows.proofs.lone_node.LoneNode.exchange.Goals as goal
 
 pub hears-requires-clause-images : goal.hears-requires-clause-images
@@ -21,5 +21,5 @@ invariant_of-self-2 c = λ same.
     heard-rests before.images.items before.node said c.hears.new.self heard before.desk.mailbox after.mailbox
     (c.self.invariant c.if-self.false) c.says-said.ensures.node c.says-said.ensures.room
     (subst (λ images. IsAnsweredAlone images said heard after.mailbox.items) c.as_slice.ensures.value c.in_ok-heard.ensures)
-    (c.hears.ensures.node ∙ ap (λ images. node_after_hearing images said.node (heard_as heard)) c.as_slice-2.ensures.value)
+    (c.hears.ensures.node ∙ ap (λ images. node_after_hearing images said.node (hearing_model heard)) c.as_slice-2.ensures.value)
     c.hears.ensures.room c.hears.ensures.out

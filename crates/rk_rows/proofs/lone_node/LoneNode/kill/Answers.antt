@@ -1,4 +1,4 @@
-use Rattle.rk_rows.proofs.Steps.{queued-rests}
+use Rattle.rk_rows.proofs.Exchanges.{queued-rests}
 use Rattle.rk_rows.proofs.lone_node.LoneNode.kill.Goals as goal
 
 pub invariant_of-self-2 : goal.invariant_of-self-2

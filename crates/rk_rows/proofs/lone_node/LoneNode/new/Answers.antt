@@ -1,7 +1,7 @@
 use Rattle.std.proofs.Common.{ap, sym, ◌∙◌, arith}
 use Rattle.ce_model.specs.Limits.{greatest_blocks_lem, greatest_images_lem}
 use Rattle.rk_node.specs.Boxes.{Box, fresh_at}
-use Rattle.rk_rows.proofs.Steps.{fresh-rests}
+use Rattle.rk_rows.proofs.Exchanges.{fresh-rests}
 use Rattle.rk_rows.proofs.lone_node.LoneNode.new.Goals as goal
 
 pub new-requires : goal.new-requires

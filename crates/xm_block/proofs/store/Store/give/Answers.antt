@@ -1,7 +1,7 @@
 use Rattle.std.proofs.Common.{◌≡◌, ◌≤◌, ◌+◌, ◌-◌, length, List, arith, sym, ap, ◌∙◌, subst}
 use Rattle.std.specs.List.{Contains}
 use Rattle.std.proofs.lemmas.List.Edits.{length-insert}
-use Rattle.ce_model.specs.Blocks.{Block, put}
+use Rattle.ce_model.specs.Blocks.{Block, with_id}
 use Rattle.xm_block.specs.Rising.{IsRising}
 use Rattle.xm_block.specs.Stores.{is_before, ids_of, with_block}
 use Rattle.xm_block.proofs.Rises.{put_in-at}
@@ -46,4 +46,4 @@ returns-clause-after c =
     (cc)
 
 pub returns-clause-ids : goal.returns-clause-ids
-returns-clause-ids c = ap ids_of (items c) ∙ ids_of-with_block c.args.block (before c) ∙ ap (λ blocks. put c.args.block.id (ids_of blocks)) (sym (seen c))
+returns-clause-ids c = ap ids_of (items c) ∙ ids_of-with_block c.args.block (before c) ∙ ap (λ blocks. with_id c.args.block.id (ids_of blocks)) (sym (seen c))

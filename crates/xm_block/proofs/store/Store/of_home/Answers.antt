@@ -2,7 +2,7 @@ use Rattle.std.proofs.Common.{◌≡◌, List, arith, ap, ◌∙◌}
 use Rattle.std.specs.List.{Contains}
 use Rattle.ce_model.specs.declared.topology.BlockId.{BlockId}
 use Rattle.ce_model.specs.Limits.{home_blocks_lem}
-use Rattle.ce_model.specs.Blocks.{put}
+use Rattle.ce_model.specs.Blocks.{with_id}
 use Rattle.xm_block.specs.Stores.{ids_of}
 use Rattle.xm_block.proofs.HomeBlocks.{name, first_names, put-next, next-apart}
 use Rattle.xm_block.proofs.store.Store.of_home.Goals as goal
@@ -18,10 +18,10 @@ give-requires-clause-apart c =
 
 pub loop-index-preserved : goal.loop-index-preserved
 loop-index-preserved c =
-    let next : ids_of c.give.new.self.blocks ≡ put (name c.args.home c.loop-index.index) (first_names c.args.home c.loop-index.index) =
+    let next : ids_of c.give.new.self.blocks ≡ with_id (name c.args.home c.loop-index.index) (first_names c.args.home c.loop-index.index) =
     c.give.ensures.ids
-    ∙ ap (λ block. put block.id (ids_of c.loop-index.store.blocks)) c.in_ok-new.ensures
-    ∙ ap (put (name c.args.home c.loop-index.index)) c.loop-index.invariant.stored in
+    ∙ ap (λ block. with_id block.id (ids_of c.loop-index.store.blocks)) c.in_ok-new.ensures
+    ∙ ap (with_id (name c.args.home c.loop-index.index)) c.loop-index.invariant.stored in
     let spare = ap (λ store. store.spare) c.give.ensures.after in
     record {
       stored = next ∙ put-next c.args.home c.loop-index.index;

@@ -2,7 +2,7 @@ use Rattle.std.proofs.Common.{◌≡◌, ◌∙◌, false, sym, ap, Some}
 use Rattle.ce_script.specs.declared.grammar.Verb.TheVariants.{Image}
 use Rattle.ce_script.specs.Verbs.{form_of, is_image, verb_of}
 use Rattle.ce_script.specs.Lines.{words}
-use Rattle.ce_script.specs.ReadLines.{here_of, plain_line}
+use Rattle.ce_script.specs.ReadLines.{statement_of_line, plain_line}
 use Rattle.ce_script.proofs.Further.{begun_wrong, user_there, image_has_form, no_image, plain_wrong, plain_past, image_says}
 use Rattle.ce_script.proofs.reader.state.Reader.statement.Goals as goal
 use Rattle.ce_script.proofs.reader.state.Reader.statement.Goals.{In_default, in_default-via-in-Image+in_default, in_default-via-in_default}
@@ -15,7 +15,7 @@ is_plain : (c : In_default) → is_image c.in-Ok.verb ≡ false
 is_plain c =
     no_image c.in-Ok.verb (elim c.in_default.branch [
       | in_default-via-in-Image+in_default w ↦ λ is.
-          image_has_form (here_of c.args.line.now) (c.in-Ok.ensures.1 ∙ ap Some is) c.in-Ok.ensures.0
+          image_has_form (statement_of_line c.args.line.now) (c.in-Ok.ensures.1 ∙ ap Some is) c.in-Ok.ensures.0
           (sym (c.form_of.ensures ∙ ap form_of c.operand.ensures) ∙ w.in_default.is-1)
       | in_default-via-in_default w ↦ w.in_default.not-Image-0
     ])

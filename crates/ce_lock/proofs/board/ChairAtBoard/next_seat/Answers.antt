@@ -1,0 +1,6 @@
+use Rattle.std.proofs.Common.{arith}
+use Rattle.ce_lock.proofs.Comings.{makes_head}
+use Rattle.ce_lock.proofs.board.ChairAtBoard.next_seat.Goals as goal
+
+pub split_seat-requires : goal.split_seat-requires
+split_seat-requires g c = (c.args.self.now.at_table, omega (arith, c.args.self.now.board.now.sized.0), makes_head _ _ _ _ _ c.requires.live c.requires.made c.requires.room)

@@ -1,6 +1,0 @@
-use Rattle.std.proofs.Common.{arith}
-use Rattle.ce_lock.proofs.Moves.{leaves}
-use Rattle.ce_lock.proofs.steps.leave.Goals as goal
-
-pub fetch_add-requires : goal.fetch_add-requires
-fetch_add-requires g c = (c.requires.chair, omega (arith, c.args.board.now.sized.0), leaves _ _ _ _ _ _ _ c.requires.turn.1)

@@ -1,6 +1,0 @@
-use Rattle.std.proofs.Common.{arith}
-use Rattle.ce_lock.proofs.Comings.{makes_head}
-use Rattle.ce_lock.proofs.steps.next_seat.Goals as goal
-
-pub split_seat-requires : goal.split_seat-requires
-split_seat-requires g c = (c.requires.chair, omega (arith, c.args.board.now.sized.0), makes_head _ _ _ _ _ c.requires.live c.requires.made c.requires.room)
