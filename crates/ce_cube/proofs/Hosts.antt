@@ -22,7 +22,7 @@ use Rattle.ce_model.specs.Renaming.{CubeGrant, place_inward, block_inward, place
 use Rattle.ce_model.specs.Views.{view}
 use Rattle.ce_model.specs.Machine.{MachineParts, HeldCube, IsLawful, IsCallWithinLimits, IsFitting, IsCallOf, HasHeldCube, in_cube, after, cube_held_by, cube_of, MachineState, IsLawfulEntry, drain, freecube}
 use Rattle.ce_model.proofs.OneMore.{hoststore-more, armed-more, dispatched-more}
-use Rattle.ce_model.proofs.AloneByEntries.{asked_host_call-host_call}
+use Rattle.ce_model.proofs.AloneByEntries.{host_call-wish}
 use Rattle.ce_solo.proofs.Counting.{same_id-self, hit, hit-self, hit-le, same_from_hit, count, count-cons, count-is}
 use Rattle.ce_solo.proofs.Items.{parcel_ids}
 use Rattle.ce_solo.proofs.Totals.{total, total-is, total-le}
@@ -114,10 +114,10 @@ module _ (parts : MachineParts) (history : List Entry) (cube : HeldCube) (now : 
       let was = (projected parts history now.machine now.lawful).held cube.grant.user cube now.holds in
       let host = relative_host parts.dim cube.grant now.placed in
       let of : IsCallOf parts history HOST (renamed_call_blocks out call) cube = record {
-        made = call;
+        inner = call;
         inside = inl refl;
         next = ap (λ actor. actor_call own (opening own) (view history cube.number) actor (host_call_of call)) host
-            ∙ ap (option_and_then (host_call own s.hoststore)) (asked_host_call-host_call own s.hoststore wish call e) ∙ e;
+            ∙ ap (option_and_then (host_call own s.hoststore)) (host_call-wish own s.hoststore wish call e) ∙ e;
         renamed = refl;
         within = λ host. limits-renamed out call within;
         not_drained = now.goes;

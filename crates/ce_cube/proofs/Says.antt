@@ -45,7 +45,7 @@ module _ (parts : MachineParts) (history : List Entry) (cube : HeldCube) (now : 
   call-of call is =
       let own = cube_of parts.images cube.grant in
       record {
-        made = (says node).call;
+        inner = (says node).call;
         inside = inr (is_inside-node_of cube.grant.sub r now.placed.sub.apart (rw now.placed.sub.dimension below));
         next = ap (λ actor. actor_call own (opening own) (view history cube.number) actor (host_call_of (says node).call)) (relative_out parts.dim cube.grant now.placed r below)
             ∙ call_by-node own (opening own) (view history cube.number) r (host_call_of (says node).call) (node_no_host parts.dim cube.grant now.placed r below) below;

@@ -17,7 +17,7 @@ use Rattle.rk_node.specs.Boxes.{Box}
 use Rattle.rk_node.specs.Answering.{IsAwaitingAnswer}
 use Rattle.rk_node.specs.declared.out.Out.TheVariants.{Nothing}
 use Rattle.ce_machine.specs.Meanings.{MachineFacts}
-use Rattle.ce_script.specs.Rounds.{take_result_of, asks_for_work, is_take, is_dispatch, has_work, IsTurn}
+use Rattle.ce_script.specs.Rounds.{entry_take_result, asks_for_work, is_take, is_dispatch, has_work, IsTurn}
 use Rattle.ce_cube.specs.Boxes.{IsSaidBy, IsInStep}
 use Rattle.ce_cube.specs.Crews.{IsReady}
 use Rattle.ce_daemon.specs.Peeks.{cube_grant}
@@ -27,7 +27,7 @@ use Rattle.ce_cube.proofs.Rounds.{are-made}
 
 -- what is no Take is no dispatch
 no_dispatch : (entry : Entry) → is_take entry ≡ false → is_dispatch entry ≡ false
-no_dispatch entry other = by_given (take_result_of entry) other
+no_dispatch entry other = by_given (entry_take_result entry) other
   where
     by_given : (given : Option TakeResult) → is_some given ≡ false → option_map_or is_work given false ≡ false
     by_given None e = refl

@@ -32,7 +32,7 @@ pub enum Answer {
     Quiet,
     /// A node has work, and the allowed dispatches are used up.
     Spent,
-    /// A message: who sent it, and its bytes, 4,096 at most.
+    /// A message: who sent it, and its bytes, `BLOCK_ROOM` at most.
     Message(Place, Bytes),
     /// What the process does.
     State(Status),

@@ -13,11 +13,11 @@ pub enum Command {
     Spawn(u32, Place),
     /// Ends the process of this place.
     Kill(Place),
-    /// Sends these bytes, 4,096 at most, to the process of this place.
+    /// Sends these bytes, `BLOCK_ROOM` at most, to the process of this place.
     Send(Place, Bytes),
-    /// Allows this many dispatches, 1,000,000 at most, and runs until no node has work or none is left.
+    /// Allows this many dispatches, `GREATEST_COUNT` at most, and runs until no node has work or none is left.
     Run(u32),
-    /// Takes the next message for the host, and allows this many dispatches, 1,000,000 at most, to wait for it.
+    /// Takes the next message for the host, and allows this many dispatches, `GREATEST_COUNT` at most, to wait for it.
     Recv(u32),
     /// Asks what the process of this place does.
     Dump(Place),

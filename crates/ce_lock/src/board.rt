@@ -38,7 +38,8 @@ impl<O: Kept> TableRule<O, View<O, O::Entry>, About<O>> for InOneOrder<O> {
     ghost use Rattle.ce_lock.specs.OneOrder.{IsBookInOrder};
     ghost use Rattle.ce_lock.specs.Telling.{first_view};
 
-    ghost holds = { λ about. IsBookInOrder (meanings O.fixed O.history O.lawful O.whose O.alone_entry)
+    ghost holds = { λ about. IsBookInOrder
+        (meanings O.fixed O.history O.lawful O.whose O.alone_entry)
         about.opening.value about.families };
 
     ghost first = { λ about. first_view about.opening.value };

@@ -90,7 +90,8 @@ impl<O: Kept> Book<O> {
         ensures same { IsSameSeat seat.old seat.new }
         ensures out { out seat.new ≡ out seat.old }
         ensures answered { IfOk result (λ reply. (before : List O.Entry) × (entry : O.Entry)
-            × IsSeatBehind (meanings O.fixed O.history O.lawful O.whose O.alone_entry) seat.old before
+            × IsSeatBehind (meanings O.fixed O.history O.lawful O.whose O.alone_entry) seat.old
+            before
             × (seen_history seat.new ≡ before ++ entry ∷ [])
             × (mine seat.new ≡ mine seat.old ++ entry ∷ [])
             × O.stands (O.fixed self.now.opening) before entry (who seat.old) call reply) }

@@ -23,7 +23,8 @@ impl<O: Kept> Book<O> {
         ensures fixed { O.fixed result ≡ O.fixed self.opening }
         ensures lawful { O.lawful (O.fixed self.opening) (O.history result) }
         ensures heads { AllByRecursion
-            (IsWholeSeat (meanings O.fixed O.history O.lawful O.whose O.alone_entry) (O.history result))
+            (IsWholeSeat (meanings O.fixed O.history O.lawful O.whose O.alone_entry)
+            (O.history result))
             heads.items }
     {
         let closer = self.join_heads(heads);
@@ -62,7 +63,8 @@ impl<O: Kept> Book<O> {
         requires copied { (closer.old.me.0.place ≡ idle_place)
             × (closer.old.me.0.right ≡ no_actor) }
         requires sound { (actor : Who)
-            × IsSoundSeat (meanings O.fixed O.history O.lawful O.whose O.alone_entry) actor head.me }
+            × IsSoundSeat (meanings O.fixed O.history O.lawful O.whose O.alone_entry) actor
+            head.me }
         requires head { (head.me.0.right.actor ≡ HOST) × (head.me.0.right.absent_actors ≡ []) }
         ensures chair { (closer.new.table_id ≡ closer.old.table_id)
             × (closer.new.id ≡ closer.old.id) }

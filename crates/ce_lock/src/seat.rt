@@ -49,7 +49,8 @@ impl<O: Kept> Seat<O> {
     pub(crate) fn into_chair(self) -> Chair<O>
         ensures chair { (result.table_id, result.me.0) ≡ self }
         ensures sound { (actor : Who)
-            × IsSoundSeat (meanings O.fixed O.history O.lawful O.whose O.alone_entry) actor result.me }
+            × IsSoundSeat (meanings O.fixed O.history O.lawful O.whose O.alone_entry) actor
+            result.me }
     {
         let Seat { who: _, chair } = self;
         chair

@@ -27,7 +27,7 @@ use Rattle.ce_solo.proofs.Projection.Views.{view-is}
 use Rattle.ce_solo.proofs.Projection.Invariant.{IsHeld, IsProjected}
 use Rattle.ce_solo.proofs.Projection.Own.{own_cube, stands}
 use Rattle.ce_solo.proofs.Projection.Law.{projected}
-use Rattle.ce_machine.proofs.NodeCalls.{IsNodeCall, says-node_call, IsHostCall, asked-host_call}
+use Rattle.ce_machine.proofs.NodeCalls.{IsNodeCall, says-node_call, IsHostCall, wish-host_call}
 
 -- ---- the places of a call
 
@@ -132,38 +132,38 @@ module _ (parts : MachineParts) (machine : IsMachine parts) (h : List Entry) (la
     -- ---- a call of it that fits
 
     module _ (actor : ℕ) (call : Call) (fits : IsCallOf parts h actor call cube) where
-      is_made : IsMadeCall own left_now (relative_number cube.grant.sub actor) (host_call_of fits.made) fits.made
+      is_made : IsMadeCall own left_now (relative_number cube.grant.sub actor) (host_call_of fits.inner) fits.inner
       is_made =
-          made own left_now (relative_number cube.grant.sub actor) (host_call_of fits.made) fits.made
-          (subst (λ t. actor_call own (opening own) t (relative_number cube.grant.sub actor) (host_call_of fits.made) ≡ Some fits.made)
+          made own left_now (relative_number cube.grant.sub actor) (host_call_of fits.inner) fits.inner
+          (subst (λ t. actor_call own (opening own) t (relative_number cube.grant.sub actor) (host_call_of fits.inner) ≡ Some fits.inner)
           (view-is h cube.number cube.grant was.behind was.found) fits.next)
 
       -- it names places of the cube
       pub call-places : HasPlacesOf cube.grant.dim call
-      call-places = subst (HasPlacesOf cube.grant.dim) fits.renamed (has-places (block_outward cube.grant) cube.grant.dim fits.made (by_made is_made))
+      call-places = subst (HasPlacesOf cube.grant.dim) fits.renamed (has-places (block_outward cube.grant) cube.grant.dim fits.inner (by_made is_made))
         where
-          by_made : IsMadeCall own left_now (relative_number cube.grant.sub actor) (host_call_of fits.made) fits.made → HasPlacesOf cube.grant.dim fits.made
-          by_made (by_host is e) = host-places cube.grant.dim fits.made (asked-host_call own left_now.hoststore (host_call_of fits.made) fits.made e)
+          by_made : IsMadeCall own left_now (relative_number cube.grant.sub actor) (host_call_of fits.inner) fits.inner → HasPlacesOf cube.grant.dim fits.inner
+          by_made (by_host is e) = host-places cube.grant.dim fits.inner (wish-host_call own left_now.hoststore (host_call_of fits.inner) fits.inner e)
           by_made (by_node below e) =
               let r = relative_number cube.grant.sub actor in
-              let said = made-leaves own left_now r fits.made own-is below (sound-now fits.not_drained) e in
-              node-places own (says (left_now.node r)).node fits.made (said.became.dim ∙ ((sound-now fits.not_drained).nodes r below).dim) said.of_node
+              let said = made-leaves own left_now r fits.inner own-is below (sound-now fits.not_drained) e in
+              node-places own (says (left_now.node r)).node fits.inner (said.became.dim ∙ ((sound-now fits.not_drained).nodes r below).dim) said.of_node
 
       -- of a host it is a call that a host can make
       pub host-call : (actor == HOST) ≡ true → IsHostCall cube.grant.dim call
-      host-call host = subst (IsHostCall cube.grant.dim) fits.renamed (host-renamed (block_outward cube.grant) cube.grant.dim fits.made (by_made is_made))
+      host-call host = subst (IsHostCall cube.grant.dim) fits.renamed (host-renamed (block_outward cube.grant) cube.grant.dim fits.inner (by_made is_made))
         where
-          by_made : IsMadeCall own left_now (relative_number cube.grant.sub actor) (host_call_of fits.made) fits.made → IsHostCall cube.grant.dim fits.made
-          by_made (by_host is e) = asked-host_call own left_now.hoststore (host_call_of fits.made) fits.made e
+          by_made : IsMadeCall own left_now (relative_number cube.grant.sub actor) (host_call_of fits.inner) fits.inner → IsHostCall cube.grant.dim fits.inner
+          by_made (by_host is e) = wish-host_call own left_now.hoststore (host_call_of fits.inner) fits.inner e
           by_made (by_node below e) =
               let is : relative_number cube.grant.sub actor ≡ HOST = ap (relative_number cube.grant.sub) (eqb-true actor HOST host) ∙ relative_host parts.dim cube.grant was.placed in
               absurd (omega (arith, is, not_host own _ own-is below))
 
       -- and of a node one that a node can make
       pub node-call : is_inside cube.grant.sub actor ≡ true → IsNodeCall call
-      node-call inside = subst IsNodeCall fits.renamed (node-renamed (block_outward cube.grant) fits.made (by_made is_made))
+      node-call inside = subst IsNodeCall fits.renamed (node-renamed (block_outward cube.grant) fits.inner (by_made is_made))
         where
-          by_made : IsMadeCall own left_now (relative_number cube.grant.sub actor) (host_call_of fits.made) fits.made → IsNodeCall fits.made
+          by_made : IsMadeCall own left_now (relative_number cube.grant.sub actor) (host_call_of fits.inner) fits.inner → IsNodeCall fits.inner
           by_made (by_host is e) =
               absurd (omega (
                 arith,

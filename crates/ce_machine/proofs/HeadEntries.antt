@@ -12,7 +12,7 @@ use Rattle.ce_model.specs.Blocks.{Block}
 use Rattle.ce_model.specs.Parcels as model
 use Rattle.ce_model.specs.Parcels.{item_parcels}
 use Rattle.ce_model.specs.Cube.{parcel_numbered}
-use Rattle.ce_model.specs.Node as node_model
+use Rattle.ce_model.specs.Node as model_node
 use Rattle.ce_model.specs.Node.{arm_call, look_call, mail_call}
 use Rattle.ce_model.specs.Trace.{NodeRecord, blank_record}
 use Rattle.ce_model.specs.Answers.{is_quiet_node, look_result_where, recorded_call}
@@ -67,7 +67,7 @@ module _ (m : SoundMachine) (who : Who) where
 
   module _ {N : Type 0} {home : N → ℕ} {clean : N → Type 0} where
     -- a call of a cube that leaves all desks as they are
-    still : {h' : List Entry} {call : Call N} (reply : Reply N) (what : What) (made : node_model.Call) → recorded_call what ≡ Some made → IsFittingCall home clean parts h who call
+    still : {h' : List Entry} {call : Call N} (reply : Reply N) (what : What) (made : model_node.Call) → recorded_call what ≡ Some made → IsFittingCall home clean parts h who call
         → what_of_request parts (after h) who.family who.actor (request_of call) ≡ Some what → ((node : ℕ) → (node == HOST) ≡ false → (now what).node_record node ≡ (after h).node_record node)
         → {hosts' : List HostRecord} {cube' : HeldCube} {host' : HostRecord} → IsSet hosts hosts' who.family host' → cube_held_by (now what) who.family ≡ Some cube' → host' ≡ cube_host (Some cube')
         → IsReplyTo home clean parts (after h) who.family who.actor what reply → h' ≡ h ++ entry_of who.family who.actor what ∷ []

@@ -216,6 +216,6 @@ host-good cube store (Some look_round) = tt
 host-good cube store (Some take_message) = tt
 
 -- what a host makes of what its user asks is a call that a host can make
-pub asked-host_call : (cube : Cube) (store : List BlockId) (wish : Option HostCall) (call : Call) → option_and_then (host_call cube store) wish ≡ Some call
+pub wish-host_call : (cube : Cube) (store : List BlockId) (wish : Option HostCall) (call : Call) → option_and_then (host_call cube store) wish ≡ Some call
     → IsHostCall cube.dim call
-asked-host_call cube store wish call e = subst (IfHostCall cube.dim) e (host-good cube store wish)
+wish-host_call cube store wish call e = subst (IfHostCall cube.dim) e (host-good cube store wish)

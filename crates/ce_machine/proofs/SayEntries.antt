@@ -15,7 +15,7 @@ use Rattle.ce_model.specs.Lists.{without_first}
 use Rattle.ce_model.specs.Parcels as model
 use Rattle.ce_model.specs.Parcels.{is_eligible, is_named_by, take_result_of}
 use Rattle.ce_model.specs.Cube.{parcel_numbered}
-use Rattle.ce_model.specs.Node as node_model
+use Rattle.ce_model.specs.Node as model_node
 use Rattle.ce_model.specs.Node.{take_call, spawn_call, kill_call, note_call}
 use Rattle.ce_model.specs.Trace.{Mark, NodeRecord, blank_record, taken_result, is_work, is_idle}
 use Rattle.ce_model.specs.Answers.{recorded_call, offer_of, is_among, kill_found}
@@ -185,7 +185,7 @@ module _ (m : SoundMachine) (who : Who) where
 
   module _ {N : Type 0} {home : N → ℕ} {clean : N → Type 0} where
     -- a call of a cube that leaves all hosts as they are
-    stays : {h' : List Entry} {call : Call N} (reply : Reply N) (what : What) (made : node_model.Call) → recorded_call what ≡ Some made → IsFittingCall home clean parts h who call
+    stays : {h' : List Entry} {call : Call N} (reply : Reply N) (what : What) (made : model_node.Call) → recorded_call what ≡ Some made → IsFittingCall home clean parts h who call
         → what_of_request parts (after h) who.family who.actor (request_of call) ≡ Some what → (cube : HeldCube) → cube_held_by (after h) who.family ≡ Some cube
         → {desks' : List NodeRecord} (change : ℕ → NodeRecord → NodeRecord) → AreChanged desks desks' change
         → ((node : ℕ) → (node == HOST) ≡ false → (now what).node_record node ≡ change node ((after h).node_record node))

@@ -90,16 +90,16 @@ alone_answer nodes standing actor (model.take_call asking dead poller) = refl
 alone_answer nodes standing actor other = refl
 
 -- an entry tells whether its request is made alone
-abbrev alone_some : Bool → Option What → Bool
-alone_some other None = other
-alone_some other (Some what) = is_alone_what what
+abbrev is_some_alone : Bool → Option What → Bool
+is_some_alone other None = other
+is_some_alone other (Some what) = is_alone_what what
 
 pub alone-answered : (parts : MachineParts) (state : MachineState) (user actor : ℕ) (request : Request) (what : What)
     → what_of_request parts state user actor request ≡ Some what → is_alone_what what ≡ is_alone request
-alone-answered parts state user actor (getcube d) what e = sym (ap (alone_some true) e)
-alone-answered parts state user actor peek what e = sym (ap (alone_some false) e)
-alone-answered parts state user actor drain what e = sym (ap (alone_some true) e)
-alone-answered parts state user actor freecube what e = sym (ap (alone_some true) e)
+alone-answered parts state user actor (getcube d) what e = sym (ap (is_some_alone true) e)
+alone-answered parts state user actor peek what e = sym (ap (is_some_alone false) e)
+alone-answered parts state user actor drain what e = sym (ap (is_some_alone true) e)
+alone-answered parts state user actor freecube what e = sym (ap (is_some_alone true) e)
 alone-answered parts state user actor (in_cube call) what e = by_held (cube_held_by state user) e
   where
     by_held : (held : Option HeldCube)
@@ -107,7 +107,7 @@ alone-answered parts state user actor (in_cube call) what e = by_held (cube_held
         → is_alone_what what ≡ false
     by_held None e = absurd (no_some what e)
     by_held (Some cube) e =
-        sym (ap (alone_some false) e) ∙ alone_answer (nodes_of cube.grant) (cube_standing state cube) actor (with_places_outward cube.grant call)
+        sym (ap (is_some_alone false) e) ∙ alone_answer (nodes_of cube.grant) (cube_standing state cube) actor (with_places_outward cube.grant call)
 
 -- ---- lawful histories
 

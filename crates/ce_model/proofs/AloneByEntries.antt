@@ -35,18 +35,18 @@ sent_back to bytes None call e = cc
 sent_back to bytes (Some id) call e = ap (option_and_then host_call_of) (sym e)
 
 -- a host's call tells what its user asked for
-pub asked_host_call-host_call : (cube : Cube) (store : List BlockId) (wishes : HostCall) (call : Call)
-    → host_call cube store wishes ≡ Some call → host_call_of call ≡ Some wishes
-asked_host_call-host_call cube store (send_bytes to bytes) call e =
+pub host_call-wish : (cube : Cube) (store : List BlockId) (wish : HostCall) (call : Call)
+    → host_call cube store wish ≡ Some call → host_call_of call ≡ Some wish
+host_call-wish cube store (send_bytes to bytes) call e =
     sent_back to bytes (slice_get store 0) call
     (chosen (is_place cube.dim to) (option_map (λ id. send_call 0 ((to, id) ∷ []) bytes) (slice_get store 0)) call e)
-asked_host_call-host_call cube store (start_image image to) call e =
+host_call-wish cube store (start_image image to) call e =
     ap (option_and_then host_call_of) (sym (chosen (is_place cube.dim to && nat_lt image (length cube.images)) (Some (spawn_call 0 image to)) call e))
-asked_host_call-host_call cube store (end_process to) call e =
+host_call-wish cube store (end_process to) call e =
     ap (option_and_then host_call_of) (sym (chosen (is_place cube.dim to) (Some (kill_call 0 to)) call e))
-asked_host_call-host_call cube store (allow count) call e = ap (option_and_then host_call_of) (sym e)
-asked_host_call-host_call cube store look_round call e = ap (option_and_then host_call_of) (sym e)
-asked_host_call-host_call cube store take_message call e = ap (option_and_then host_call_of) (sym e)
+host_call-wish cube store (allow count) call e = ap (option_and_then host_call_of) (sym e)
+host_call-wish cube store look_round call e = ap (option_and_then host_call_of) (sym e)
+host_call-wish cube store take_message call e = ap (option_and_then host_call_of) (sym e)
 
 -- ---- the next entry
 
@@ -61,32 +61,32 @@ unfolding next_entry
 none_of_host cube o t actor a = rw a refl
 
 -- what is known of an entry that is its actor's next one: the call that made it
-pub record IsMade (cube : Cube) (o : CubeState) (t : List Entry) (actor : ℕ) (wishes : Option HostCall) (entry : Entry) : Type 0 where
+pub record IsMade (cube : Cube) (o : CubeState) (t : List Entry) (actor : ℕ) (wish : Option HostCall) (entry : Entry) : Type 0 where
   pub call : Call
-  pub made : actor_call cube o t actor wishes ≡ Some call
+  pub made : actor_call cube o t actor wish ≡ Some call
   pub is : entry ≡ actor_entry cube o t actor call
 
-made_by : (cube : Cube) (o : CubeState) (t : List Entry) (actor : ℕ) (wishes : Option HostCall) (entry : Entry) (call : Option Call)
-    → actor_call cube o t actor wishes ≡ call → option_map (actor_entry cube o t actor) call ≡ Some entry → IsMade cube o t actor wishes entry
-made_by cube o t actor wishes entry None m e = cc
-made_by cube o t actor wishes entry (Some call) m e = record { call = call; made = m; is = ap (λ made. elim made [ None ↦ entry | Some x ↦ x ]) (sym e) }
+made_by : (cube : Cube) (o : CubeState) (t : List Entry) (actor : ℕ) (wish : Option HostCall) (entry : Entry) (call : Option Call)
+    → actor_call cube o t actor wish ≡ call → option_map (actor_entry cube o t actor) call ≡ Some entry → IsMade cube o t actor wish entry
+made_by cube o t actor wish entry None m e = cc
+made_by cube o t actor wish entry (Some call) m e = record { call = call; made = m; is = ap (λ made. elim made [ None ↦ entry | Some x ↦ x ]) (sym e) }
 
-pub is_made : (cube : Cube) (o : CubeState) (t : List Entry) (actor : ℕ) (wishes : Option HostCall) (entry : Entry)
-    → next_entry cube o t actor wishes ≡ Some entry → IsMade cube o t actor wishes entry
+pub is_made : (cube : Cube) (o : CubeState) (t : List Entry) (actor : ℕ) (wish : Option HostCall) (entry : Entry)
+    → next_entry cube o t actor wish ≡ Some entry → IsMade cube o t actor wish entry
 unfolding next_entry
-is_made cube o t actor wishes entry e = made_by cube o t actor wishes entry (actor_call cube o t actor wishes) refl e
+is_made cube o t actor wish entry e = made_by cube o t actor wish entry (actor_call cube o t actor wish) refl e
 
 -- the call that a host makes is the one of what is asked of it
-host_asked : (cube : Cube) (store : List BlockId) (wishes : Option HostCall) (call : Call)
-    → option_and_then (host_call cube store) wishes ≡ Some call → host_call_of call ≡ wishes
-host_asked cube store None call e = cc
-host_asked cube store (Some wishes) call e = asked_host_call-host_call cube store wishes call e
+host_wish : (cube : Cube) (store : List BlockId) (wish : Option HostCall) (call : Call)
+    → option_and_then (host_call cube store) wish ≡ Some call → host_call_of call ≡ wish
+host_wish cube store None call e = cc
+host_wish cube store (Some wish) call e = host_call-wish cube store wish call e
 
-asked_in_made : (cube : Cube) (o : CubeState) (t : List Entry) (actor : ℕ) (wishes : Option HostCall) (call : Call)
-    → (actor == HOST) ≡ true → actor_call cube o t actor wishes ≡ Some call → entry_host_call (actor_entry cube o t actor call) ≡ wishes
-asked_in_made cube o t actor wishes call a m =
+asked_in_made : (cube : Cube) (o : CubeState) (t : List Entry) (actor : ℕ) (wish : Option HostCall) (call : Call)
+    → (actor == HOST) ≡ true → actor_call cube o t actor wish ≡ Some call → entry_host_call (actor_entry cube o t actor call) ≡ wish
+asked_in_made cube o t actor wish call a m =
     rw (a, call_of-answer (node_numbers cube.dim) (standing o.standing t) actor call)
-    (host_asked cube (hoststore o t) wishes call (subst (λ b. (if b then option_and_then (host_call cube (hoststore o t)) wishes else
+    (host_wish cube (hoststore o t) wish call (subst (λ b. (if b then option_and_then (host_call cube (hoststore o t)) wish else
     (if is_node cube actor then Some (next_call cube o actor t) else None)) ≡ Some call) a m))
 
 -- ---- from entries to the schedule
@@ -103,17 +103,17 @@ solo_at t wishes = record { trace = t; calls_left = wishes }
 abbrev pub acts_more : Cube → CubeState → Option Solo → ℕ → Option Solo
 acts_more cube o now actor = option_and_then (λ solo. next_solo cube o solo actor) now
 
-host_acts : (cube : Cube) (o : CubeState) (t : List Entry) (entry : Entry) (wishes : Option HostCall) (others : List HostCall)
-    → (entry.actor == HOST) ≡ true → next_entry cube o t entry.actor wishes ≡ Some entry
-    → next_solo cube o (solo_at t (filter_map (λ (x : Option HostCall). x) (wishes ∷ []) ++ others)) entry.actor ≡ Some (solo_at (t ++ entry ∷ []) others)
+host_acts : (cube : Cube) (o : CubeState) (t : List Entry) (entry : Entry) (wish : Option HostCall) (others : List HostCall)
+    → (entry.actor == HOST) ≡ true → next_entry cube o t entry.actor wish ≡ Some entry
+    → next_solo cube o (solo_at t (filter_map (λ (x : Option HostCall). x) (wish ∷ []) ++ others)) entry.actor ≡ Some (solo_at (t ++ entry ∷ []) others)
 host_acts cube o t entry None others a e = let n = none_of_host cube o t entry.actor a in cc
 host_acts cube o t entry (Some call) others a e = rw (e, a) refl
 
-node_acts : (cube : Cube) (o : CubeState) (t : List Entry) (entry : Entry) (wishes : Option HostCall) (others : List HostCall)
-    → (entry.actor == HOST) ≡ false → next_entry cube o t entry.actor wishes ≡ Some entry
+node_acts : (cube : Cube) (o : CubeState) (t : List Entry) (entry : Entry) (wish : Option HostCall) (others : List HostCall)
+    → (entry.actor == HOST) ≡ false → next_entry cube o t entry.actor wish ≡ Some entry
     → next_solo cube o (solo_at t others) entry.actor ≡ Some (solo_at (t ++ entry ∷ []) others)
-node_acts cube o t entry wishes others a e =
-    rw (next_of_node cube o t entry.actor (slice_get others 0) wishes a, e, a) refl
+node_acts cube o t entry wish others a e =
+    rw (next_of_node cube o t entry.actor (slice_get others 0) wish a, e, a) refl
 
 -- what is asked of the host in the first entry stands before what is asked later
 asked_first : (entry : Entry) (behind : List Entry) (more : List HostCall)

@@ -7,7 +7,7 @@ abbrev pub without_first : {X : Type 0} → (X → Bool) → List X → List X
 without_first test [] = []
 without_first test (x ∷ xs) = if test x then xs else x ∷ without_first test xs
 
--- what comes of a state when a list is walked from its front, each step seeing the members before its own
+-- what comes of a state when a list is walked from its front, each member seen with those before it
 abbrev pub fold_behind : {S X : Type 0} → (List X → S → X → S) → List X → S → List X → S
 fold_behind next before state [] = state
 fold_behind next before state (x ∷ behind) = fold_behind next (before ++ x ∷ []) (next before state x) behind

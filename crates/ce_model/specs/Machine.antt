@@ -239,11 +239,11 @@ IsCallWithinLimits other = Unit {0}
 -- the call is, with the machine's names for blocks, the one that an actor of this cube makes next after the cube's own entries: a node the one
 -- that it says, and a host one that its user may ask for
 pub record IsCallOf (parts : MachineParts) (history : List Entry) (actor : ℕ) (call : Call) (cube : HeldCube) : Type 0 where
-  pub made : Call
+  pub inner : Call
   pub inside : IsTrue (actor == HOST) ⊎ IsTrue (is_inside cube.grant.sub actor)
   pub next : actor_call (cube_of parts.images cube.grant) (opening (cube_of parts.images cube.grant)) (view history cube.number)
-      (relative_number cube.grant.sub actor) (host_call_of made) ≡ Some made
-  pub renamed : renamed_call_blocks (block_outward cube.grant) made ≡ call
+      (relative_number cube.grant.sub actor) (host_call_of inner) ≡ Some inner
+  pub renamed : renamed_call_blocks (block_outward cube.grant) inner ≡ call
   pub within : IsTrue (actor == HOST) → IsCallWithinLimits call
   pub not_drained : cube.is_drained ≡ false
 

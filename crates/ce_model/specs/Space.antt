@@ -5,7 +5,7 @@ use Rattle.rv_model.specs.declared.stop.Stop.TheVariants.{Misaligned, Unmapped, 
 use Rattle.rv_model.specs.Exec.{Access}
 use Rattle.rv_model.specs.LittleEndian.{number_at, with_number_at}
 use Rattle.rv_model.specs.Private.{is_private, word_at_pc}
-use Rattle.rv_model.specs.declared.limits.TheConstants.{PRIVATE_START}
+use Rattle.rv_model.specs.declared.limits.TheConstants.{PRIVATE_START, WORD_SIZE}
 use Rattle.rv_model.specs.Word.{wrapping_sum}
 use Rattle.ce_model.specs.declared.topology.Place.{Place}
 use Rattle.ce_model.specs.declared.topology.BlockId.{BlockId}
@@ -127,10 +127,10 @@ and_then (Err cause) f = Err cause
 -- a place: a word for the node, and behind it one for the process id
 abbrev pub memory_place : Space → ℕ → Result Place Stop
 memory_place space a =
-    and_then (loaded_at space a 4) (λ node. result_map (λ pid. record { node = node; pid = pid }) (loaded_at space (wrapping_sum a 4) 4))
+    and_then (loaded_at space a WORD_SIZE) (λ node. result_map (λ pid. record { node = node; pid = pid }) (loaded_at space (wrapping_sum a WORD_SIZE) WORD_SIZE))
 
 -- so many places, one behind the other, or why a word of theirs can't be read
 abbrev pub places_at : Space → ℕ → ℕ → Result (List Place) Stop
 places_at space a zero = Ok []
 places_at space a (suc count) =
-    and_then (memory_place space a) (λ place. result_map (λ places. place ∷ places) (places_at space (wrapping_sum a 8) count))
+    and_then (memory_place space a) (λ place. result_map (λ places. place ∷ places) (places_at space (wrapping_sum a (2 * WORD_SIZE)) count))

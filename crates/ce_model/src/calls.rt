@@ -1,6 +1,6 @@
 //! The calls of the kernel by their numbers (docs/SCRIPT.md, "Kernel calls and turns").
 
-/// The argument that is a call's number: a7, the eighth behind a0 with it.
+/// The argument that is a call's number: it is in a7, where a0 has argument 0.
 pub const NUMBER_ARGUMENT: u32 = 7;
 
 /// A block of so many bytes is mapped.

@@ -207,29 +207,29 @@ module _ (kind : RoundKind) (parts : MachineParts) (history : List Entry) (user 
 
     module _ (call : Call) (fits : IsCallOf parts history HOST call cube) where
       -- the host's user has it made
-      by_user : option_and_then (host_call own (hoststore (opening own) t)) (host_call_of fits.made) ≡ Some fits.made
+      by_user : option_and_then (host_call own (hoststore (opening own) t)) (host_call_of fits.inner) ≡ Some fits.inner
       by_user =
-          subst (λ actor. actor_call own (opening own) t actor (host_call_of fits.made) ≡ Some fits.made) (relative_host parts.dim cube.grant placed) fits.next
+          subst (λ actor. actor_call own (opening own) t actor (host_call_of fits.inner) ≡ Some fits.inner) (relative_host parts.dim cube.grant placed) fits.next
 
-      within : IsCallWithin cube.grant.dim fits.made
+      within : IsCallWithin cube.grant.dim fits.inner
       within =
           let was = before.held user cube holds in
           let left = state_after_trace own (opening own) (trace_behind cube.grant was.behind) in
-          let says = subst (λ t. actor_call own (opening own) t (relative_number cube.grant.sub HOST) (host_call_of fits.made) ≡ Some fits.made)
+          let says = subst (λ t. actor_call own (opening own) t (relative_number cube.grant.sub HOST) (host_call_of fits.inner) ≡ Some fits.inner)
           (view-is history cube.number cube.grant was.behind was.found) fits.next in
           made-within own left (own_cube parts cube.grant machine was.placed)
           (stands parts machine (after history) history cube was fits.not_drained (before.views cube.number cube.grant was.behind was.found).alone).sound
-          (relative_number cube.grant.sub HOST) (host_call_of fits.made) fits.made (made own left (relative_number cube.grant.sub HOST) (host_call_of fits.made) fits.made says)
+          (relative_number cube.grant.sub HOST) (host_call_of fits.inner) fits.inner (made own left (relative_number cube.grant.sub HOST) (host_call_of fits.inner) fits.inner says)
 
     spawn_fits : (image : ℕ) (to : Place) → IsCallOf parts history HOST (spawn_call 0 image to) cube → is_place cube.grant.dim to ≡ true
     spawn_fits image to fits =
-        let is = spawn_is (block_outward cube.grant) image to fits.made fits.renamed in
+        let is = spawn_is (block_outward cube.grant) image to fits.inner fits.renamed in
         let says = subst (λ made. option_and_then (host_call own (hoststore (opening own) t)) (host_call_of made) ≡ Some made) is (by_user (spawn_call 0 image to) fits) in
         (and_parts _ _ (if_some (is_place cube.grant.dim to && nat_lt image (length parts.images)) _ _ says).0).0
 
     kill_fits : (to : Place) → IsCallOf parts history HOST (kill_call 0 to) cube → is_place cube.grant.dim to ≡ true
     kill_fits to fits =
-        let is = kill_is (block_outward cube.grant) to fits.made fits.renamed in
+        let is = kill_is (block_outward cube.grant) to fits.inner fits.renamed in
         let says = subst (λ made. option_and_then (host_call own (hoststore (opening own) t)) (host_call_of made) ≡ Some made) is (by_user (kill_call 0 to) fits) in
         (if_some (is_place cube.grant.dim to) _ _ says).0
 
@@ -245,7 +245,7 @@ module _ (kind : RoundKind) (parts : MachineParts) (history : List Entry) (user 
     send_fits : (id : BlockId) (to : Place) (bytes : List ℕ) → IsCallOf parts history HOST (send_call 0 ((to, id) ∷ []) bytes) cube → IsSent id to
     send_fits id to bytes fits =
         let call = send_call 0 ((to, id) ∷ []) bytes in
-        let m = send_is (block_outward cube.grant) id to bytes fits.made fits.renamed in
+        let m = send_is (block_outward cube.grant) id to bytes fits.inner fits.renamed in
         let says = subst (λ made. option_and_then (host_call own (hoststore (opening own) t)) (host_call_of made) ≡ Some made) m.is (by_user call fits) in
         let parts = if_some (is_place cube.grant.dim to) _ _ says in
         let first = least (hoststore (opening own) t) to m.block bytes parts.1 in

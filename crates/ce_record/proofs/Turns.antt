@@ -9,14 +9,14 @@ use Rattle.ce_model.specs.declared.entry.What.TheVariants.{Send, Spawn, Kill}
 use Rattle.ce_model.specs.Trace.{is_work}
 use Rattle.ce_model.specs.Renaming.{entry_inward}
 use Rattle.ce_solo.proofs.Projection.Kinds.{entry_of}
-use Rattle.ce_script.specs.Rounds.{take_result_of, joined_lists, has_work}
+use Rattle.ce_script.specs.Rounds.{entry_take_result, joined_lists, has_work}
 
 pub joined-map : (f : Entry → Entry) (lists : List (List Entry)) → map f (joined_lists lists) ≡ joined_lists (map (map f) lists)
 joined-map f [] = refl
 joined-map f (list ∷ lists) = map-append f list (joined_lists lists) ∙ ap (λ more. map f list ++ more) (joined-map f lists)
 
 -- what a node is given is the same to its cube
-given-inward : (sub : Subcube) (user actor : ℕ) (what : What) → take_result_of (entry_inward sub (entry_of user actor what)) ≡ take_result_of (entry_of user actor what)
+given-inward : (sub : Subcube) (user actor : ℕ) (what : What) → entry_take_result (entry_inward sub (entry_of user actor what)) ≡ entry_take_result (entry_of user actor what)
 given-inward sub user actor (Send pid first to bytes) = refl
 given-inward sub user actor (Spawn pid image to fresh) = refl
 given-inward sub user actor (Kill pid to found) = refl

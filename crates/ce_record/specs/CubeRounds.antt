@@ -21,16 +21,16 @@ pub record IsRoundOf (kind : RoundKind) (user : ℕ) (grant : CubeGrant) (work :
   pub works : has_work round ≡ work
 
 -- `run` in a user's cube: dispatches are allowed, then come rounds up to the first without work, then a look that finds this
-pub record IsRunOf (kind : RoundKind) (user : ℕ) (grant : CubeGrant) (count : ℕ) (found : LookResult) (made : List Entry) : Type 0 where
+pub record IsRunOf (kind : RoundKind) (user : ℕ) (grant : CubeGrant) (count : ℕ) (found : LookResult) (new_entries : List Entry) : Type 0 where
   pub rounds : List (List Entry)
   pub last : List Entry
   pub with_work : AllByRecursion (IsRoundOf kind user grant true) rounds
   pub without_work : IsRoundOf kind user grant false last
-  pub entries : made ≡ of_host user (Arm count) ∷ (joined_lists rounds ++ (last ++ of_host user (Look found) ∷ []))
+  pub entries : new_entries ≡ of_host user (Arm count) ∷ (joined_lists rounds ++ (last ++ of_host user (Look found) ∷ []))
 
 -- `recv` in a user's cube: dispatches are allowed, then the host looks for a message, with a round between each two looks, up to this end
-pub record IsRecvOf (kind : RoundKind) (user : ℕ) (grant : CubeGrant) (count : ℕ) (end : RecvEnd) (made : List Entry) : Type 0 where
+pub record IsRecvOf (kind : RoundKind) (user : ℕ) (grant : CubeGrant) (count : ℕ) (end : RecvEnd) (new_entries : List Entry) : Type 0 where
   pub rounds : List (List Entry)
   pub with_work : AllByRecursion (IsRoundOf kind user grant true) rounds
   pub without_work : AllByRecursion (IsRoundOf kind user grant false) (end_rounds end)
-  pub entries : made ≡ of_host user (Arm count) ∷ (flat_map (λ round. host_take user None ∷ round) rounds ++ end_entries user end)
+  pub entries : new_entries ≡ of_host user (Arm count) ∷ (flat_map (λ round. host_take user None ∷ round) rounds ++ end_entries user end)

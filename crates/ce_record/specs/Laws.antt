@@ -59,9 +59,9 @@ RunBegins = (kind : RoundKind) (machine : MachineParts) → IsRunSoFar kind mach
 -- a run goes on by one command of one user
 abbrev pub RunGoesOn : Type 0
 RunGoesOn = (kind : RoundKind) (machine : MachineParts) (history : List Entry) (all : List (ℕ × Doing)) (user : ℕ) (command : Command) (answer : Answer)
-    (made : List Entry) → IsMachine machine → IsLawful machine history → IsRunSoFar kind machine history all
-    → IsNextCommand kind machine history user command answer made
-    → IsRunSoFar kind machine (history ++ made) (all ++ (user, doing_behind history command answer made) ∷ [])
+    (new_entries : List Entry) → IsMachine machine → IsLawful machine history → IsRunSoFar kind machine history all
+    → IsNextCommand kind machine history user command answer new_entries
+    → IsRunSoFar kind machine (history ++ new_entries) (all ++ (user, doing_behind history command answer new_entries) ∷ [])
 
 -- at first no user was answered
 abbrev pub RepliesBegin : Type 0
@@ -88,9 +88,9 @@ UserWaits = (kind : RoundKind) (machine : MachineParts) (user : ℕ) (history ot
 -- wants a cube must do and answer depends on its own entries and its cube's trace alone; a getcube and a peek look at the machine, so of them
 -- the history goes on by just their own entries.
 abbrev pub UserGoesOn : Type 0
-UserGoesOn = (kind : RoundKind) (machine : MachineParts) (user : ℕ) (history between made : List Entry) (doings : List Doing) (command : Command) (answer : Answer)
+UserGoesOn = (kind : RoundKind) (machine : MachineParts) (user : ℕ) (history between new_entries : List Entry) (doings : List Doing) (command : Command) (answer : Answer)
     → IsMachine machine → IsLawful machine history → HasDoneSoFar kind machine user history doings
-    → IsNextCommand kind machine history user command answer made → own_entries user between ≡ made → (between ≡ made) ⊎ IsTrue (wants_cube command)
+    → IsNextCommand kind machine history user command answer new_entries → own_entries user between ≡ new_entries → (between ≡ new_entries) ⊎ IsTrue (wants_cube command)
     → HasDoneSoFar kind machine user (history ++ between) (doings ++ doing_amid user history command answer between ∷ [])
 
 -- ---- the whole script
@@ -195,18 +195,18 @@ OfCube P = OfHolder (λ parts history user cube. IsMachine parts → IsLawful pa
 
 -- calls of the cube make its trace longer
 abbrev pub TraceGoesOn : Type 0
-TraceGoesOn = OfCube (λ parts history user cube. (made : List Entry) → AllByRecursion (IsCallBy user) made
-    → view (history ++ made) cube.number ≡ view history cube.number ++ map (entry_inward cube.grant.sub) made)
+TraceGoesOn = OfCube (λ parts history user cube. (new_entries : List Entry) → AllByRecursion (IsCallBy user) new_entries
+    → view (history ++ new_entries) cube.number ≡ view history cube.number ++ map (entry_inward cube.grant.sub) new_entries)
 
 -- and behind them it is held still
 abbrev pub CubeStays : Type 0
-CubeStays = OfCube (λ parts history user cube. (made : List Entry) → AllByRecursion (IsCallBy user) made
-    → IsSomeAnd (cube_held_by (after (history ++ made)) user) (λ now. (now.number ≡ cube.number) × (now.grant ≡ cube.grant) × (now.is_drained ≡ false)))
+CubeStays = OfCube (λ parts history user cube. (new_entries : List Entry) → AllByRecursion (IsCallBy user) new_entries
+    → IsSomeAnd (cube_held_by (after (history ++ new_entries)) user) (λ now. (now.number ≡ cube.number) × (now.grant ≡ cube.grant) × (now.is_drained ≡ false)))
 
 -- a run is answered by what its look finds, where behind its own entries no turn is open
 abbrev pub RunIsNext : Type 0
-RunIsNext = (kind : RoundKind) → OfCube (λ parts history user cube. (count : ℕ) (found : LookResult) (answer : Answer) (made : List Entry) → IsRunOf kind user cube.grant count found made
-    → run_reply found ≡ Some answer → AreTurnsOverIn parts (history ++ made) cube → IsNextCommand kind parts history user (Run count) answer made)
+RunIsNext = (kind : RoundKind) → OfCube (λ parts history user cube. (count : ℕ) (found : LookResult) (answer : Answer) (new_entries : List Entry) → IsRunOf kind user cube.grant count found new_entries
+    → run_reply found ≡ Some answer → AreTurnsOverIn parts (history ++ new_entries) cube → IsNextCommand kind parts history user (Run count) answer new_entries)
 
 -- all that was sent to the cube's host
 abbrev pub sent_to_host : MachineParts → HeldCube → List Entry → List Item
@@ -214,9 +214,9 @@ sent_to_host parts cube trace = sent_items (opening (cube_in parts cube)).standi
 
 -- a recv is answered with the message that it takes, or by what its look finds, where behind its own entries no turn is open
 abbrev pub RecvIsNext : Type 0
-RecvIsNext = (kind : RoundKind) → OfCube (λ parts history user cube. (count : ℕ) (end : RecvEnd) (answer : Answer) (made : List Entry) → IsRecvOf kind user cube.grant count end made
-    → recv_reply (sent_to_host parts cube (view (history ++ made) cube.number)) end ≡ Some answer → AreTurnsOverIn parts (history ++ made) cube
-    → IsNextCommand kind parts history user (Recv count) answer made)
+RecvIsNext = (kind : RoundKind) → OfCube (λ parts history user cube. (count : ℕ) (end : RecvEnd) (answer : Answer) (new_entries : List Entry) → IsRecvOf kind user cube.grant count end new_entries
+    → recv_reply (sent_to_host parts cube (view (history ++ new_entries) cube.number)) end ≡ Some answer → AreTurnsOverIn parts (history ++ new_entries) cube
+    → IsNextCommand kind parts history user (Recv count) answer new_entries)
 
 -- what the machine keeps for the host is what was sent to it, whatever is sent later
 abbrev pub MessageIsSent : Type 0

@@ -26,7 +26,7 @@ pub record IsRunSoFar (kind : RoundKind) (machine : MachineParts) (history : Lis
 
 -- a command with its answer that makes these entries behind a history
 abbrev pub doing_behind : List Entry → Command → Answer → List Entry → Doing
-doing_behind history command answer made = record { command = command; answer = answer; moments = later_moments history made }
+doing_behind history command answer new_entries = record { command = command; answer = answer; moments = later_moments history new_entries }
 
 -- a getcube of who holds this is refused exactly where it must be
 abbrev pub IsRefusedWhere : MachineParts → Option Holding → Doing → Type 0
@@ -36,10 +36,10 @@ IsRefusedWhere machine holds doing = elim doing.command [
 ]
 
 -- Behind a history a command of a user has this answer and makes these entries, as it must by what the user holds.
-pub record IsNextCommand (kind : RoundKind) (machine : MachineParts) (history : List Entry) (user : ℕ) (command : Command) (answer : Answer) (made : List Entry) : Type 0 where
-  pub own : AllByRecursion (λ entry. entry.user ≡ user) made
-  pub does : IsCommand kind machine user (held_now history user) command answer (later_moments history made)
-  pub refused : IsRefusedWhere machine (held_now history user) (doing_behind history command answer made)
+pub record IsNextCommand (kind : RoundKind) (machine : MachineParts) (history : List Entry) (user : ℕ) (command : Command) (answer : Answer) (new_entries : List Entry) : Type 0 where
+  pub own : AllByRecursion (λ entry. entry.user ≡ user) new_entries
+  pub does : IsCommand kind machine user (held_now history user) command answer (later_moments history new_entries)
+  pub refused : IsRefusedWhere machine (held_now history user) (doing_behind history command answer new_entries)
 
 -- ---- the whole script
 

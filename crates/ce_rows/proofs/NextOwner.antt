@@ -29,7 +29,7 @@ next_owner-entries = (
   record { fits = (lit< tt, (refl, lit≤ tt, refl)); answer = refl },
   (
     record {
-      fits = (lit< tt, record { made = send_call 0 ((place_0, block 256 0) ∷ []) first_bytes; inside = inl refl; next = refl; renamed = refl; within = λ host. lit≤ tt; not_drained = refl });
+      fits = (lit< tt, record { inner = send_call 0 ((place_0, block 256 0) ∷ []) first_bytes; inside = inl refl; next = refl; renamed = refl; within = λ host. lit≤ tt; not_drained = refl });
       answer = refl;
     },
     (
@@ -40,7 +40,7 @@ next_owner-entries = (
           record { fits = (lit< tt, (refl, lit≤ tt, refl)); answer = refl },
           (
             record {
-              fits = (lit< tt, record { made = take_call 0 0 None; inside = inr refl; next = rw asks refl; renamed = refl; within = λ host. tt; not_drained = refl });
+              fits = (lit< tt, record { inner = take_call 0 0 None; inside = inr refl; next = rw asks refl; renamed = refl; within = λ host. tt; not_drained = refl });
               answer = refl;
             },
             tt,

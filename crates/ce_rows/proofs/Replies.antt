@@ -23,31 +23,31 @@ replies-entries = (
     (
       record { fits = (lit< tt, (refl, lit≤ tt, refl)); answer = refl },
       (
-        record { fits = (lit< tt, record { made = look_call; inside = inl refl; next = refl; renamed = refl; within = λ host. tt; not_drained = refl }); answer = refl },
+        record { fits = (lit< tt, record { inner = look_call; inside = inl refl; next = refl; renamed = refl; within = λ host. tt; not_drained = refl }); answer = refl },
         (
-          record { fits = (lit< tt, record { made = kill_call 0 place_0; inside = inl refl; next = refl; renamed = refl; within = λ host. tt; not_drained = refl }); answer = refl },
+          record { fits = (lit< tt, record { inner = kill_call 0 place_0; inside = inl refl; next = refl; renamed = refl; within = λ host. tt; not_drained = refl }); answer = refl },
           (
-            record { fits = (lit< tt, record { made = spawn_call 0 0 place_0; inside = inl refl; next = refl; renamed = refl; within = λ host. tt; not_drained = refl }); answer = refl },
+            record { fits = (lit< tt, record { inner = spawn_call 0 0 place_0; inside = inl refl; next = refl; renamed = refl; within = λ host. tt; not_drained = refl }); answer = refl },
             (
-              record { fits = (lit< tt, record { made = spawn_call 0 0 place_0; inside = inl refl; next = refl; renamed = refl; within = λ host. tt; not_drained = refl }); answer = refl },
+              record { fits = (lit< tt, record { inner = spawn_call 0 0 place_0; inside = inl refl; next = refl; renamed = refl; within = λ host. tt; not_drained = refl }); answer = refl },
               (
-                record { fits = (lit< tt, record { made = look_call; inside = inl refl; next = refl; renamed = refl; within = λ host. tt; not_drained = refl }); answer = refl },
+                record { fits = (lit< tt, record { inner = look_call; inside = inl refl; next = refl; renamed = refl; within = λ host. tt; not_drained = refl }); answer = refl },
                 (
-                  record { fits = (lit< tt, record { made = take_call 0 0 None; inside = inr refl; next = refl; renamed = refl; within = λ host. tt; not_drained = refl }); answer = refl },
+                  record { fits = (lit< tt, record { inner = take_call 0 0 None; inside = inr refl; next = refl; renamed = refl; within = λ host. tt; not_drained = refl }); answer = refl },
                   (
-                    record { fits = (lit< tt, record { made = arm_call 3; inside = inl refl; next = refl; renamed = refl; within = λ host. lit≤ tt; not_drained = refl }); answer = refl },
+                    record { fits = (lit< tt, record { inner = arm_call 3; inside = inl refl; next = refl; renamed = refl; within = λ host. lit≤ tt; not_drained = refl }); answer = refl },
                     (
-                      record { fits = (lit< tt, record { made = look_call; inside = inl refl; next = refl; renamed = refl; within = λ host. tt; not_drained = refl }); answer = refl },
+                      record { fits = (lit< tt, record { inner = look_call; inside = inl refl; next = refl; renamed = refl; within = λ host. tt; not_drained = refl }); answer = refl },
                       (
-                        record { fits = (lit< tt, record { made = kill_call 0 place_0; inside = inl refl; next = refl; renamed = refl; within = λ host. tt; not_drained = refl }); answer = refl },
+                        record { fits = (lit< tt, record { inner = kill_call 0 place_0; inside = inl refl; next = refl; renamed = refl; within = λ host. tt; not_drained = refl }); answer = refl },
                         (
-                          record { fits = (lit< tt, record { made = kill_call 0 place_0; inside = inl refl; next = refl; renamed = refl; within = λ host. tt; not_drained = refl }); answer = refl },
+                          record { fits = (lit< tt, record { inner = kill_call 0 place_0; inside = inl refl; next = refl; renamed = refl; within = λ host. tt; not_drained = refl }); answer = refl },
                           (
                             record {
-                              fits = (lit< tt, record { made = send_call 0 ((place_0, block 256 0) ∷ []) first_bytes; inside = inl refl; next = refl; renamed = refl; within = λ host. lit≤ tt; not_drained = refl });
+                              fits = (lit< tt, record { inner = send_call 0 ((place_0, block 256 0) ∷ []) first_bytes; inside = inl refl; next = refl; renamed = refl; within = λ host. lit≤ tt; not_drained = refl });
                               answer = refl;
                             },
-                            (record { fits = (lit< tt, record { made = mail_call; inside = inl refl; next = refl; renamed = refl; within = λ host. tt; not_drained = refl }); answer = refl }, (record { fits = (lit< tt, record { made = take_call 0 0 None; inside = inr refl; next = refl; renamed = refl; within = λ host. tt; not_drained = refl }); answer = refl }, (record { fits = (lit< tt, (refl, refl)); answer = refl }, tt))),
+                            (record { fits = (lit< tt, record { inner = mail_call; inside = inl refl; next = refl; renamed = refl; within = λ host. tt; not_drained = refl }); answer = refl }, (record { fits = (lit< tt, record { inner = take_call 0 0 None; inside = inr refl; next = refl; renamed = refl; within = λ host. tt; not_drained = refl }); answer = refl }, (record { fits = (lit< tt, (refl, refl)); answer = refl }, tt))),
                           ),
                         ),
                       ),

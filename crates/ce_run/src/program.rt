@@ -183,7 +183,7 @@ fn write_text<K: Sink>(kept: Record, text: Vec<u8>, sink: &mut K) -> RunEnd
 {
     let (status, fault) = match write_all(sink, text.as_slice()) {
         Ok(()) => (0, None),
-        Err(_) => (5, Some(RunFault::Write)),
+        Err(_) => (RunFault::Write.status(), Some(RunFault::Write)),
     };
     RunEnd {
         status,

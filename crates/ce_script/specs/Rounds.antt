@@ -17,15 +17,15 @@ pub data RoundKind : Type 0 where
 -- ---- turns
 
 -- what a node is given, where the entry is a Take
-abbrev pub take_result_of : Entry → Option TakeResult
-take_result_of entry = elim entry.what [ Take asking dead poller given ↦ Some given | other ↦ None ]
+abbrev pub entry_take_result : Entry → Option TakeResult
+entry_take_result entry = elim entry.what [ Take asking dead poller given ↦ Some given | other ↦ None ]
 
 abbrev pub is_take : Entry → Bool
-is_take entry = is_some (take_result_of entry)
+is_take entry = is_some (entry_take_result entry)
 
 -- the entry is a Take that gives work
 abbrev pub is_dispatch : Entry → Bool
-is_dispatch entry = option_map_or is_work (take_result_of entry) false
+is_dispatch entry = option_map_or is_work (entry_take_result entry) false
 
 -- a Take of node r, and the entries of the turn behind it
 abbrev pub IsTurn : ℕ → List Entry → Type 0

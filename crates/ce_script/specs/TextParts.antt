@@ -2,7 +2,7 @@
 use Rattle.std.specs.Prelude.{ℕ, List, [], ◌∷◌, ◌++◌, codes, decimal, ◌==◌, if◌then◌else◌, option_map, unwrap_or, slice_get}
 use Rattle.std.specs.List.{join_with_byte}
 use Rattle.std.specs.Int.{bytes_high_first}
-use Rattle.ce_text.specs.Bytes.{line_feed}
+use Rattle.ce_text.specs.Bytes.{line_feed, space}
 use Rattle.hex.specs.Hex.{encode_lower}
 use Rattle.ce_model.specs.declared.topology.TheConstants.{HOST}
 use Rattle.ce_model.specs.declared.topology.Place.{Place}
@@ -14,7 +14,7 @@ use Rattle.ce_script.specs.declared.script.Script.{Script}
 
 -- words, with one space between each two
 abbrev pub joined_words : List (List ℕ) → List ℕ
-joined_words pieces = join_with_byte 32 pieces
+joined_words pieces = join_with_byte space pieces
 
 -- a line of words
 abbrev pub line : List (List ℕ) → List ℕ

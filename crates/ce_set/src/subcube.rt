@@ -56,7 +56,8 @@ pub fn first_free(free: NodeSet, dim: u32, d: u32) -> Option<Subcube>
 fn first_with(free: NodeSet, mask: u32) -> Option<Subcube>
     requires { mask < 2 ^ greatest_dim }
     ensures { (dim : ℕ) → free.0 < 2 ^ 2 ^ dim → result
-        ≡ find (are_all_nodes (has_node free) (ones_of greatest_dim mask)) (with_mask (2 ^ dim) mask) }
+        ≡ find (are_all_nodes (has_node free) (ones_of greatest_dim mask))
+        (with_mask (2 ^ dim) mask) }
 {
     let bases = bases_within(free.0, mask);
     if bases == 0 {

@@ -16,7 +16,7 @@ use Rattle.ce_model.specs.Cube.{Cube, CubeState, IsCube, HostCall, host_call, ho
 use Rattle.ce_model.specs.Sound.{IsSound}
 use Rattle.ce_model.proofs.Walked.{kept_by_each, each_of_front}
 use Rattle.ce_model.proofs.OneMore.{taken_for, is_untaken, spawned-more, killed-more, armed-more, dispatched-more, mark-more, parcel_count-more, taken_results-stays, taken_results-more, waiting-stays, waiting-taken, state-more, hoststore-more}
-use Rattle.ce_model.proofs.AloneByEntries.{asked_host_call-host_call, is_made, entries_of_alone}
+use Rattle.ce_model.proofs.AloneByEntries.{host_call-wish, is_made, entries_of_alone}
 use Rattle.ce_solo.proofs.Lists.{all-append, all-weaker, filter-kept, appended, appended-is}
 use Rattle.ce_solo.proofs.Records.{kept_with}
 use Rattle.ce_solo.proofs.Entries.{waiting_after, state_after, entry_in}
@@ -34,11 +34,11 @@ taken_result-of actor r what given e = by_test (actor == r) refl e
 
 asked_call : (cube : Cube) (s : CubeState) (wish : Option HostCall) (call : Call) → option_and_then (host_call cube s.hoststore) wish ≡ Some call → host_call_of call ≡ wish
 asked_call cube s None call e = absurd (cc)
-asked_call cube s (Some wish) call e = asked_host_call-host_call cube s.hoststore wish call e
+asked_call cube s (Some wish) call e = host_call-wish cube s.hoststore wish call e
 
 pub no_take : (cube : Cube) (s : CubeState) (wish : Option HostCall) (call : Call) → host_call_of call ≡ None → option_and_then (host_call cube s.hoststore) wish ≡ Some call → ⊥
 no_take cube s None call none e = cc
-no_take cube s (Some wish) call none e = let is = asked_host_call-host_call cube s.hoststore wish call e in cc
+no_take cube s (Some wish) call none e = let is = host_call-wish cube s.hoststore wish call e in cc
 
 module _ (cube : Cube) (s : CubeState) (of : IsCube cube) (sound : IsSound cube s) where
   abbrev sent : ℕ

@@ -1,5 +1,6 @@
 //! A user's commands.
 ghost use Rattle.std.specs.Prelude.{◌≡◌, ◌∷◌, ◌++◌, OnOk, decimal};
+ghost use Rattle.ce_text.specs.Bytes.{space};
 ghost use Rattle.ce_script.specs.TextParts.{joined_words};
 ghost use Rattle.ce_script.specs.Verbs.{verb_word};
 ghost use Rattle.ce_script.specs.CommandText.{command_words, place_words};
@@ -54,7 +55,7 @@ fn push_verb(text: &mut Vec<u8>, verb: Verb) -> Result<(), AllocError>
 /// A verb with a number.
 fn push_numbered(text: &mut Vec<u8>, verb: Verb, number: u32) -> Result<(), AllocError>
     ensures { OnOk result
-        (text.new.items ≡ text.old.items ++ (verb_word verb ++ (32 ∷ decimal number))) }
+        (text.new.items ≡ text.old.items ++ (verb_word verb ++ (space ∷ decimal number))) }
 {
     push_verb(text, verb)?;
     push_number(text, u64::from(number))

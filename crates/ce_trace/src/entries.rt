@@ -212,7 +212,7 @@ fn push_kill_found(text: &mut Vec<u8>, found: KillFound) -> Result<(), AllocErro
 
 /// The places that a message goes to, each with the block that carries it there; with a space before them.
 fn push_targets(text: &mut Vec<u8>, sub: Subcube, to: &[(Place, BlockId)]) -> Result<(), AllocError>
-    ensures { OnOk result (text.new.items ≡ text.old.items ++ (32
+    ensures { OnOk result (text.new.items ≡ text.old.items ++ (space
         ∷ targets_text (renamed_targets (place_inward sub) (block_inward sub) to.now))) }
 {
     push(text, b" ")?;

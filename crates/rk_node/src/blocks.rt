@@ -74,7 +74,8 @@ impl Node {
     /// Takes the block out of a window of a process, which holds one.
     pub fn take_out(&mut self, pid: Pid, window: u32) -> Block
         requires { IsSome (block_held_at self.old.held_blocks.mappings pid.number window) }
-        ensures block { block_held_at self.old.held_blocks.mappings pid.number window ≡ Some result }
+        ensures block { block_held_at self.old.held_blocks.mappings pid.number window
+            ≡ Some result }
         ensures node { node_model self.new ≡ with_process (node_model self.old) pid.number
             (process_left_behind window (process_at (node_model self.old) pid.number)) }
         ensures room { HasRoom self.new }
@@ -152,7 +153,8 @@ impl Node {
     /// xfree of the block at a window: it goes to the store, and the answer is 0.
     pub fn free_outcome(&mut self, turn: Turn, window: u32) -> CallEnd
         requires ready { IsInTurn self.old (turn_of turn) }
-        requires held { IsSome (block_held_at self.old.held_blocks.mappings turn.pid.number window) }
+        requires held { IsSome
+            (block_held_at self.old.held_blocks.mappings turn.pid.number window) }
         ensures { HasMadeAt window free_outcome self.old self.new (turn_of turn) result }
     {
         let block = self.take_out(turn.pid, window);

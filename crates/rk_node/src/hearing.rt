@@ -53,7 +53,8 @@ impl Node {
     /// A turn of a process begins.
     fn begin_turn(&mut self, pid: Pid)
         ensures node { node_model self.new
-            ≡ with_turn (node_model self.old) pid.number (process_at (node_model self.old) pid.number) }
+            ≡ with_turn (node_model self.old) pid.number
+            (process_at (node_model self.old) pid.number) }
         ensures batch { self.new.batch ≡ self.old.batch }
         ensures room { self.new.room ≡ self.old.room }
     {
@@ -166,7 +167,8 @@ impl Node {
 
     /// The batch comes back, and the message's sender is answered.
     fn regain_batch(&mut self, batch: Batch)
-        ensures node { node_model self.new ≡ node_after_hearing [] (node_model self.old) (answer_of 0) }
+        ensures node { node_model self.new
+            ≡ node_after_hearing [] (node_model self.old) (answer_of 0) }
         ensures batch { self.new.batch ≡ Some batch }
         ensures room { self.new.room ≡ self.old.room }
     {

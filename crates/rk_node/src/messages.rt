@@ -80,7 +80,8 @@ impl Node {
     /// xsend of the block at a window: it leaves the process for the place that the call names, if it is one.
     pub fn send_outcome(&mut self, turn: Turn, window: u32) -> CallEnd
         requires ready { IsInTurn self.old (turn_of turn) }
-        requires held { IsSome (block_held_at self.old.held_blocks.mappings turn.pid.number window) }
+        requires held { IsSome
+            (block_held_at self.old.held_blocks.mappings turn.pid.number window) }
         ensures { HasMadeAt window send_outcome self.old self.new (turn_of turn) result }
     {
         let to = self.place_named(turn.pid, 1);
@@ -97,7 +98,8 @@ impl Node {
     /// xmsend of the block at a window: the whole list of places is read, and the block is sent to them.
     pub fn xmsend_block(&mut self, turn: Turn, window: u32) -> CallEnd
         requires ready { IsInTurn self.old (turn_of turn) }
-        requires held { IsSome (block_held_at self.old.held_blocks.mappings turn.pid.number window) }
+        requires held { IsSome
+            (block_held_at self.old.held_blocks.mappings turn.pid.number window) }
         ensures { HasMadeAt window xmsend_block self.old self.new (turn_of turn) result }
     {
         let count = self.argument(turn.pid, 1);
@@ -130,7 +132,8 @@ impl Node {
 
     /// The place at an address: a word for the node, and behind it one for the process id.
     fn place_at(&self, pid: Pid, address: u32) -> Result<Place, Stop>
-        ensures { result ≡ memory_place (process_at (node_model self.now) pid.number).space address }
+        ensures { result
+            ≡ memory_place (process_at (node_model self.now) pid.number).space address }
     {
         match self.word_at(pid, address) {
             Ok(node) => match self.word_at(pid, address.wrapping_add(4)) {
@@ -153,7 +156,8 @@ impl Node {
     /// block.
     fn copies_outcome(&mut self, turn: Turn, window: u32, places: &[Place]) -> CallEnd
         requires ready { IsInTurn self.old (turn_of turn) }
-        requires held { IsSome (block_held_at self.old.held_blocks.mappings turn.pid.number window) }
+        requires held { IsSome
+            (block_held_at self.old.held_blocks.mappings turn.pid.number window) }
         requires few { length places.now ≤ greatest_targets }
         ensures { HasMadeAt window
             (λ node turn p found. copies_outcome node turn p found places.now)
@@ -189,7 +193,8 @@ impl Node {
         requires few { length batch.old + length places.now ≤ greatest_targets }
         requires enough { length places.now ≤ length self.old.store.blocks }
         ensures node { node_model self.new
-            ≡ with_store (drop (length places.now) (node_model self.old).store) (node_model self.old) }
+            ≡ with_store (drop (length places.now) (node_model self.old).store)
+            (node_model self.old) }
         ensures targets { targets_of batch.new ≡ targets_of batch.old
             ++ zip places.now (take (length places.now) (node_model self.old).store) }
         ensures bytes { bytes_of batch.new ≡ bytes_of batch.old }

@@ -1,7 +1,7 @@
 -- The first pass: each line is judged, and its statements get their places.
 use Rattle.std.specs.Prelude.{◌≡◌, ℕ, ◌+◌, ◌%◌, not, ◌&&◌, ◌==◌, nat_lt, if◌then◌else◌, List, [], ◌∷◌, ◌++◌, Option, Some, None, Result, Ok, Err, bytes_eq, codes}
 use Rattle.std.specs.List.{list_all, list_any}
-use Rattle.rv_model.specs.declared.limits.TheConstants.{PRIVATE_START, IMAGE_ROOM}
+use Rattle.rv_model.specs.declared.limits.TheConstants.{PRIVATE_START, IMAGE_ROOM, WORD_SIZE}
 use Rattle.rv_asm.specs.declared.fault.AsmKind.{AsmKind}
 use Rattle.rv_asm.specs.declared.fault.AsmKind.TheVariants.{BadByte, NameTaken, UnknownWord, Unaligned, TooLarge}
 use Rattle.rv_asm.specs.declared.fault.AsmFault.{AsmFault}
@@ -43,7 +43,7 @@ HasLaid (Err halt) laid judged = IsHaltOf halt judged
 -- one more statement, of this line
 unfoldable pub layout_with_statement : ℕ → LayoutSoFar → Statement → Result LayoutSoFar AsmKind
 layout_with_statement line laid statement = do
-  aligned ← refusal (lays_words statement && not (laid.size % 4 == 0)) Unaligned
+  aligned ← refusal (lays_words statement && not (laid.size % WORD_SIZE == 0)) Unaligned
   fits ← refusal (nat_lt IMAGE_ROOM (laid.size + size_of statement)) TooLarge
   Ok (layout_of laid.names (laid.statements ++ record { line = line; statement = statement } ∷ []) (laid.size + size_of statement))
 

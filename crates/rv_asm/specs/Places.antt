@@ -1,5 +1,6 @@
 -- The places of texts among others.
 use Rattle.std.specs.Prelude.{ℕ, ◌+◌, ◌-◌, nat_lt, ◌==◌, List, [], ◌∷◌, Option, Some, None, if◌then◌else◌, bytes_eq}
+use Rattle.rv_model.specs.declared.limits.TheConstants.{REGISTER_COUNT}
 
 -- the first place of a text among others, of which the first has this place
 abbrev pub place_of : ℕ → List (List ℕ) → List ℕ → Option ℕ
@@ -8,4 +9,4 @@ place_of place (word ∷ words) text = if bytes_eq word text then Some place els
 
 -- the number of a register by the place of its name: the names of the calling convention, `fp`, and the numbers
 abbrev pub register_number : ℕ → ℕ
-register_number place = if nat_lt place 32 then place else if place == 32 then 8 else place - 33
+register_number place = if nat_lt place 32 then place else if place == REGISTER_COUNT then 8 else place - (REGISTER_COUNT + 1)

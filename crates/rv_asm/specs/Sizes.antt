@@ -1,17 +1,18 @@
 -- How much room statements take.
 use Rattle.std.specs.Prelude.{ℕ, Bool, true, false, List, sum_by}
+use Rattle.rv_model.specs.declared.limits.TheConstants.{WORD_SIZE}
 use Rattle.rv_asm.specs.declared.statement.PlacedStatement.{PlacedStatement}
 use Rattle.rv_asm.specs.declared.statement.Statement.{Statement}
 use Rattle.rv_asm.specs.declared.statement.Statement.TheVariants.{Inst, Jal, Branch, La, Word, Address, Byte, Zero}
 
 -- how many bytes a statement takes
 abbrev pub size_of : Statement → ℕ
-size_of (Inst inst) = 4
-size_of (Jal rd label) = 4
-size_of (Branch op rs1 rs2 label) = 4
+size_of (Inst inst) = WORD_SIZE
+size_of (Jal rd label) = WORD_SIZE
+size_of (Branch op rs1 rs2 label) = WORD_SIZE
 size_of (La rd label) = 8
-size_of (Word word) = 4
-size_of (Address label) = 4
+size_of (Word word) = WORD_SIZE
+size_of (Address label) = WORD_SIZE
 size_of (Byte byte) = 1
 size_of (Zero count) = count
 

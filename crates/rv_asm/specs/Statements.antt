@@ -1,6 +1,6 @@
 -- What each statement means.
 use Rattle.std.specs.Prelude.{ℕ, ◌+◌, ◌*◌, ◌/◌, ◌-◌, ◌^◌, ◌%◌, Bool, not, ◌||◌, nat_lt, nat_le, if◌then◌else◌, List, [], ◌∷◌, map, Option, Some, None, Result, Ok, ℤ, pos, unsigned_abs}
-use Rattle.rv_model.specs.declared.limits.TheConstants.{GREATEST_UPPER, LEAST_IMMEDIATE, IMAGE_ROOM}
+use Rattle.rv_model.specs.declared.limits.TheConstants.{GREATEST_UPPER, LEAST_IMMEDIATE, IMAGE_ROOM, UPPER_UNIT}
 use Rattle.rv_model.specs.declared.inst.Inst.{Inst}
 use Rattle.rv_model.specs.declared.inst.Inst.TheVariants as insts
 use Rattle.rv_model.specs.declared.inst.ImmOp.{ImmOp}
@@ -30,11 +30,11 @@ immediate_reach = unsigned_abs LEAST_IMMEDIATE
 
 -- the low 12 bits of a word, sign-extended
 abbrev pub low_part : ℕ → ℤ
-low_part word = sign_extended 12 (word % 4096)
+low_part word = sign_extended 12 (word % UPPER_UNIT)
 
 -- what is left of a word without its low part, modulo 2^32: a multiple of 4,096
 abbrev pub high_part : ℕ → ℕ
-high_part word = (word + immediate_reach) / 4096 % 2 ^ 20 * 4096
+high_part word = (word + immediate_reach) / UPPER_UNIT % 2 ^ 20 * UPPER_UNIT
 
 -- `lui rd, high` and `addi rd, rd, low`
 abbrev pub two_instructions : ℕ → ℕ → List Inst
@@ -55,7 +55,7 @@ unfoldable pub register_upper : Names → List ℕ → Result (ℕ × ℕ) AsmKi
 register_upper names operands = do
   parts ← two_pieces operands
   values ← pair_judgment (register parts.0) (number_in_range (pos 0) GREATEST_UPPER (number names parts.1))
-  Ok (values.0, unsigned_abs values.1 * 4096)
+  Ok (values.0, unsigned_abs values.1 * UPPER_UNIT)
 
 -- `rd, n(rs1)`, as rd, n and rs1
 unfoldable pub register_memory : Names → List ℕ → Result (ℕ × ℤ × ℕ) AsmKind

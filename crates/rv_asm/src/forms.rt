@@ -13,7 +13,7 @@ use crate::operand::{
     two_pieces,
 };
 use crate::symbols::Symbols;
-use rv_model::{GREATEST_SHIFT, GREATEST_UPPER, ImmOp};
+use rv_model::{GREATEST_SHIFT, GREATEST_UPPER, ImmOp, UPPER_UNIT};
 
 /// A number from -2^31 to 2^32 - 1, modulo 2^32.
 pub fn word_of(number: i64) -> u32
@@ -40,7 +40,7 @@ pub fn register_upper(symbols: &Symbols, operands: &[u8]) -> Judged<(u8, u32)>
         register(rd),
         number_in_range(0, i64::from(GREATEST_UPPER), number(symbols, upper)),
     )?;
-    Ok((rd, upper as u32 * 4096))
+    Ok((rd, upper as u32 * UPPER_UNIT))
 }
 
 /// `rd, n(rs1)`, as rd, n and rs1.

@@ -2,7 +2,7 @@
 
 ghost use Rattle.std.specs.Prelude.{◌≡◌, ◌+◌, ◌≤◌, ◌∷◌, [], ◌++◌, replicate, vec_len, pos, neg_ℤ, ◌≤ℤ◌, ◌<ℤ◌, Ok, IfOk, OnOk};
 ghost use Rattle.std.specs.Int.{w32, to_le_bytes};
-ghost use Rattle.rv_model.specs.declared.limits.TheConstants.{PRIVATE_START, IMAGE_ROOM};
+ghost use Rattle.rv_model.specs.declared.limits.TheConstants.{PRIVATE_START, IMAGE_ROOM, WORD_SIZE};
 ghost use Rattle.rv_inst.specs.Valid.{IsRegister, IsEven, IsValid};
 ghost use Rattle.rv_model.specs.declared.inst.Inst.TheVariants as insts;
 ghost use Rattle.ce_text.specs.Names.{meanings_of};
@@ -79,7 +79,7 @@ fn put_zeros(out: &mut Vec<u8>, count: u32) -> Result<(), AllocError>
 fn put(out: &mut Vec<u8>, inst: Inst) -> Result<(), Halt>
     requires { IsValid inst }
     ensures parts { HasAppended result out.old.items out.new.items (Ok (Instruction inst ∷ [])) }
-    ensures size { OnOk result (vec_len out.new ≡ vec_len out.old + 4) }
+    ensures size { OnOk result (vec_len out.new ≡ vec_len out.old + WORD_SIZE) }
 {
     Ok(put_word(out, encode(&inst))?)
 }

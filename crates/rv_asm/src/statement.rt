@@ -27,7 +27,9 @@ use crate::operand::{
     two_pieces,
 };
 use crate::symbols::{Symbol, Symbols};
-use rv_model::{BranchOp, GREATEST_IMMEDIATE, IMAGE_ROOM, ImmOp, Inst, LEAST_IMMEDIATE, Register};
+use rv_model::{
+    BranchOp, GREATEST_IMMEDIATE, IMAGE_ROOM, ImmOp, Inst, LEAST_IMMEDIATE, Register, UPPER_UNIT,
+};
 use std::alloc::{AllocError, Global};
 
 /// The least number of a `.byte`.
@@ -87,11 +89,11 @@ fn low_part(word: u32) -> i32
     ensures value { result ≡ low_part word }
     ensures small { IsTwelveBits result }
 {
-    let low = (word % 4096) as i32;
+    let low = (word % UPPER_UNIT) as i32;
     if low <= GREATEST_IMMEDIATE {
         low
     } else {
-        low - 4096
+        low - UPPER_UNIT as i32
     }
 }
 
@@ -100,7 +102,7 @@ fn high_part(word: u32) -> u32
     ensures value { result ≡ high_part word }
     ensures upper { IsUpper result }
 {
-    (word.wrapping_add(LEAST_IMMEDIATE.unsigned_abs()) / 4096) * 4096
+    (word.wrapping_add(LEAST_IMMEDIATE.unsigned_abs()) / UPPER_UNIT) * UPPER_UNIT
 }
 
 /// `addi rd, rs1, imm`
@@ -220,7 +222,8 @@ fn data<'a>(
     operands: &'a [u8],
 ) -> Result<Vec<Statement<'a>>, Halt>
     ensures value { IsSeenAs (λ list. list.items) result
-        (judgment_of_list (map (datum_value datum (meanings_of symbols.now)) (pieces operands.now))) }
+        (judgment_of_list
+        (map (datum_value datum (meanings_of symbols.now)) (pieces operands.now))) }
     ensures sound { IfOk result (λ list. AreSound list.items) }
 {
     let mut list = Vec::new(alloc);

@@ -24,7 +24,7 @@ use Rattle.rv_asm.specs.declared.statement.Statement.{Statement}
 use Rattle.rv_asm.specs.declared.statement.PlacedStatement.{PlacedStatement}
 use Rattle.rv_asm.specs.Statements.{load_word, statements_of}
 use Rattle.std.specs.Result.{result_err}
-use Rattle.rv_model.specs.declared.limits.TheConstants.{PRIVATE_START, IMAGE_ROOM}
+use Rattle.rv_model.specs.declared.limits.TheConstants.{PRIVATE_START, IMAGE_ROOM, REGISTER_COUNT}
 use Rattle.rv_asm.specs.SecondPass.{Part, Instruction, parts_of, second_pass}
 use Rattle.rv_asm.specs.declared.fault.AsmFault.{AsmFault}
 use Rattle.rv_asm.specs.declared.symbols.Symbol.TheVariants.{Label}
@@ -33,7 +33,7 @@ use Rattle.rv_asm.specs.declared.statement.Statement.TheVariants as statements
 -- the instructions of `li rd, n` leave n modulo 2^32 in rd
 abbrev pub LiLoads : Type 0
 LiLoads = (A : Access (List ℕ)) (x m : List ℕ) (pc rd word : ℕ)
-    → length x ≡ 32 → IsRegister rd → word < 2 ^ 32 → HasInstructions A m pc (load_word rd word)
+    → length x ≡ REGISTER_COUNT → IsRegister rd → word < 2 ^ 32 → HasInstructions A m pc (load_word rd word)
     → let count = length (load_word rd word) in
     steps count A x pc m ≡ next_state (with_reg x rd word) (pc_behind count pc) m
 
@@ -41,7 +41,7 @@ LiLoads = (A : Access (List ℕ)) (x m : List ℕ) (pc rd word : ℕ)
 abbrev pub LaLoads : Type 0
 LaLoads = (A : Access (List ℕ)) (names : Names) (x m label : List ℕ)
     (pc rd address : ℕ) (parts : List Part)
-    → length x ≡ 32 → IsRegister rd → address < 2 ^ 32 → names label ≡ Some (Label address)
+    → length x ≡ REGISTER_COUNT → IsRegister rd → address < 2 ^ 32 → names label ≡ Some (Label address)
     → parts_of names pc (statements.La rd label) ≡ Ok parts → HasParts A m pc parts
     → steps 2 A x pc m ≡ next_state (with_reg x rd address) (pc_behind 2 pc) m
 

@@ -2,7 +2,7 @@
 -- line has is answered.
 use Rattle.std.specs.Prelude.{ℕ, ◌+◌, ◌%◌, Bool, false, true, not, ◌&&◌, ◌||◌, ◌==◌, nat_lt, if◌then◌else◌, List, [], ◌∷◌, sum_by, Option, Some, None, is_none, Result, Ok, Err, bytes_eq, codes}
 use Rattle.std.specs.List.{list_all, list_any}
-use Rattle.rv_model.specs.declared.limits.TheConstants.{PRIVATE_START, IMAGE_ROOM}
+use Rattle.rv_model.specs.declared.limits.TheConstants.{PRIVATE_START, IMAGE_ROOM, WORD_SIZE}
 use Rattle.rv_asm.specs.declared.fault.AsmKind.{AsmKind}
 use Rattle.rv_asm.specs.declared.fault.AsmKind.TheVariants.{BadByte, NameTaken, UnknownWord, Unaligned, TooLarge}
 use Rattle.rv_asm.specs.declared.symbols.Symbol.TheVariants.{Label}
@@ -78,7 +78,7 @@ operand_kind names false (Some mnemonic) operands = statement_fault names mnemon
 -- a word of the image at an address that is no multiple of 4, or more bytes than an image has room for
 abbrev pub room_kind : ℕ → Bool → ℕ → Option AsmKind
 room_kind size of_words more =
-    if of_words && not (size % 4 == 0) then Some Unaligned else (if nat_lt IMAGE_ROOM (size + more) then Some TooLarge else None)
+    if of_words && not (size % WORD_SIZE == 0) then Some Unaligned else (if nat_lt IMAGE_ROOM (size + more) then Some TooLarge else None)
 
 abbrev pub place_kind : Names → ℕ → Bool → Option Mnemonic → List ℕ → Option AsmKind
 place_kind names size true mnemonic operands = None

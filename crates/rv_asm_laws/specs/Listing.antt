@@ -2,6 +2,7 @@
 -- instruction's registers and numbers in the places of the operands. A listing has no labels and no jumps to them.
 use Rattle.std.specs.Prelude.{◌≡◌, ◌⊎◌, ℕ, ◌*◌, true, false, List, [], ◌∷◌, Some, None, ℤ, pos}
 use Rattle.std.specs.List.{list_all}
+use Rattle.rv_model.specs.declared.limits.TheConstants.{UPPER_UNIT}
 use Rattle.rv_model.specs.declared.inst.Inst.{Inst}
 use Rattle.rv_model.specs.declared.inst.Inst.TheVariants as insts
 use Rattle.rv_inst.specs.Valid.{IsValid}
@@ -30,7 +31,7 @@ pub record IsNumberText (n : ℤ) (text : List ℕ) : Type 0 where
 
 -- bits 31..12 of a word, as a number
 abbrev pub IsUpperText : ℕ → List ℕ → Type 0
-IsUpperText word text = (n : ℕ) × (word ≡ n * 4096) × IsNumberText (pos n) text
+IsUpperText word text = (n : ℕ) × (word ≡ n * UPPER_UNIT) × IsNumberText (pos n) text
 
 -- `n(rs1)`
 pub record IsMemoryText (n : ℤ) (rs1 : ℕ) (text : List ℕ) : Type 0 where

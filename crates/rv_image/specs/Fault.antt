@@ -1,6 +1,6 @@
 -- Which of several refusals a call answers.
 use Rattle.std.specs.Prelude.{◌≡◌, ℕ, ◌+◌, ◌%◌, Bool, ◌&&◌, not, ◌==◌, nat_lt, nat_le, if◌then◌else◌, List, [], ◌∷◌, length, Option, Some, None, Result, Ok, Err}
-use Rattle.rv_model.specs.declared.limits.TheConstants.{PRIVATE_START, IMAGE_ROOM}
+use Rattle.rv_model.specs.declared.limits.TheConstants.{PRIVATE_START, IMAGE_ROOM, WORD_SIZE}
 use Rattle.rv_image.specs.declared.fault.ImageFault.{ImageFault}
 use Rattle.rv_image.specs.declared.fault.ImageFault.TheVariants.{TooLarge, Entry, Memory}
 use Rattle.rv_model.specs.Image.{ImageParts}
@@ -17,7 +17,7 @@ is_too_large loaded_len zero_len = nat_lt IMAGE_ROOM (loaded_len + zero_len)
 -- at this address a whole word of so many loaded bytes begins
 abbrev pub is_entry : ℕ → ℕ → Bool
 is_entry address loaded_len =
-    (address % 4 == 0) && nat_le PRIVATE_START address && nat_le (address + 4) (PRIVATE_START + loaded_len)
+    (address % WORD_SIZE == 0) && nat_le PRIVATE_START address && nat_le (address + WORD_SIZE) (PRIVATE_START + loaded_len)
 
 -- why these parts are no image, the first cause first
 abbrev pub parts_fault : ImageParts → Option ImageFault

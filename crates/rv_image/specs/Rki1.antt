@@ -2,6 +2,7 @@
 use Rattle.std.specs.Prelude.{◌≡◌, ℕ, ◌+◌, not, ◌==◌, nat_eq, nat_lt, List, [], ◌∷◌, ◌++◌, length, drop, Option}
 use Rattle.std.specs.List.{starts_with}
 use Rattle.std.specs.Int.{w32, to_le_bytes}
+use Rattle.rv_model.specs.declared.limits.TheConstants.{WORD_SIZE}
 use Rattle.rv_image.specs.declared.fault.ImageFault.{ImageFault}
 use Rattle.rv_image.specs.declared.fault.ImageFault.TheVariants.{Short, Magic, TooLarge, Length, Entry}
 use Rattle.rv_model.specs.Image.{ImageParts, IsImage, image_parts}
@@ -21,13 +22,13 @@ pub record IsRki1 (bytes : List ℕ) (image : ImageParts) : Type 0 where
   pub spelled : bytes ≡ spelling image
 
 abbrev pub entry_field : List ℕ → ℕ
-entry_field bytes = number_at bytes ENTRY_AT 4
+entry_field bytes = number_at bytes ENTRY_AT WORD_SIZE
 
 abbrev pub loaded_field : List ℕ → ℕ
-loaded_field bytes = number_at bytes LOADED_LEN_AT 4
+loaded_field bytes = number_at bytes LOADED_LEN_AT WORD_SIZE
 
 abbrev pub zero_field : List ℕ → ℕ
-zero_field bytes = number_at bytes ZERO_LEN_AT 4
+zero_field bytes = number_at bytes ZERO_LEN_AT WORD_SIZE
 
 -- what the header says, and the bytes behind it
 abbrev pub fields_of : List ℕ → ImageParts

@@ -9,7 +9,7 @@ mod rki1;
 
 use crate::ImageFault;
 pub use rki1::{read, write};
-use rv_model::{IMAGE_ROOM, NoMemory, PRIVATE_START};
+use rv_model::{IMAGE_ROOM, NoMemory, PRIVATE_START, WORD_SIZE};
 use std::alloc::Global;
 use std::marker::Model;
 
@@ -49,7 +49,7 @@ fn is_entry(address: u32, loaded_len: usize) -> bool
 {
     address.is_multiple_of(4)
         && address >= PRIVATE_START
-        && (address - PRIVATE_START) as usize + 4 <= loaded_len
+        && (address - PRIVATE_START) as usize + WORD_SIZE as usize <= loaded_len
 }
 
 impl Image {

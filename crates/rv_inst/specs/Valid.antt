@@ -1,6 +1,6 @@
 -- The instructions that a word can hold: the ranges of their operands.
 use Rattle.std.specs.Prelude.{◌≡◌, ℕ, ◌%◌, ◌^◌, ◌<◌, ℤ, pos, neg_ℤ, ◌≤ℤ◌, ◌<ℤ◌, unsigned_abs}
-use Rattle.rv_model.specs.declared.limits.TheConstants.{BRANCH_REACH, GREATEST_IMMEDIATE, GREATEST_SHIFT, JUMP_REACH, LEAST_IMMEDIATE, REGISTER_COUNT}
+use Rattle.rv_model.specs.declared.limits.TheConstants.{BRANCH_REACH, GREATEST_IMMEDIATE, GREATEST_SHIFT, JUMP_REACH, LEAST_IMMEDIATE, REGISTER_COUNT, UPPER_UNIT}
 use Rattle.rv_model.specs.declared.opcodes.TheConstants.{MISC_MEM}
 use Rattle.rv_model.specs.declared.inst.Inst.{Inst}
 use Rattle.rv_model.specs.declared.inst.Inst.TheVariants.{Lui, Auipc, Jal, Jalr, Branch, Load, Store, OpImm, Op, Fence, Ecall, Ebreak}
@@ -14,7 +14,7 @@ IsRegister n = n < REGISTER_COUNT
 
 -- a word whose low 12 bits are 0
 abbrev pub IsUpper : ℕ → Type 0
-IsUpper n = (n < 2 ^ 32) × (n % 4096 ≡ 0)
+IsUpper n = (n < 2 ^ 32) × (n % UPPER_UNIT ≡ 0)
 
 -- what twelve bits hold
 abbrev pub IsTwelveBits : ℤ → Type 0

@@ -6,7 +6,7 @@ use crate::fields::{funct3, opcode};
 use rv_model::opcodes::MISC_MEM;
 use rv_model::{
     BRANCH_REACH, GREATEST_IMMEDIATE, GREATEST_SHIFT, ImmOp, Inst, JUMP_REACH, LEAST_IMMEDIATE,
-    REGISTER_COUNT,
+    REGISTER_COUNT, UPPER_UNIT,
 };
 
 /// Whether a word can hold the instruction: registers are below `REGISTER_COUNT`, the immediates of `Lui` and `Auipc` are
@@ -55,7 +55,7 @@ fn is_register(register: u8) -> bool
 fn is_upper(imm: u32) -> bool
     ensures { IsTrue result ↔ IsUpper imm }
 {
-    imm % 4096 == 0
+    imm % UPPER_UNIT == 0
 }
 
 /// Whether the I and S formats can hold the immediate.

@@ -2,6 +2,7 @@
 -- the order of the tests are this project's own.
 use Rattle.std.specs.Prelude.{◌≡◌, ◌⊎◌, ℕ, ◌*◌, ◌/◌, ◌%◌, ◌^◌, Bool, not, nat_lt, ◌==◌, if◌then◌else◌, List, slice_index, slice_set, bit_and, bit_or, bit_xor, Result, Ok, Err, ok_or, ℤ}
 use Rattle.std.specs.Int.{w8, w16, w32, cast_signed, cast_unsigned}
+use Rattle.rv_model.specs.declared.limits.TheConstants.{WORD_SIZE}
 use Rattle.rv_model.specs.declared.stop.Stop.{Stop}
 use Rattle.rv_model.specs.declared.stop.Stop.TheVariants.{Illegal, Target, Break}
 use Rattle.rv_model.specs.declared.inst.Inst.{Inst}
@@ -114,7 +115,7 @@ loaded_number Lhu n = n
 
 -- the address of the next instruction
 abbrev pub next_pc : ℕ → ℕ
-next_pc pc = wrapping_sum pc 4
+next_pc pc = wrapping_sum pc WORD_SIZE
 
 -- a word and an immediate added: an offset from it
 abbrev pub offset_by : ℕ → ℤ → ℕ
@@ -122,7 +123,7 @@ offset_by a imm = wrapping_sum a (cast_unsigned w32 imm)
 
 -- a jump at `pc` to `target`, which leaves the registers x
 abbrev pub jump_outcome : {M : Type 0} → ℕ → ℕ → List ℕ → M → Outcome M
-jump_outcome pc target x m = if target % 4 == 0 then next_state x target m else stop_state (Target pc)
+jump_outcome pc target x m = if target % WORD_SIZE == 0 then next_state x target m else stop_state (Target pc)
 
 -- what an instruction at `pc` does to the registers x and the memory m
 unfoldable pub effect_of : {M : Type 0} → Access M → Inst → List ℕ → ℕ → M → Outcome M

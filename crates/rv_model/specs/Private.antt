@@ -3,7 +3,7 @@
 use Rattle.std.specs.Prelude.{ℕ, ◌-◌, ◌%◌, Bool, ◌&&◌, nat_le, nat_lt, ◌==◌, if◌then◌else◌, List, ◌++◌, length, replicate, Result, Ok, Err}
 use Rattle.rv_model.specs.declared.stop.Stop.{Stop}
 use Rattle.rv_model.specs.declared.stop.Stop.TheVariants.{Fetch, Misaligned, Unmapped}
-use Rattle.rv_model.specs.declared.limits.TheConstants.{PRIVATE_START, PRIVATE_SIZE, PRIVATE_END}
+use Rattle.rv_model.specs.declared.limits.TheConstants.{PRIVATE_START, PRIVATE_SIZE, PRIVATE_END, WORD_SIZE}
 use Rattle.rv_model.specs.LittleEndian.{number_at, with_number_at}
 use Rattle.rv_model.specs.Exec.{Access}
 
@@ -18,7 +18,7 @@ is_private a = nat_le PRIVATE_START a && nat_lt a PRIVATE_END
 -- instructions are fetched from private memory alone, at a multiple of 4
 abbrev pub word_at_pc : List ℕ → ℕ → Result ℕ Stop
 word_at_pc bytes pc =
-    if pc % 4 == 0 && is_private pc then Ok (number_at bytes (pc - PRIVATE_START) 4) else Err (Fetch pc)
+    if pc % WORD_SIZE == 0 && is_private pc then Ok (number_at bytes (pc - PRIVATE_START) WORD_SIZE) else Err (Fetch pc)
 
 -- an access of `size` bytes at an address, which is made by the offset in private memory: it must be at a multiple of
 -- the size, and then be private, since no window was used

@@ -15,7 +15,8 @@ pub use access_size::AccessSize;
 pub use inst::{BranchOp, ImmOp, Inst, LoadOp, RegOp, StoreOp};
 pub use limits::{
     A0, BRANCH_REACH, GREATEST_IMMEDIATE, GREATEST_SHIFT, GREATEST_UPPER, IMAGE_ROOM, JUMP_REACH,
-    LEAST_IMMEDIATE, PRIVATE_END, PRIVATE_SIZE, PRIVATE_START, REGISTER_COUNT, SP,
+    LEAST_IMMEDIATE, PRIVATE_END, PRIVATE_SIZE, PRIVATE_START, REGISTER_COUNT, SP, UPPER_UNIT,
+    WORD_SIZE,
 };
 pub use little_endian::{number_in, put_number, word_in};
 pub use memory::NoMemory;

@@ -14,6 +14,12 @@ const _: () = prove!(PRIVATE_START + PRIVATE_SIZE == PRIVATE_END);
 
 const _: () = prove!(IMAGE_ROOM + 8_192 == PRIVATE_SIZE);
 
+/// How many bytes a word has, and so an instruction.
+pub const WORD_SIZE: u32 = 4;
+
+/// What the U format counts in: its number stands in bits 31..12 of a word.
+pub const UPPER_UNIT: u32 = 1 << 12;
+
 /// How many registers there are.
 pub const REGISTER_COUNT: usize = 32;
 

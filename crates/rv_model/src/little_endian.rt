@@ -1,5 +1,6 @@
 //! Numbers of 1, 2 or 4 bytes, the lowest byte first.
 ghost use Rattle.std.specs.Prelude.{◌≡◌, ◌<◌, ◌≤◌, ◌+◌, ◌^◌, ◌++◌, length, take, drop};
+ghost use Rattle.rv_model.specs.declared.limits.TheConstants.{WORD_SIZE};
 ghost use Rattle.rv_model.specs.LittleEndian.{number_at, with_number_at};
 
 use crate::AccessSize;
@@ -21,8 +22,8 @@ pub fn number_in(bytes: &[u8], offset: usize, size: AccessSize) -> u32
 /// The number in the four bytes from `offset` on.
 #[tactic(auto, using(crate::proofs::Numbers::number_lemmas))]
 pub fn word_in(bytes: &[u8], offset: usize) -> u32
-    requires { offset + 4 ≤ length bytes.now }
-    ensures { result ≡ number_at bytes.now offset 4 }
+    requires { offset + WORD_SIZE ≤ length bytes.now }
+    ensures { result ≡ number_at bytes.now offset WORD_SIZE }
 {
     u32::from_le_bytes([
         bytes[offset],

@@ -1,12 +1,13 @@
 //! What one decoded instruction does.
 ghost use Rattle.std.specs.Prelude.{◌≡◌, ◌%◌, ◌==◌, if◌then◌else◌};
+ghost use Rattle.rv_model.specs.declared.limits.TheConstants.{WORD_SIZE};
 ghost use Rattle.rv_inst.specs.Valid.{IsValid};
 ghost use Rattle.rv_model.specs.Exec.{effect_of, with_reg, next_pc};
 ghost use Rattle.rv_step.specs.Stepped.{outcome_of, OnStopped};
 
 use crate::compute::{imm_result, is_taken, loaded_number, reg_result};
 use crate::{Event, Memory, Regs};
-use rv_model::{AccessSize, Inst, LoadOp, Register, Stop, StoreOp};
+use rv_model::{AccessSize, Inst, LoadOp, Register, Stop, StoreOp, WORD_SIZE};
 
 /// Does the instruction `inst`, which stands at `pc`.
 #[tactic(auto, unfolding(rv_model::specs::Exec::effect_of))]
@@ -71,7 +72,7 @@ fn advance(event: Event, pc: &mut u32) -> Event
     ensures event { result ≡ event }
     ensures pc { pc.new ≡ next_pc pc.old }
 {
-    *pc = pc.wrapping_add(4);
+    *pc = pc.wrapping_add(WORD_SIZE);
     event
 }
 
@@ -89,15 +90,15 @@ fn write(rd: Register, value: u32, regs: &mut Regs, pc: &mut u32) -> Event
 /// multiple of 4.
 fn jump(rd: Register, target: u32, regs: &mut Regs, pc: &mut u32) -> Event
     ensures event { result
-        ≡ (if target % 4 == 0 then Event.Went else Event.Stopped (Stop.Target pc.old)) }
+        ≡ (if target % WORD_SIZE == 0 then Event.Went else Event.Stopped (Stop.Target pc.old)) }
     ensures regs { regs.new.x
-        ≡ (if target % 4 == 0 then with_reg regs.old.x rd.number (next_pc pc.old) else regs.old.x) }
-    ensures pc { pc.new ≡ (if target % 4 == 0 then target else pc.old) }
+        ≡ (if target % WORD_SIZE == 0 then with_reg regs.old.x rd.number (next_pc pc.old) else regs.old.x) }
+    ensures pc { pc.new ≡ (if target % WORD_SIZE == 0 then target else pc.old) }
 {
-    if target % 4 != 0 {
+    if target % WORD_SIZE != 0 {
         return Event::Stopped(Stop::Target(*pc));
     }
-    regs.set(rd, pc.wrapping_add(4));
+    regs.set(rd, pc.wrapping_add(WORD_SIZE));
     *pc = target;
     Event::Went
 }

@@ -109,7 +109,8 @@ impl HeldBlocks {
         } }
         ensures gone { (window : ℕ) → block_held_at self.new.mappings pid window ≡ None }
         ensures others { (other window : ℕ) → other ≢ pid
-            → block_held_at self.new.mappings other window ≡ block_held_at self.old.mappings other window }
+            → block_held_at self.new.mappings other window
+            ≡ block_held_at self.old.mappings other window }
     {
         let (first, last) = self.keys.remove_process(pid);
         give_all(&mut self.blocks, first, last, store);

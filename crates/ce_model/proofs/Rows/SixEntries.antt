@@ -31,7 +31,7 @@ unfolding after view relative_number extract deposit subcubes first_free next_en
 row_is_lawful image asks = (
   record { request = getcube 0; fits = (omega arith, (refl, omega arith, refl)); answer = refl },
   (
-    record { request = in_cube (send_call 0 ((place 0 0, block 256 0) ∷ []) first_bytes); fits = (omega arith, record { made = send_call 0 ((place 0 0, block 256 0) ∷ []) first_bytes; inside = inl refl; next = refl; renamed = refl; within = λ host. omega arith; not_drained = refl }); answer = refl },
+    record { request = in_cube (send_call 0 ((place 0 0, block 256 0) ∷ []) first_bytes); fits = (omega arith, record { inner = send_call 0 ((place 0 0, block 256 0) ∷ []) first_bytes; inside = inl refl; next = refl; renamed = refl; within = λ host. omega arith; not_drained = refl }); answer = refl },
     (
       record { request = drain; fits = (omega arith, (refl, refl)); answer = refl },
       (
@@ -39,7 +39,7 @@ row_is_lawful image asks = (
         (
           record { request = getcube 0; fits = (omega arith, (refl, omega arith, refl)); answer = refl },
           (
-            record { request = in_cube (take_call 0 0 None); fits = (omega arith, record { made = take_call 0 0 None; inside = inr refl; next = rw asks refl; renamed = refl; within = λ host. tt; not_drained = refl }); answer = refl },
+            record { request = in_cube (take_call 0 0 None); fits = (omega arith, record { inner = take_call 0 0 None; inside = inr refl; next = rw asks refl; renamed = refl; within = λ host. tt; not_drained = refl }); answer = refl },
             tt,
           ),
         ),

@@ -56,11 +56,11 @@ unfolding after view relative_number extract deposit subcubes first_free next_en
 first_is_lawful image = (
   record { request = getcube 0; fits = (omega arith, (refl, omega arith, refl)); answer = refl },
   (
-    record { request = in_cube (send_call 0 ((place 0 0, block 256 0) ∷ []) first_bytes); fits = (omega arith, record { made = send_call 0 ((place 0 0, block 256 0) ∷ []) first_bytes; inside = inl refl; next = refl; renamed = refl; within = λ host. omega arith; not_drained = refl }); answer = refl },
+    record { request = in_cube (send_call 0 ((place 0 0, block 256 0) ∷ []) first_bytes); fits = (omega arith, record { inner = send_call 0 ((place 0 0, block 256 0) ∷ []) first_bytes; inside = inl refl; next = refl; renamed = refl; within = λ host. omega arith; not_drained = refl }); answer = refl },
     (
-      record { request = in_cube (send_call 0 ((place 0 0, block 256 1) ∷ []) second_bytes); fits = (omega arith, record { made = send_call 0 ((place 0 0, block 256 1) ∷ []) second_bytes; inside = inl refl; next = refl; renamed = refl; within = λ host. omega arith; not_drained = refl }); answer = refl },
+      record { request = in_cube (send_call 0 ((place 0 0, block 256 1) ∷ []) second_bytes); fits = (omega arith, record { inner = send_call 0 ((place 0 0, block 256 1) ∷ []) second_bytes; inside = inl refl; next = refl; renamed = refl; within = λ host. omega arith; not_drained = refl }); answer = refl },
       (
-        record { request = in_cube (send_call 0 ((place 0 0, block 256 2) ∷ []) third_bytes); fits = (omega arith, record { made = send_call 0 ((place 0 0, block 256 2) ∷ []) third_bytes; inside = inl refl; next = refl; renamed = refl; within = λ host. omega arith; not_drained = refl }); answer = refl },
+        record { request = in_cube (send_call 0 ((place 0 0, block 256 2) ∷ []) third_bytes); fits = (omega arith, record { inner = send_call 0 ((place 0 0, block 256 2) ∷ []) third_bytes; inside = inl refl; next = refl; renamed = refl; within = λ host. omega arith; not_drained = refl }); answer = refl },
         (
           record { request = drain; fits = (omega arith, (refl, refl)); answer = refl },
           (
@@ -78,15 +78,15 @@ unfolding after view relative_number extract deposit subcubes first_free next_en
 second_is_lawful image h = (
   record { request = getcube 0; fits = (omega arith, (refl, omega arith, refl)); answer = refl },
   (
-    record { request = in_cube (spawn_call 0 0 (place 0 0)); fits = (omega arith, record { made = spawn_call 0 0 (place 0 0); inside = inl refl; next = refl; renamed = refl; within = λ host. tt; not_drained = refl }); answer = refl },
+    record { request = in_cube (spawn_call 0 0 (place 0 0)); fits = (omega arith, record { inner = spawn_call 0 0 (place 0 0); inside = inl refl; next = refl; renamed = refl; within = λ host. tt; not_drained = refl }); answer = refl },
     (
-      record { request = in_cube (arm_call 10); fits = (omega arith, record { made = arm_call 10; inside = inl refl; next = refl; renamed = refl; within = λ host. omega arith; not_drained = refl }); answer = refl },
+      record { request = in_cube (arm_call 10); fits = (omega arith, record { inner = arm_call 10; inside = inl refl; next = refl; renamed = refl; within = λ host. omega arith; not_drained = refl }); answer = refl },
       (
-        record { request = in_cube (take_call 0 0 None); fits = (omega arith, record { made = take_call 0 0 None; inside = inr refl; next = rw h.asks refl; renamed = refl; within = λ host. tt; not_drained = refl }); answer = refl },
+        record { request = in_cube (take_call 0 0 None); fits = (omega arith, record { inner = take_call 0 0 None; inside = inr refl; next = rw h.asks refl; renamed = refl; within = λ host. tt; not_drained = refl }); answer = refl },
         (
-          record { request = in_cube (take_call 1 0 None); fits = (omega arith, record { made = take_call 1 0 None; inside = inr refl; next = rw h.waits refl; renamed = refl; within = λ host. tt; not_drained = refl }); answer = refl },
+          record { request = in_cube (take_call 1 0 None); fits = (omega arith, record { inner = take_call 1 0 None; inside = inr refl; next = rw h.waits refl; renamed = refl; within = λ host. tt; not_drained = refl }); answer = refl },
           (
-            record { request = in_cube look_call; fits = (omega arith, record { made = look_call; inside = inl refl; next = refl; renamed = refl; within = λ host. tt; not_drained = refl }); answer = refl },
+            record { request = in_cube look_call; fits = (omega arith, record { inner = look_call; inside = inl refl; next = refl; renamed = refl; within = λ host. tt; not_drained = refl }); answer = refl },
             tt,
           ),
         ),

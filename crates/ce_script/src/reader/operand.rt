@@ -24,7 +24,8 @@ use std::alloc::Global;
 #[tactic(auto, using(crate::proofs::Numbers::number_there, crate::proofs::Numbers::number_missing))]
 pub fn number(line: &WordedLine, place: usize, most: u32) -> Result<u32, ScriptKind>
     ensures { HasJudged result
-        (kind_where (is_none (bounded_number most (operand place (statement_of_line line.now)))) BadNumber)
+        (kind_where (is_none (bounded_number most (operand place (statement_of_line line.now))))
+        BadNumber)
         (Some (operand_number place (statement_of_line line.now))) }
 {
     match number_to(line.operand(place), most) {
@@ -37,10 +38,12 @@ pub fn number(line: &WordedLine, place: usize, most: u32) -> Result<u32, ScriptK
 fn place(line: &WordedLine, place: usize) -> Result<Place, ScriptKind>
     requires { place < 2 ^ 32 }
     ensures { HasJudged result (first_some
-        (kind_where (is_none (bounded_number greatest_number (operand place (statement_of_line line.now))))
+        (kind_where (is_none
+        (bounded_number greatest_number (operand place (statement_of_line line.now))))
         BadNumber
         ∷ kind_where
-        (is_none (bounded_number greatest_number (operand (place + 1) (statement_of_line line.now))))
+        (is_none
+        (bounded_number greatest_number (operand (place + 1) (statement_of_line line.now))))
         BadNumber ∷ []))
         (Some (operand_place place (statement_of_line line.now))) }
 {

@@ -161,7 +161,7 @@ module _ (parts : MachineParts) (machine : IsMachine parts) (h : List Entry) (be
       let was = before.held entry.user cube is in
       let views = before.views cube.number cube.grant was.behind was.found in
       let what : answer (nodes_of cube.grant) (cube_standing (after h) cube) entry.actor (with_places_outward cube.grant call) ≡ entry.what = some_what _ _ e in
-      own-entry parts machine (after h) h cube was fits.not_drained views.alone entry fits.made (sym (eqb-true _ _ (held-user (after h) entry.user cube is))) fits.inside fits.next
+      own-entry parts machine (after h) h cube was fits.not_drained views.alone entry fits.inner (sym (eqb-true _ _ (held-user (after h) entry.user cube is))) fits.inside fits.next
       (ap (λ call. answer (nodes_of cube.grant) (cube_standing (after h) cube) entry.actor (with_places_outward cube.grant call)) fits.renamed ∙ what)
     where
       some_what : (x y : What) → Some x ≡ Some y → x ≡ y

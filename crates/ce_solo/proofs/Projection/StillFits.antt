@@ -66,10 +66,10 @@ call_of-kept : (parts : MachineParts) (h h' : List Entry) (actor : ℕ) (call : 
     ≡ actor_call (cube_of parts.images cube.grant) (opening (cube_of parts.images cube.grant)) (view h cube.number) (relative_number cube.grant.sub actor) wish)
     → IsCallOf parts h actor call cube → IsCallOf parts h' actor call cube'
 call_of-kept parts h h' actor call cube cube' grant drained same of = record {
-  made = of.made;
+  inner = of.inner;
   inside = subst (λ (g : CubeGrant). IsTrue (actor == HOST) ⊎ IsTrue (is_inside g.sub actor)) (sym grant) of.inside;
-  next = same (host_call_of of.made) ∙ of.next;
-  renamed = ap (λ g. renamed_call_blocks (block_outward g) of.made) grant ∙ of.renamed;
+  next = same (host_call_of of.inner) ∙ of.next;
+  renamed = ap (λ g. renamed_call_blocks (block_outward g) of.inner) grant ∙ of.renamed;
   within = of.within;
   not_drained = drained ∙ of.not_drained;
 }
