@@ -17,14 +17,15 @@ use Rattle.ce_daemon.specs.declared.grant.Grant.{Grant}
 use Rattle.rk_node.specs.Boxes.{Box, fresh_at}
 use Rattle.rk_node.specs.declared.out.Out.TheVariants.{Nothing}
 use Rattle.ce_machine.specs.Meanings.{MachineFacts}
-use Rattle.ce_script.specs.Rounds.{has_work, IsTurn}
-use Rattle.ce_cube.specs.declared.crew.SerialCrew.{SerialCrew}
+use Rattle.ce_script.specs.Rounds.{has_work, IsTurn, RoundKind, serial}
 use Rattle.ce_cube.specs.Boxes.{IsHeldAs, IsInStep}
 use Rattle.ce_cube.specs.Rounds.{IsPartOfRound}
-use Rattle.ce_cube.specs.Crews.{HasStopped, IsLawfulMachine, IsReady, AreBoxesInStep, IsHostInStep, IsCrewInStep, HasGoneOn, HasMadeRound, AreCallsOf, box_at}
+use Rattle.ce_cube.specs.Crews.{HasStopped, IsLawfulMachine, IsReady, AreBoxesInStep, IsHostInStep, IsCrewInStep, HasGoneOn, AreCallsOf, box_at, CrewFacts, HasMadeSerialRound}
 use Rattle.ce_daemon.specs.Peeks.{cube_grant}
 use Rattle.ce_cube.specs.Exchanges.{HasNode, IsTurning, HasTakenTurn, IsRoundUnderWay, machine_node, cube_dispatches_left}
+use Rattle.ce_cube.specs.Beside.{IsMix}
 use Rattle.ce_cube.proofs.Held.{placed-of}
+use Rattle.ce_cube.proofs.Fronts.{mix-serial, mix-calls, mix-both}
 use Rattle.ce_cube.proofs.Rounds.{are-made}
 
 -- ---- a view has no more entries than the history
@@ -84,53 +85,53 @@ few-nodes m grant sound held =
 
 -- ---- a crew that is in step
 
-module _ (m : MachineFacts) (crew : SerialCrew) (sound : IsLawfulMachine m) (step : IsCrewInStep m.parts m.history crew) (r : ℕ) (below : r < 2 ^ crew.grant.dim) where
+module _ (m : MachineFacts) (crew : CrewFacts) (sound : IsLawfulMachine m) (step : IsCrewInStep m.parts m.history crew) (r : ℕ) (below : r < 2 ^ crew.grant.dim) where
   pub crew-node : HasNode m crew.grant r
   crew-node = record { sound = sound; held = step.held; within = below }
 
-  pub crew-ready : (box : Box) → box ≡ box_at crew.nodes.items r → IsReady box
+  pub crew-ready : (box : Box) → box ≡ box_at crew.boxes r → IsReady box
   crew-ready box is = subst IsReady (sym is) (step.boxes.ready r below)
 
-  pub crew-steps : (box : Box) → box ≡ box_at crew.nodes.items r → IsInStep (cube_grant crew.grant) (machine_node m crew.grant r) box.node
+  pub crew-steps : (box : Box) → box ≡ box_at crew.boxes r → IsInStep (cube_grant crew.grant) (machine_node m crew.grant r) box.node
   crew-steps box is =
       subst (λ (box : Box). IsInStep (cube_grant crew.grant) (machine_node m crew.grant r) box.node) (sym is) (step.boxes.in_step r below)
 
 -- with the grant that the crew has
-in-step-by : (m : MachineFacts) (grant : Grant) (crew : SerialCrew) → crew.grant ≡ grant → IsHeldAs m.history grant.number (cube_grant grant)
-    → AreBoxesInStep m.parts m.history grant crew.nodes.items → IsHostInStep m.parts m.history grant crew.host → crew.entries ≡ length (view m.history grant.number)
+in-step-by : (m : MachineFacts) (grant : Grant) (crew : CrewFacts) → crew.grant ≡ grant → IsHeldAs m.history grant.number (cube_grant grant)
+    → AreBoxesInStep m.parts m.history grant crew.boxes → IsHostInStep m.parts m.history grant crew.host → crew.entries ≡ length (view m.history grant.number)
     → IsCrewInStep m.parts m.history crew
 in-step-by m grant crew is held boxes host entries = record {
   held = subst (λ (g : Grant). IsHeldAs m.history g.number (cube_grant g)) (sym is) held;
-  boxes = subst (λ (g : Grant). AreBoxesInStep m.parts m.history g crew.nodes.items) (sym is) boxes;
+  boxes = subst (λ (g : Grant). AreBoxesInStep m.parts m.history g crew.boxes) (sym is) boxes;
   host = subst (λ (g : Grant). IsHostInStep m.parts m.history g crew.host) (sym is) host;
   entries = entries ∙ ap (λ (g : Grant). length (view m.history g.number)) (sym is);
 }
 
 -- ---- a turn
 
-module _ (m m' : MachineFacts) (crew crew' : SerialCrew) (r count : ℕ) (box : Box) (work : Bool) (step : IsCrewInStep m.parts m.history crew) (below : r < 2 ^ crew.grant.dim)
+module _ (m m' : MachineFacts) (crew crew' : CrewFacts) (r count : ℕ) (box : Box) (work : Bool) (step : IsCrewInStep m.parts m.history crew) (below : r < 2 ^ crew.grant.dim)
     (turn : IsTurning m m' crew.grant r box work count) (steps : IsInStep (cube_grant crew.grant) (machine_node m' crew.grant r) box.node) where
   -- each box is ready and in step
   box-at : (q : ℕ) → q < 2 ^ crew.grant.dim
-      → IsReady (box_at (set crew.nodes.items r box) q) × IsInStep (cube_grant crew.grant) (machine_node m' crew.grant q) (box_at (set crew.nodes.items r box) q).node
+      → IsReady (box_at (set crew.boxes r box) q) × IsInStep (cube_grant crew.grant) (machine_node m' crew.grant q) (box_at (set crew.boxes r box) q).node
   box-at q within = elim (cases_Bool (q == r)) [
     | inl same ↦
         let at = eqb-true q r same in
-        subst (λ q. IsReady (box_at (set crew.nodes.items r box) q) × IsInStep (cube_grant crew.grant) (machine_node m' crew.grant q) (box_at (set crew.nodes.items r box) q).node) (sym at)
+        subst (λ q. IsReady (box_at (set crew.boxes r box) q) × IsInStep (cube_grant crew.grant) (machine_node m' crew.grant q) (box_at (set crew.boxes r box) q).node) (sym at)
         (subst (λ (b : Box). IsReady b × IsInStep (cube_grant crew.grant) (machine_node m' crew.grant r) b.node)
-        (sym (get_or-set_same crew.nodes.items r box (record { node = fresh_at 0 0 0 0; room = 0; out = Nothing }) (omega (arith, step.boxes.all, below))))
+        (sym (get_or-set_same crew.boxes r box (record { node = fresh_at 0 0 0 0; room = 0; out = Nothing }) (omega (arith, step.boxes.all, below))))
         (turn.stands.ready, steps))
     | inr differ ↦
         subst (λ (b : Box). IsReady b × IsInStep (cube_grant crew.grant) (machine_node m' crew.grant q) b.node)
-        (sym (get_or-set_other crew.nodes.items r q box (record { node = fresh_at 0 0 0 0; room = 0; out = Nothing }) (λ e. both_ways (q == r) differ (eq-eqb q r e)))) (
+        (sym (get_or-set_other crew.boxes r q box (record { node = fresh_at 0 0 0 0; room = 0; out = Nothing }) (λ e. both_ways (q == r) differ (eq-eqb q r e)))) (
           step.boxes.ready q within,
-          subst (λ node. IsInStep (cube_grant crew.grant) node (box_at crew.nodes.items q).node) (sym (turn.goes_on.others q within differ)) (step.boxes.in_step q within),
+          subst (λ node. IsInStep (cube_grant crew.grant) node (box_at crew.boxes q).node) (sym (turn.goes_on.others q within differ)) (step.boxes.in_step q within),
         )
   ]
 
-  boxes-after : AreBoxesInStep m'.parts m'.history crew.grant (set crew.nodes.items r box)
+  boxes-after : AreBoxesInStep m'.parts m'.history crew.grant (set crew.boxes r box)
   boxes-after = record {
-    all = length-set crew.nodes.items r box ∙ step.boxes.all;
+    all = length-set crew.boxes r box ∙ step.boxes.all;
     ready = λ q within. (box-at q within).0;
     in_step = λ q within. (box-at q within).1;
   }
@@ -157,13 +158,15 @@ module _ (m m' : MachineFacts) (crew crew' : SerialCrew) (r count : ℕ) (box : 
   pub entries-few : crew.entries + count < 2 ^ 63
   entries-few = omega (arith, entries-after, view-short m'.history crew.grant.number, turn.goes_on.few)
 
-  pub turn-taken : crew'.grant ≡ crew.grant → crew'.nodes.items ≡ set crew.nodes.items r box → crew'.host ≡ crew.host → crew'.entries ≡ crew.entries + count
+  pub turn-taken : crew'.grant ≡ crew.grant → crew'.boxes ≡ set crew.boxes r box → crew'.host ≡ crew.host → crew'.entries ≡ crew.entries + count
       → HasTakenTurn m m' crew crew' r work
   turn-taken grant nodes host entries = record {
     turn = turn.new_entries;
     goes_on = record {
+      all_entries = turn.new_entries;
       parts = turn.goes_on.parts;
       history = turn.goes_on.history;
+      mix = mix-calls serial crew.grant.user turn.new_entries turn.goes_on.calls;
       lawful = turn.goes_on.node.sound.lawful;
       calls = turn.goes_on.calls;
       grant = grant;
@@ -187,15 +190,24 @@ or_count true false = omega arith
 or_count false true = omega arith
 or_count false false = omega arith
 
+-- on one thread the history is longer by just what was made
+pub serial-history : (before after : MachineFacts) (crew crew' : CrewFacts) (made : List Entry) → HasGoneOn serial before after crew crew' made
+    → after.history ≡ before.history ++ made
+serial-history before after crew crew' made on =
+    on.history ∙ ap (λ more. before.history ++ more) (mix-serial crew.grant.user on.all_entries made on.mix)
+
 -- the machine is lawful still
-pub still-sound : (m now : MachineFacts) (crew crew' : SerialCrew) (made : List Entry) → IsLawfulMachine m → HasGoneOn m now crew crew' made → IsLawfulMachine now
-still-sound m now crew crew' made sound on = record { within = subst IsMachine (sym on.parts) sound.within; lawful = on.lawful }
+pub still-sound : (kind : RoundKind) (m now : MachineFacts) (crew crew' : CrewFacts) (made : List Entry) → IsLawfulMachine m → HasGoneOn kind m now crew crew' made
+    → IsLawfulMachine now
+still-sound kind m now crew crew' made sound on = record { within = subst IsMachine (sym on.parts) sound.within; lawful = on.lawful }
 
 -- a crew that has done nothing yet
-pub stands-still : (m : MachineFacts) (crew : SerialCrew) → IsLawfulMachine m → IsCrewInStep m.parts m.history crew → HasGoneOn m m crew crew []
-stands-still m crew sound step = record {
+pub stands-still : (kind : RoundKind) (m : MachineFacts) (crew : CrewFacts) → IsLawfulMachine m → IsCrewInStep m.parts m.history crew → HasGoneOn kind m m crew crew []
+stands-still kind m crew sound step = record {
+  all_entries = [];
   parts = refl;
   history = sym (append-nil m.history);
+  mix = record { own = refl; each = tt };
   lawful = sound.lawful;
   calls = tt;
   grant = refl;
@@ -203,10 +215,10 @@ stands-still m crew sound step = record {
   in_step = step;
 }
 
-pub round-starts : (m : MachineFacts) (crew : SerialCrew) → IsLawfulMachine m → IsCrewInStep m.parts m.history crew → IsRoundUnderWay m m crew crew 0 false
+pub round-starts : (m : MachineFacts) (crew : CrewFacts) → IsLawfulMachine m → IsCrewInStep m.parts m.history crew → IsRoundUnderWay m m crew crew 0 false
 round-starts m crew sound step = record {
   new_entries = [];
-  goes_on = stands-still m crew sound step;
+  goes_on = stands-still serial m crew sound step;
   part = are-made.round_begins;
   works = refl;
   left = omega arith;
@@ -214,13 +226,16 @@ round-starts m crew sound step = record {
 }
 
 -- what a crew did, and what it did behind that, by the grant that it still has
-pub gone-both : (m now now' : MachineFacts) (crew crew' crew'' : SerialCrew) (made turn : List Entry) → HasGoneOn m now crew crew' made → HasGoneOn now now' crew' crew'' turn
-    → HasGoneOn m now' crew crew'' (made ++ turn)
-gone-both m now now' crew crew' crew'' made turn on next =
+pub gone-both : (kind : RoundKind) (m now now' : MachineFacts) (crew crew' crew'' : CrewFacts) (made turn : List Entry) → HasGoneOn kind m now crew crew' made
+    → HasGoneOn kind now now' crew' crew'' turn → HasGoneOn kind m now' crew crew'' (made ++ turn)
+gone-both kind m now now' crew crew' crew'' made turn on next =
     let inner = entry_inward crew.grant.sub in
     record {
+      all_entries = on.all_entries ++ next.all_entries;
       parts = next.parts ∙ on.parts;
-      history = next.history ∙ ap (λ h. h ++ turn) on.history ∙ append_assoc m.history made turn;
+      history = next.history ∙ ap (λ h. h ++ next.all_entries) on.history ∙ append_assoc m.history on.all_entries next.all_entries;
+      mix = mix-both kind crew.grant.user on.all_entries next.all_entries made turn on.mix
+          (subst (λ (g : Grant). IsMix kind g.user next.all_entries turn) on.grant next.mix);
       lawful = next.lawful;
       calls = all-append (λ (entry : Entry). (entry.user ≡ crew.grant.user) × IsTrue (is_some (recorded_call entry.what))) made turn on.calls
           (subst (λ (g : Grant). AreCallsOf g.user turn) on.grant next.calls);
@@ -231,7 +246,7 @@ gone-both m now now' crew crew' crew'' made turn on next =
       in_step = next.in_step;
     }
 
-pub round-goes_on : (m now now' : MachineFacts) (crew crew' crew'' : SerialCrew) (r : ℕ) (work more : Bool) → IsRoundUnderWay m now crew crew' r work
+pub round-goes_on : (m now now' : MachineFacts) (crew crew' crew'' : CrewFacts) (r : ℕ) (work more : Bool) → IsRoundUnderWay m now crew crew' r work
     → HasTakenTurn now now' crew' crew'' r more → IsRoundUnderWay m now' crew crew'' (r + 1) (work || more)
 round-goes_on m now now' crew crew' crew'' r work more way taken =
     let inner = entry_inward crew.grant.sub in
@@ -240,7 +255,7 @@ round-goes_on m now now' crew crew' crew'' r work more way taken =
     subst (λ (g : Grant). cube_dispatches_left now' g + (if more then 1 else 0) ≡ cube_dispatches_left now g) way.goes_on.grant taken.left in
     record {
       new_entries = way.new_entries ++ taken.turn;
-      goes_on = gone-both m now now' crew crew' crew'' way.new_entries taken.turn way.goes_on taken.goes_on;
+      goes_on = gone-both serial m now now' crew crew' crew'' way.new_entries taken.turn way.goes_on taken.goes_on;
       part = subst (IsPartOfRound (r + 1)) (sym split)
           (are-made.round_goes_on r (map inner way.new_entries) (map inner taken.turn) way.part
           (subst (λ (g : Grant). IsTurn r (map (entry_inward g.sub) taken.turn)) way.goes_on.grant taken.is_turn));
@@ -251,24 +266,26 @@ round-goes_on m now now' crew crew' crew'' r work more way taken =
     }
 
 -- a turn that was stopped leaves what the round has made, and its own calls
-pub stopped-round : (m now now' : MachineFacts) (crew crew' : SerialCrew) (r : ℕ) (work : Bool) → IsRoundUnderWay m now crew crew' r work
+pub stopped-round : (m now now' : MachineFacts) (crew crew' : CrewFacts) (r : ℕ) (work : Bool) → IsRoundUnderWay m now crew crew' r work
     → HasStopped now now' crew'.grant.user → HasStopped m now' crew.grant.user
 stopped-round m now now' crew crew' r work way stopped = record {
   new_entries = way.new_entries ++ stopped.new_entries;
   parts = stopped.parts ∙ way.goes_on.parts;
-  history = stopped.history ∙ ap (λ h. h ++ stopped.new_entries) way.goes_on.history ∙ append_assoc m.history way.new_entries stopped.new_entries;
+  history = stopped.history ∙ ap (λ h. h ++ stopped.new_entries) (serial-history m now crew crew' way.new_entries way.goes_on) ∙ append_assoc m.history way.new_entries stopped.new_entries;
   lawful = stopped.lawful;
   calls = all-append (λ (entry : Entry). (entry.user ≡ crew.grant.user) × IsTrue (is_some (recorded_call entry.what))) way.new_entries stopped.new_entries way.goes_on.calls
       (subst (λ (g : Grant). AreCallsOf g.user stopped.new_entries) way.goes_on.grant stopped.calls);
 }
 
-pub round-stops : (m now : MachineFacts) (crew crew' : SerialCrew) (work : Bool) → IsRoundUnderWay m now crew crew' (2 ^ crew.grant.dim) work
-    → HasMadeRound m now crew crew' work
+pub round-stops : (m now : MachineFacts) (crew crew' : CrewFacts) (work : Bool) → IsRoundUnderWay m now crew crew' (2 ^ crew.grant.dim) work
+    → HasMadeSerialRound m now crew crew' work
 round-stops m now crew crew' work way = record {
-  round = way.new_entries;
-  goes_on = way.goes_on;
-  is_round = are-made.round_ends crew.grant.dim (map (entry_inward crew.grant.sub) way.new_entries) way.part;
-  works = way.works;
+  made_round = record {
+    round = way.new_entries;
+    goes_on = way.goes_on;
+    is_round = are-made.round_ends crew.grant.dim (map (entry_inward crew.grant.sub) way.new_entries) way.part;
+    works = way.works;
+    host = way.host;
+  };
   left = way.left;
-  host = way.host;
 }

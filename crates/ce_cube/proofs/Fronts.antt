@@ -19,7 +19,7 @@ use Rattle.ce_lock.proofs.Histories.{between, own_append, own_none, every_map, n
 use Rattle.ce_machine.specs.Meanings.{whose, is_alone_entry}
 use Rattle.ce_machine.specs.Keeping.{alone-answered}
 use Rattle.ce_script.specs.Moments.{own_entries}
-use Rattle.ce_script.specs.Rounds.{RoundKind, serial}
+use Rattle.ce_script.specs.Rounds.{RoundKind, serial, threaded}
 use Rattle.ce_solo.proofs.Lists.{all-append, all-weaker, filter-kept}
 use Rattle.ce_solo.proofs.Projection.Numbers.{IsPlaced, IsNumber, out_node, out_test, in_out}
 use Rattle.ce_cube.specs.Crews.{AreCallsOf}
@@ -95,10 +95,28 @@ calls-made grant more made own calls =
     ∙ filter-kept is_call made (all-weaker (λ (entry : Entry). (entry.user ≡ grant.user) × IsTrue (is_call entry)) (λ entry. is_call entry ≡ true) made (λ entry is. is.1) calls))
 
 -- on one thread nothing stands between a user's entries
-pub mix-serial : (user : ℕ) (between made : List Entry) → IsMix serial user between made → between ≡ made
-mix-serial user between made mix =
-    sym (filter-kept (λ entry. entry.user == user) between
-    (all-weaker (λ (entry : Entry). entry.user ≡ user) (λ entry. (entry.user == user) ≡ true) between (λ entry same. eq-eqb _ _ same) mix.each)) ∙ mix.own
+pub mix-serial : (user : ℕ) (all_entries made : List Entry) → IsMix serial user all_entries made → all_entries ≡ made
+mix-serial user all_entries made mix =
+    sym (filter-kept (λ entry. entry.user == user) all_entries
+    (all-weaker (λ (entry : Entry). entry.user ≡ user) (λ entry. (entry.user == user) ≡ true) all_entries (λ entry same. eq-eqb _ _ same) mix.each)) ∙ mix.own
+
+-- a user's entries alone are a stretch of either kind
+pub mix-own : (kind : RoundKind) (user : ℕ) (made : List Entry) → AllByRecursion (λ (entry : Entry). entry.user ≡ user) made → IsMix kind user made made
+mix-own kind user made own = record {
+  own = filter-kept (λ (entry : Entry). entry.user == user) made
+      (all-weaker (λ (entry : Entry). entry.user ≡ user) (λ (entry : Entry). (entry.user == user) ≡ true) made (λ entry same. eq-eqb _ _ same) own);
+  each = among kind own;
+}
+  where
+    among : (kind : RoundKind) → AllByRecursion (λ (entry : Entry). entry.user ≡ user) made → AllByRecursion (IsAllowedAmong kind user) made
+    among serial own = own
+    among threaded own = all-weaker (λ (entry : Entry). entry.user ≡ user) (IsAllowedAmong threaded user) made (λ entry same. tt) own
+
+pub mix-calls : (kind : RoundKind) (user : ℕ) (made : List Entry) → AreCallsOf user made → IsMix kind user made made
+mix-calls kind user made calls =
+    mix-own kind user made
+    (all-weaker (λ (entry : Entry). (entry.user ≡ user) × IsTrue (is_some (recorded_call entry.what))) (λ (entry : Entry). entry.user ≡ user) made
+    (λ entry call. call.0) calls)
 
 pub mix-both : (kind : RoundKind) (user : ℕ) (front rest made made' : List Entry) → IsMix kind user front made → IsMix kind user rest made'
     → IsMix kind user (front ++ rest) (made ++ made')

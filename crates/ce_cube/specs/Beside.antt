@@ -51,7 +51,7 @@ abbrev pub IsAllowedAmong : RoundKind → ℕ → Entry → Type 0
 IsAllowedAmong serial user entry = entry.user ≡ user
 IsAllowedAmong threaded user entry = Unit {0}
 
--- `user_entries` are the user's entries of the stretch `between`, in order; on one thread there are no others
-pub record IsMix (kind : RoundKind) (user : ℕ) (between user_entries : List Entry) : Type 0 where
-  pub own : own_entries user between ≡ user_entries
-  pub each : AllByRecursion (IsAllowedAmong kind user) between
+-- `user_entries` are the user's entries of the stretch `all_entries`, in order; on one thread there are no others
+pub record IsMix (kind : RoundKind) (user : ℕ) (all_entries user_entries : List Entry) : Type 0 where
+  pub own : own_entries user all_entries ≡ user_entries
+  pub each : AllByRecursion (IsAllowedAmong kind user) all_entries

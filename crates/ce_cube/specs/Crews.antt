@@ -19,11 +19,12 @@ use Rattle.ce_host.specs.declared.host.Host.{Host}
 use Rattle.rk_node.specs.Boxes.{Box, IsClean, fresh_at}
 use Rattle.rk_node.specs.declared.out.Out.TheVariants.{Nothing}
 use Rattle.ce_machine.specs.Meanings.{MachineFacts}
-use Rattle.ce_script.specs.Rounds.{IsSerialRound, has_work}
+use Rattle.ce_script.specs.Rounds.{RoundKind, serial, IsRound, has_work}
 use Rattle.ce_cube.specs.declared.crew.SerialCrew.{SerialCrew}
 use Rattle.ce_cube.specs.Boxes.{IsHeldAs, AreInStep}
 use Rattle.ce_cube.specs.Rehoming.{AreAllBlocks}
 use Rattle.ce_cube.specs.Rounds.{dispatches_left}
+use Rattle.ce_cube.specs.Beside.{IsMix}
 
 -- the machine is within its limits, and what was asked of it so far is lawful
 pub record IsLawfulMachine (machine : MachineFacts) : Type 0 where
@@ -61,10 +62,22 @@ pub record IsHostAtHome (user : ℕ) (host : Host) : Type 0 where
   pub room : host.store.spare + length host.store.blocks ≡ greatest_blocks
   pub spare : host.spare ≡ Some []
 
+-- a crew as the laws see it: its cube, the boxes of the cube's nodes in relative order, the host of its user, and how many entries the cube's
+-- trace has
+pub record CrewFacts : Type 0 where
+  pub grant : Grant
+  pub boxes : List Box
+  pub host : Host
+  pub entries : ℕ
+
+-- so is a crew on one thread seen
+abbrev pub serial_facts : SerialCrew → CrewFacts
+serial_facts crew = record { grant = crew.grant; boxes = crew.nodes.items; host = crew.host; entries = crew.entries }
+
 -- the crew of a cube that is held, and wasn't drained, is in step with the history
-pub record IsCrewInStep (parts : MachineParts) (history : List Entry) (crew : SerialCrew) : Type 0 where
+pub record IsCrewInStep (parts : MachineParts) (history : List Entry) (crew : CrewFacts) : Type 0 where
   pub held : IsHeldAs history crew.grant.number (cube_grant crew.grant)
-  pub boxes : AreBoxesInStep parts history crew.grant crew.nodes.items
+  pub boxes : AreBoxesInStep parts history crew.grant crew.boxes
   pub host : IsHostInStep parts history crew.grant crew.host
   pub entries : crew.entries ≡ length (view history crew.grant.number)
 
@@ -72,10 +85,13 @@ pub record IsCrewInStep (parts : MachineParts) (history : List Entry) (crew : Se
 abbrev pub AreCallsOf : ℕ → List Entry → Type 0
 AreCallsOf user new_entries = AllByRecursion (λ entry. (entry.user ≡ user) × IsTrue (is_some (recorded_call entry.what))) new_entries
 
--- Calls of a crew's cube went on with the machine's history: these entries, which make the cube's trace longer. The crew is in step again.
-pub record HasGoneOn (before after : MachineFacts) (crew crew' : SerialCrew) (new_entries : List Entry) : Type 0 where
+-- Calls of a crew's cube went on with the machine's history: these are its user's entries of that stretch, and make the cube's trace longer. On one
+-- thread they are the whole stretch. The crew is in step again.
+pub record HasGoneOn (kind : RoundKind) (before after : MachineFacts) (crew crew' : CrewFacts) (new_entries : List Entry) : Type 0 where
+  pub all_entries : List Entry
   pub parts : after.parts ≡ before.parts
-  pub history : after.history ≡ before.history ++ new_entries
+  pub history : after.history ≡ before.history ++ all_entries
+  pub mix : IsMix kind crew.grant.user all_entries new_entries
   pub lawful : IsLawful after.parts after.history
   pub calls : AreCallsOf crew.grant.user new_entries
   pub grant : crew'.grant ≡ crew.grant
@@ -90,16 +106,19 @@ pub record HasStopped (before after : MachineFacts) (user : ℕ) : Type 0 where
   pub lawful : IsLawful after.parts after.history
   pub calls : AreCallsOf user new_entries
 
--- A serial round went on, by which a node was given work or none was. Work takes one at least of the dispatches that are allowed; the host is
--- what it was.
-pub record HasMadeRound (before after : MachineFacts) (crew crew' : SerialCrew) (work : Bool) : Type 0 where
+-- A round of this kind went on, by which a node was given work or none was. The host is what it was.
+pub record HasMadeRound (kind : RoundKind) (before after : MachineFacts) (crew crew' : CrewFacts) (work : Bool) : Type 0 where
   pub round : List Entry
-  pub goes_on : HasGoneOn before after crew crew' round
-  pub is_round : IsSerialRound crew.grant.dim (map (entry_inward crew.grant.sub) round)
+  pub goes_on : HasGoneOn kind before after crew crew' round
+  pub is_round : IsRound kind crew.grant.dim (map (entry_inward crew.grant.sub) round)
   pub works : has_work (map (entry_inward crew.grant.sub) round) ≡ work
+  pub host : crew'.host ≡ crew.host
+
+-- A round went on, on one thread. Work takes one at least of the dispatches that are allowed.
+pub record HasMadeSerialRound (before after : MachineFacts) (crew crew' : CrewFacts) (work : Bool) : Type 0 where
+  pub made_round : HasMadeRound serial before after crew crew' work
   pub left : dispatches_left after.parts after.history crew.grant.number (cube_grant crew.grant) + (if work then 1 else 0)
       ≤ dispatches_left before.parts before.history crew.grant.number (cube_grant crew.grant)
-  pub host : crew'.host ≡ crew.host
 
 -- ---- a cube that is given back
 

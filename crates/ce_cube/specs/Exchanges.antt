@@ -11,12 +11,11 @@ use Rattle.rk_node.specs.Boxes.{Box}
 use Rattle.rk_node.specs.Answering.{IsAwaitingAnswer}
 use Rattle.ce_lock.specs.declared.limits.TheConstants.{HISTORY_LIMIT}
 use Rattle.ce_machine.specs.Meanings.{MachineFacts}
-use Rattle.ce_script.specs.Rounds.{asks_for_work, is_take, is_dispatch, IsTurn, has_work}
+use Rattle.ce_script.specs.Rounds.{serial, asks_for_work, is_take, is_dispatch, IsTurn, has_work}
 use Rattle.ce_cube.specs.Boxes.{IsHeldAs, IsStandIn, trace_node, trace_store}
 use Rattle.ce_cube.specs.Hearable.{calls_left}
 use Rattle.ce_cube.specs.Rounds.{dispatches_left, IsPartOfRound}
-use Rattle.ce_cube.specs.declared.crew.SerialCrew.{SerialCrew}
-use Rattle.ce_cube.specs.Crews.{IsLawfulMachine, IsReady, AreCallsOf, HasGoneOn}
+use Rattle.ce_cube.specs.Crews.{IsLawfulMachine, IsReady, AreCallsOf, HasGoneOn, CrewFacts}
 use Rattle.ce_daemon.specs.Peeks.{cube_grant}
 
 -- node r of this cube after the machine's history
@@ -84,18 +83,18 @@ pub record IsTurning (before now : MachineFacts) (grant : Grant) (r : ℕ) (box 
   pub count_is : count ≡ length new_entries
 
 -- a turn of node r of the crew went on, with work or none: its box is in step again, the others are what they were, and so is the host
-pub record HasTakenTurn (before after : MachineFacts) (crew crew' : SerialCrew) (r : ℕ) (work : Bool) : Type 0 where
+pub record HasTakenTurn (before after : MachineFacts) (crew crew' : CrewFacts) (r : ℕ) (work : Bool) : Type 0 where
   pub turn : List Entry
-  pub goes_on : HasGoneOn before after crew crew' turn
+  pub goes_on : HasGoneOn serial before after crew crew' turn
   pub is_turn : IsTurn r (map (entry_inward crew.grant.sub) turn)
   pub works : has_work (map (entry_inward crew.grant.sub) turn) ≡ work
   pub left : cube_dispatches_left after crew.grant + (if work then 1 else 0) ≡ cube_dispatches_left before crew.grant
   pub host : crew'.host ≡ crew.host
 
 -- a round of the crew is under way: the first nodes, so many, have taken their turns, by which a node was given work or none was
-pub record IsRoundUnderWay (before now : MachineFacts) (crew crew' : SerialCrew) (count : ℕ) (work : Bool) : Type 0 where
+pub record IsRoundUnderWay (before now : MachineFacts) (crew crew' : CrewFacts) (count : ℕ) (work : Bool) : Type 0 where
   pub new_entries : List Entry
-  pub goes_on : HasGoneOn before now crew crew' new_entries
+  pub goes_on : HasGoneOn serial before now crew crew' new_entries
   pub part : IsPartOfRound count (map (entry_inward crew.grant.sub) new_entries)
   pub works : has_work (map (entry_inward crew.grant.sub) new_entries) ≡ work
   pub left : cube_dispatches_left now crew.grant + (if work then 1 else 0) ≤ cube_dispatches_left before crew.grant

@@ -12,7 +12,7 @@ ghost use Rattle.ce_daemon.specs.Boxes.{AreBoxesOf};
 ghost use Rattle.rk_node.specs.Boxes.{Box, IsClean};
 ghost use Rattle.rk_node.specs.Hearings.{AreApartFrom};
 ghost use Rattle.ce_cube.specs.Boxes.{IsHeldAs};
-ghost use Rattle.ce_cube.specs.Crews.{AreAllHome, HasAllBlocks, IsCrewInStep, IsHostAtHome};
+ghost use Rattle.ce_cube.specs.Crews.{AreAllHome, HasAllBlocks, IsCrewInStep, IsHostAtHome, serial_facts};
 ghost use Rattle.ce_daemon.specs.Peeks.{cube_grant};
 ghost use Rattle.ce_cube.specs.Homecoming.{HasPrefix, IsEmptied, IsIdle, emptied_box, entered_box, names_at_home, names_in_boxes, refilled_box};
 
@@ -35,7 +35,7 @@ impl SerialCrew {
         ensures in_step { (parts : MachineParts) (history : List Entry) → IsMachine parts
             → length parts.images ≡ images
             → IsHeldAs history grant.number (cube_grant grant) → view history grant.number ≡ []
-            → IsCrewInStep parts history result }
+            → IsCrewInStep parts history (serial_facts result) }
     {
         enter_all(nodes.as_mut_slice(), grant.dim, images);
         SerialCrew {

@@ -1,6 +1,6 @@
 //! A round on one thread: each node of a cube takes a turn.
 ghost use Rattle.std.specs.Prelude.{◌≡◌, ◌^◌, ◌<◌, MatchResult};
-ghost use Rattle.ce_cube.specs.Crews.{HasMadeRound, HasStopped, IsCrewInStep, IsLawfulMachine};
+ghost use Rattle.ce_cube.specs.Crews.{HasMadeSerialRound, HasStopped, IsCrewInStep, IsLawfulMachine, serial_facts};
 ghost use Rattle.ce_cube.specs.Exchanges.{HasTakenTurn};
 
 use crate::SerialCrew;
@@ -21,9 +21,11 @@ pub fn round_serial(
     images: &[Image],
 ) -> Result<bool, NoMemory>
     requires machine { IsLawfulMachine machine.old }
-    requires crew { IsCrewInStep machine.old.parts machine.old.history crew.old }
+    requires crew { IsCrewInStep machine.old.parts machine.old.history
+        (serial_facts crew.old) }
     requires images { images.now ≡ machine.old.parts.images }
-    ensures { MatchResult result (HasMadeRound machine.old machine.new crew.old crew.new)
+    ensures { MatchResult result (HasMadeSerialRound machine.old machine.new
+        (serial_facts crew.old) (serial_facts crew.new))
         (λ _. HasStopped machine.old machine.new crew.old.grant.user) }
 {
     let count = crew.nodes.len() as u32;
@@ -43,10 +45,12 @@ fn turn_of(
     images: &[Image],
 ) -> Result<bool, NoMemory>
     requires machine { IsLawfulMachine machine.old }
-    requires crew { IsCrewInStep machine.old.parts machine.old.history crew.old }
+    requires crew { IsCrewInStep machine.old.parts machine.old.history
+        (serial_facts crew.old) }
     requires node { r < 2 ^ crew.old.grant.dim }
     requires images { images.now ≡ machine.old.parts.images }
-    ensures { MatchResult result (HasTakenTurn machine.old machine.new crew.old crew.new r)
+    ensures { MatchResult result (HasTakenTurn machine.old machine.new
+        (serial_facts crew.old) (serial_facts crew.new) r)
         (λ _. HasStopped machine.old machine.new crew.old.grant.user) }
 {
     let node = &mut crew.nodes[r as usize];

@@ -15,10 +15,9 @@ use Rattle.ce_solo.proofs.Sending.{place_parts}
 use Rattle.rk_node.specs.Boxes.{Box}
 use Rattle.ce_host.specs.declared.command.Command.TheVariants.{Getcube, Dump, Trace}
 use Rattle.ce_host.specs.declared.answer.Answer.TheVariants.{Held, State, Entries}
-use Rattle.ce_cube.specs.declared.crew.SerialCrew.{SerialCrew}
-use Rattle.ce_cube.specs.Crews.{IsCrewInStep, box_at}
+use Rattle.ce_cube.specs.Crews.{IsCrewInStep, box_at, CrewFacts}
 use Rattle.ce_daemon.specs.Peeks.{cube_grant}
-use Rattle.ce_script.specs.Rounds.{serial}
+use Rattle.ce_script.specs.Rounds.{RoundKind}
 use Rattle.ce_record.specs.Run.{IsNextCommand}
 use Rattle.ce_record.proofs.AtOnce.{held, dump, trace}
 
@@ -41,27 +40,27 @@ status_at parts history number grant at =
 box-read : (boxes : List Box) (r : ℕ) (box : Box) → r < length boxes → box ≡ get_or boxes r box → box ≡ box_at boxes r
 box-read boxes r box below read = get_or_read boxes r box below read _
 
-module _ (parts : MachineParts) (history : List Entry) (crew : SerialCrew) (step : IsCrewInStep parts history crew) where
-  pub dumped : (at : Place) (status : Status) (box : Box) → is_place crew.grant.dim at ≡ true → box ≡ get_or crew.nodes.items at.node box
-      → status ≡ (process_at box.node at.pid).status → IsNextCommand serial parts history crew.grant.user (Dump at) (State status) []
-  dumped at status box place read is =
+module _ (parts : MachineParts) (history : List Entry) (crew : CrewFacts) (step : IsCrewInStep parts history crew) where
+  pub dumped : (kind : RoundKind) (at : Place) (status : Status) (box : Box) → is_place crew.grant.dim at ≡ true → box ≡ get_or crew.boxes at.node box
+      → status ≡ (process_at box.node at.pid).status → IsNextCommand kind parts history crew.grant.user (Dump at) (State status) []
+  dumped kind at status box place read is =
       let grant = cube_grant crew.grant in
       let below = (place_parts crew.grant.dim at place).0 in
-      let within : at.node < length crew.nodes.items = omega (arith, below, step.boxes.all) in
+      let within : at.node < length crew.boxes = omega (arith, below, step.boxes.all) in
       let at_rest = (step.boxes.in_step at.node below).at_rest in
       let said : status ≡ status_at parts history crew.grant.number grant at =
-      is ∙ ap (λ (box : Box). (process_at box.node at.pid).status) (box-read crew.nodes.items at.node box within read)
+      is ∙ ap (λ (box : Box). (process_at box.node at.pid).status) (box-read crew.boxes at.node box within read)
       ∙ ap (λ (node : Node). (process_at node at.pid).status) at_rest ∙ status-outward grant (rest (cube_of parts.images grant) (opening (cube_of parts.images grant)) at.node (view history crew.grant.number)) at.pid in
       let own : status_at parts history step.held.cube.number step.held.cube.grant at ≡ status_at parts history crew.grant.number grant at =
       λ i. status_at parts history (step.held.number_is i) (step.held.grant_is i) at in
-      subst (λ status. IsNextCommand serial parts history crew.grant.user (Dump at) (State status) []) (own ∙ sym said)
-      (dump serial parts history crew.grant.user step.held.cube step.held.held at (ap (λ (g : CubeGrant). is_place g.dim at) step.held.grant_is ∙ place))
+      subst (λ status. IsNextCommand kind parts history crew.grant.user (Dump at) (State status) []) (own ∙ sym said)
+      (dump kind parts history crew.grant.user step.held.cube step.held.held at (ap (λ (g : CubeGrant). is_place g.dim at) step.held.grant_is ∙ place))
 
-  pub traced : IsNextCommand serial parts history crew.grant.user Trace (Entries crew.entries) []
-  traced =
-      subst (λ count. IsNextCommand serial parts history crew.grant.user Trace (Entries count) [])
+  pub traced : (kind : RoundKind) → IsNextCommand kind parts history crew.grant.user Trace (Entries crew.entries) []
+  traced kind =
+      subst (λ count. IsNextCommand kind parts history crew.grant.user Trace (Entries count) [])
       (ap (λ number. length (view history number)) step.held.number_is ∙ sym step.entries)
-      (trace serial parts history crew.grant.user step.held.cube step.held.held)
+      (trace kind parts history crew.grant.user step.held.cube step.held.held)
 
-  pub held-already : (dim : ℕ) → IsNextCommand serial parts history crew.grant.user (Getcube dim) Held []
-  held-already dim = held serial parts history crew.grant.user step.held.cube step.held.held dim
+  pub held-already : (kind : RoundKind) (dim : ℕ) → IsNextCommand kind parts history crew.grant.user (Getcube dim) Held []
+  held-already kind dim = held kind parts history crew.grant.user step.held.cube step.held.held dim

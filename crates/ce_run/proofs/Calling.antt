@@ -13,9 +13,8 @@ use Rattle.ce_machine.specs.declared.call.Call.TheVariants.{Freecube}
 use Rattle.ce_machine.specs.declared.call.Reply.{Reply}
 use Rattle.ce_machine.specs.Requests.{HasBroughtBoxes, IsFittingCall}
 use Rattle.rk_node.specs.Boxes.{IsClean}
-use Rattle.ce_cube.specs.declared.crew.SerialCrew.{SerialCrew}
 use Rattle.ce_cube.specs.Boxes.{IsOneMore, IsInStep}
-use Rattle.ce_cube.specs.Crews.{IsLawfulMachine, box_at}
+use Rattle.ce_cube.specs.Crews.{IsLawfulMachine, box_at, CrewFacts}
 use Rattle.ce_daemon.specs.Peeks.{cube_grant}
 use Rattle.ce_cube.proofs.Adds.{calls-add}
 use Rattle.ce_cube.proofs.Crewing.{view-short}
@@ -36,7 +35,7 @@ host-fits parts history user call machine host = record {
   boxes = brings-none history user call parts host;
 }
 
-module _ (before behind : MachineFacts) (crew : SerialCrew) (call : Call Box) (reply : Reply Box) (machine : IsLawfulMachine before)
+module _ (before behind : MachineFacts) (crew : CrewFacts) (call : Call Box) (reply : Reply Box) (machine : IsLawfulMachine before)
     (nodes : AreNodesInStep before.parts before.history crew) (host : IsHostCall before.parts before.history crew.grant.user call)
     (asked : HasAsked before behind crew.grant.user call reply) where
   abbrev made : Entry
@@ -49,7 +48,7 @@ module _ (before behind : MachineFacts) (crew : SerialCrew) (call : Call Box) (r
   one = calls-add before.parts before.history crew.grant.number grant machine.within machine.lawful nodes.held HOST host.inner made host.fits
       (record { user = refl; actor_is = refl; what = ap (what_of_request before.parts (after before.history) crew.grant.user HOST) (sym host.is) ∙ asked.answer })
 
-  abbrev crew' : SerialCrew
+  abbrev crew' : CrewFacts
   crew' = record crew { entries = crew.entries + 1 }
 
   nodes_behind : AreNodesInStep before.parts (before.history ++ made ∷ []) crew'
@@ -58,7 +57,7 @@ module _ (before behind : MachineFacts) (crew : SerialCrew) (call : Call Box) (r
     boxes = record {
       all = nodes.boxes.all;
       ready = nodes.boxes.ready;
-      in_step = λ r below. subst (λ node. IsInStep grant node (box_at crew.nodes.items r).node) (sym (one.all refl r below)) (nodes.boxes.in_step r below);
+      in_step = λ r below. subst (λ node. IsInStep grant node (box_at crew.boxes r).node) (sym (one.all refl r below)) (nodes.boxes.in_step r below);
     };
     entries = ap (λ n. n + 1) nodes.entries
         ∙ sym (ap length one.trace ∙ length-append (view before.history crew.grant.number) (entry_inward crew.grant.sub made ∷ []));

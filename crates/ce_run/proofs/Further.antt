@@ -19,6 +19,7 @@ use Rattle.ce_host.specs.declared.command.Command.{Command}
 use Rattle.ce_host.specs.declared.answer.Answer.{Answer}
 use Rattle.ce_cube.specs.Crews.{IsHostAtHome}
 use Rattle.ce_cube.proofs.Homes.{length-home}
+use Rattle.ce_cube.proofs.Fronts.{mix-serial}
 use Rattle.ce_script.specs.declared.record.UserRecord.{UserRecord}
 use Rattle.ce_script.specs.declared.record.Record.{Record}
 use Rattle.ce_script.specs.declared.script.Script.{Script}
@@ -37,7 +38,7 @@ use Rattle.ce_record.proofs.Run.{run_begins, run_goes_on}
 use Rattle.ce_record.proofs.Replies.{replies_begin, replies_go_on}
 use Rattle.ce_run.specs.declared.user_state.UserState.{UserState}
 use Rattle.ce_run.specs.declared.user_state.UserState.TheVariants.{Free, Holding}
-use Rattle.ce_run.specs.UserStates.{HasDone, IsUserStateAt}
+use Rattle.ce_run.specs.UserStates.{HasDone, IsUserStateAt, IsUserAt, UserFacts, free_host, own_crew, user_facts}
 use Rattle.ce_run.specs.Script.{IsRunBehind, HasGoneFurther, IsFreeState, AreFreeStates}
 use Rattle.ce_run.proofs.StatesBehind.{crew-keeps}
 
@@ -53,10 +54,10 @@ same-trace : (h h' : List Entry) (user : ℕ) (cube : HeldCube) → cube_held_by
 same-trace h h' user cube holds same now =
     ap (λ held. trace_in (option_map (holding_of h') held)) (sym (same ∙ holds)) ∙ ap trace_in now ∙ ap (λ held. trace_in (option_map (holding_of h) held)) holds
 
-pub state-stays : (parts : MachineParts) (h h' : List Entry) (user : ℕ) (user_state : UserState) → cube_held_by (after h') user ≡ cube_held_by (after h) user
-    → held_now h' user ≡ held_now h user → IsUserStateAt parts h user user_state → IsUserStateAt parts h' user user_state
-state-stays parts h h' user (Free host) same now state_is = (same ∙ state_is.0, state_is.1)
-state-stays parts h h' user (Holding crew) same now state_is =
+pub state-stays : (parts : MachineParts) (h h' : List Entry) (user : ℕ) (facts : UserFacts) → cube_held_by (after h') user ≡ cube_held_by (after h) user
+    → held_now h' user ≡ held_now h user → IsUserAt parts h user facts → IsUserAt parts h' user facts
+state-stays parts h h' user (free_host host) same now state_is = (same ∙ state_is.0, state_is.1)
+state-stays parts h h' user (own_crew crew) same now state_is =
     let held = state_is.1.held in
     let at = ap (cube_held_by (after h)) (sym state_is.0) ∙ held.held in
     let trace = same-trace h h' user held.cube at same now in (
@@ -68,7 +69,7 @@ state-stays parts h h' user (Holding crew) same now state_is =
 some-stays : (parts : MachineParts) (h h' : List Entry) (user : ℕ) (user_state : Option UserState) → cube_held_by (after h') user ≡ cube_held_by (after h) user
     → held_now h' user ≡ held_now h user → IsSomeAnd user_state (IsUserStateAt parts h user) → IsSomeAnd user_state (IsUserStateAt parts h' user)
 some-stays parts h h' user None same now is = is
-some-stays parts h h' user (Some user_state) same now is = state-stays parts h h' user user_state same now is
+some-stays parts h h' user (Some user_state) same now is = state-stays parts h h' user (user_facts user_state) same now is
 
 -- ---- one command further
 
@@ -85,10 +86,14 @@ pub record HasNoted (user : ℕ) (command : Command) (answer : Answer) (users us
       ≡ slice_set (map (λ one. one.done) users) user (slice_index_or (map (λ one. one.done) users) user [] ++ (command, answer) ∷ [])
 
 module _ (before behind : MachineFacts) (user_states user_states' : List (Option UserState)) (users users' : List UserRecord) (user : ℕ) (command : Command)
-    (answer : Answer) (user_state : UserState) (machine : IsMachine before.parts) (below : user < length users) (done : HasDone before behind user command answer user_state)
+    (answer : Answer) (user_state : UserState) (machine : IsMachine before.parts) (below : user < length users) (done : HasDone serial before behind user command answer (user_facts user_state))
     (state_is : HasNewState user user_state user_states user_states') (noted : HasNoted user command answer users users') where
   abbrev doing : Doing
   doing = doing_behind before.history command answer done.new_entries
+
+  -- nothing else was added on one thread
+  history-is : behind.history ≡ before.history ++ done.new_entries
+  history-is = done.history ∙ ap (λ more. before.history ++ more) (mix-serial user done.all_entries done.new_entries done.mix)
 
   state-now : (script : Script) (all : List (ℕ × Doing)) → IsRunBehind script before user_states users all → (other : ℕ) → other < length script.users
       → IsSomeAnd (slice_index_or user_states' other None) (IsUserStateAt before.parts behind.history other)
@@ -98,9 +103,9 @@ module _ (before behind : MachineFacts) (user_states user_states' : List (Option
             subst (λ u. IsSomeAnd (slice_index_or user_states' u None) (IsUserStateAt before.parts behind.history u)) same
             (subst (λ place. IsSomeAnd place (IsUserStateAt before.parts behind.history user)) (sym state_is.here) done.state_is)
         | inr differ ↦
-            let stay = others_stay before.parts before.history other done.new_entries machine (subst (IsLawful before.parts) done.history done.lawful)
+            let stay = others_stay before.parts before.history other done.new_entries machine (subst (IsLawful before.parts) history-is done.lawful)
             (foreign-to user other done.new_entries differ done.next.own) in
-            subst (λ h. IsSomeAnd (slice_index_or user_states' other None) (IsUserStateAt before.parts h other)) (sym done.history)
+            subst (λ h. IsSomeAnd (slice_index_or user_states' other None) (IsUserStateAt before.parts h other)) (sym history-is)
             (subst (λ place. IsSomeAnd place (IsUserStateAt before.parts (before.history ++ done.new_entries) other)) (sym (state_is.others other (λ e. differ (sym e))))
             (some-stays before.parts before.history (before.history ++ done.new_entries) other (slice_index_or user_states other None) stay.0 stay.1 (run.state_is other inside)))
       ]
@@ -113,7 +118,7 @@ module _ (before behind : MachineFacts) (user_states user_states' : List (Option
         parts = done.parts ∙ run.parts;
         lawful = subst (λ parts. IsLawful parts behind.history) back done.lawful;
         so_far = subst (λ parts. IsRunSoFar serial parts behind.history (all ++ (user, doing) ∷ [])) back
-            (subst (λ h. IsRunSoFar serial before.parts h (all ++ (user, doing) ∷ [])) (sym done.history)
+            (subst (λ h. IsRunSoFar serial before.parts h (all ++ (user, doing) ∷ [])) (sym history-is)
             (run_goes_on serial before.parts before.history all user command answer done.new_entries machine run.lawful run.so_far done.next));
         places = state_is.all ∙ run.places;
         state_is = λ other inside. subst (λ parts. IsSomeAnd (slice_index_or user_states' other None) (IsUserStateAt parts behind.history other)) back (state-now script all run other inside);

@@ -20,15 +20,14 @@ use Rattle.ce_solo.proofs.Lists.{all-append}
 use Rattle.ce_solo.proofs.Projection.Numbers.{IsPlaced, relative_host, few_relative}
 use Rattle.ce_daemon.specs.declared.grant.Grant.{Grant}
 use Rattle.ce_machine.specs.Meanings.{MachineFacts}
-use Rattle.ce_cube.specs.declared.crew.SerialCrew.{SerialCrew}
 use Rattle.ce_cube.specs.Boxes.{IsHeldAs, IsMadeBy}
-use Rattle.ce_cube.specs.Crews.{IsLawfulMachine, IsCrewInStep, HasGoneOn, HasMadeRound}
+use Rattle.ce_cube.specs.Crews.{IsLawfulMachine, IsCrewInStep, HasGoneOn, HasMadeRound, CrewFacts, HasMadeSerialRound}
 use Rattle.ce_daemon.specs.Peeks.{cube_grant}
 use Rattle.ce_cube.specs.Rounds.{dispatches_left}
 use Rattle.ce_cube.proofs.Crewing.{still-sound, stands-still, gone-both}
 use Rattle.ce_cube.proofs.Held.{placed-of}
 use Rattle.ce_cube.proofs.Looks.{IsAtRest}
-use Rattle.ce_script.specs.Rounds.{RoundKind, serial, joined_lists, IsRoundWithoutWork}
+use Rattle.ce_script.specs.Rounds.{RoundKind, joined_lists, IsRoundWithoutWork}
 use Rattle.ce_script.specs.Commands.{host_take}
 use Rattle.ce_record.specs.CubeRounds.{IsRoundOf}
 use Rattle.ce_record.proofs.Moments.{flat-last}
@@ -38,89 +37,91 @@ use Rattle.ce_run.specs.UserStates.{HasCrew, HasReadyCrew}
 
 -- ---- a crew that goes on
 
-pub crew-stays : (before behind : MachineFacts) (crew crew' : SerialCrew) (made : List Entry) → HasGoneOn before behind crew crew' made
+pub crew-stays : (kind : RoundKind) (before behind : MachineFacts) (crew crew' : CrewFacts) (made : List Entry) → HasGoneOn kind before behind crew crew' made
     → HasCrew before crew → HasCrew behind crew'
-crew-stays before behind crew crew' made on has = record {
+crew-stays kind before behind crew crew' made on has = record {
   user = record {
-    book = still-sound before behind crew crew' made has.user.book on;
+    book = still-sound kind before behind crew crew' made has.user.book on;
     within = subst (λ (g : Grant). g.user < behind.parts.users) (sym on.grant)
         (subst (λ (p : MachineParts). crew.grant.user < p.users) (sym on.parts) has.user.within);
   };
   in_step = on.in_step;
 }
 
-pub images-stay : (before behind : MachineFacts) (crew crew' : SerialCrew) (made : List Entry) (images : List ImageParts) → HasGoneOn before behind crew crew' made
-    → images ≡ before.parts.images → images ≡ behind.parts.images
-images-stay before behind crew crew' made images on is = is ∙ ap (λ (p : MachineParts). p.images) (sym on.parts)
+pub images-stay : (kind : RoundKind) (before behind : MachineFacts) (crew crew' : CrewFacts) (made : List Entry) (images : List ImageParts)
+    → HasGoneOn kind before behind crew crew' made → images ≡ before.parts.images → images ≡ behind.parts.images
+images-stay kind before behind crew crew' made images on is = is ∙ ap (λ (p : MachineParts). p.images) (sym on.parts)
 
-pub ready-stays : (before behind : MachineFacts) (crew crew' : SerialCrew) (made : List Entry) (images : List ImageParts) → HasGoneOn before behind crew crew' made
-    → HasReadyCrew before images crew → HasReadyCrew behind images crew'
-ready-stays before behind crew crew' made images on is = record {
-  crew_is = crew-stays before behind crew crew' made on is.crew_is;
-  images_are = images-stay before behind crew crew' made images on is.images_are;
+pub ready-stays : (kind : RoundKind) (before behind : MachineFacts) (crew crew' : CrewFacts) (made : List Entry) (images : List ImageParts)
+    → HasGoneOn kind before behind crew crew' made → HasReadyCrew before images crew → HasReadyCrew behind images crew'
+ready-stays kind before behind crew crew' made images on is = record {
+  crew_is = crew-stays kind before behind crew crew' made on is.crew_is;
+  images_are = images-stay kind before behind crew crew' made images on is.images_are;
 }
 
 -- ---- rounds
 
 -- the dispatches that are left to a crew
-abbrev pub left_to : MachineFacts → SerialCrew → ℕ
+abbrev pub left_to : MachineFacts → CrewFacts → ℕ
 left_to m crew = dispatches_left m.parts m.history crew.grant.number (cube_grant crew.grant)
 
 -- a crew's round, as one of its user's cube
-abbrev pub IsOwnRound : SerialCrew → Bool → List Entry → Type 0
-IsOwnRound crew work round = IsRoundOf serial crew.grant.user (cube_grant crew.grant) work round
+abbrev pub IsOwnRound : RoundKind → CrewFacts → Bool → List Entry → Type 0
+IsOwnRound kind crew work round = IsRoundOf kind crew.grant.user (cube_grant crew.grant) work round
 
-module _ (now behind : MachineFacts) (crew crew' : SerialCrew) (work : Bool) (made : HasMadeRound now behind crew crew' work) where
-  pub round-of : IsOwnRound crew work made.round
-  round-of = record {
-    calls = made.goes_on.calls;
-    is_round = made.is_round;
-    works = sym (work-inward crew.grant.sub made.round) ∙ made.works;
-  }
+pub round-of : (kind : RoundKind) (now behind : MachineFacts) (crew crew' : CrewFacts) (work : Bool) (made : HasMadeRound kind now behind crew crew' work)
+    → IsOwnRound kind crew work made.round
+round-of kind now behind crew crew' work made = record {
+  calls = made.goes_on.calls;
+  is_round = made.is_round;
+  works = sym (work-inward crew.grant.sub made.round) ∙ made.works;
+}
 
-  pub left-behind : left_to behind crew' + (if work then 1 else 0) ≤ left_to now crew
-  left-behind =
-      subst (λ (g : Grant). dispatches_left behind.parts behind.history g.number (cube_grant g) + (if work then 1 else 0) ≤ left_to now crew) (sym made.goes_on.grant) made.left
+pub left-behind : (now behind : MachineFacts) (crew crew' : CrewFacts) (work : Bool) → HasMadeSerialRound now behind crew crew' work
+    → left_to behind crew' + (if work then 1 else 0) ≤ left_to now crew
+left-behind now behind crew crew' work made =
+    subst (λ (g : Grant). dispatches_left behind.parts behind.history g.number (cube_grant g) + (if work then 1 else 0) ≤ left_to now crew) (sym made.made_round.goes_on.grant) made.left
 
-pub by-grant : (crew crew' : SerialCrew) (work : Bool) (round : List Entry) → crew'.grant ≡ crew.grant → IsOwnRound crew' work round → IsOwnRound crew work round
-by-grant crew crew' work round same is = subst (λ (g : Grant). IsRoundOf serial g.user (cube_grant g) work round) same is
+pub by-grant : (kind : RoundKind) (crew crew' : CrewFacts) (work : Bool) (round : List Entry) → crew'.grant ≡ crew.grant → IsOwnRound kind crew' work round
+    → IsOwnRound kind crew work round
+by-grant kind crew crew' work round same is = subst (λ (g : Grant). IsRoundOf kind g.user (cube_grant g) work round) same is
 
-pub all-by-grant : (crew crew' : SerialCrew) (rounds : List (List Entry)) → crew'.grant ≡ crew.grant → AllByRecursion (IsOwnRound crew' true) rounds
-    → AllByRecursion (IsOwnRound crew true) rounds
-all-by-grant crew crew' rounds same is = subst (λ (g : Grant). AllByRecursion (IsRoundOf serial g.user (cube_grant g) true) rounds) same is
+pub all-by-grant : (kind : RoundKind) (crew crew' : CrewFacts) (rounds : List (List Entry)) → crew'.grant ≡ crew.grant → AllByRecursion (IsOwnRound kind crew' true) rounds
+    → AllByRecursion (IsOwnRound kind crew true) rounds
+all-by-grant kind crew crew' rounds same is = subst (λ (g : Grant). AllByRecursion (IsRoundOf kind g.user (cube_grant g) true) rounds) same is
 
 -- rounds with work were made so far
-pub record HasMadeRounds (before now : MachineFacts) (crew crew' : SerialCrew) : Type 0 where
+pub record HasMadeRounds (kind : RoundKind) (before now : MachineFacts) (crew crew' : CrewFacts) : Type 0 where
   pub rounds : List (List Entry)
-  pub goes_on : HasGoneOn before now crew crew' (joined_lists rounds)
-  pub with_work : AllByRecursion (IsOwnRound crew true) rounds
+  pub goes_on : HasGoneOn kind before now crew crew' (joined_lists rounds)
+  pub with_work : AllByRecursion (IsOwnRound kind crew true) rounds
 
-pub no-round : (m : MachineFacts) (crew : SerialCrew) → IsLawfulMachine m → IsCrewInStep m.parts m.history crew → HasMadeRounds m m crew crew
-no-round m crew sound step = record { rounds = []; goes_on = stands-still m crew sound step; with_work = tt }
+pub no-round : (kind : RoundKind) (m : MachineFacts) (crew : CrewFacts) → IsLawfulMachine m → IsCrewInStep m.parts m.history crew → HasMadeRounds kind m m crew crew
+no-round kind m crew sound step = record { rounds = []; goes_on = stands-still kind m crew sound step; with_work = tt }
 
-module _ (before now behind : MachineFacts) (crew crew' crew'' : SerialCrew) (so_far : HasMadeRounds before now crew crew') where
-  pub one-round-more : HasMadeRound now behind crew' crew'' true → HasMadeRounds before behind crew crew''
+module _ (kind : RoundKind) (before now behind : MachineFacts) (crew crew' crew'' : CrewFacts) (so_far : HasMadeRounds kind before now crew crew') where
+  pub one-round-more : HasMadeRound kind now behind crew' crew'' true → HasMadeRounds kind before behind crew crew''
   one-round-more made = record {
     rounds = so_far.rounds ++ made.round ∷ [];
-    goes_on = subst (HasGoneOn before behind crew crew'') (sym (flat-last (λ list. list) so_far.rounds made.round))
-        (gone-both before now behind crew crew' crew'' (joined_lists so_far.rounds) made.round so_far.goes_on made.goes_on);
-    with_work = all-append (IsOwnRound crew true) so_far.rounds (made.round ∷ []) so_far.with_work
-        (by-grant crew crew' true made.round so_far.goes_on.grant (round-of now behind crew' crew'' true made), tt);
+    goes_on = subst (HasGoneOn kind before behind crew crew'') (sym (flat-last (λ list. list) so_far.rounds made.round))
+        (gone-both kind before now behind crew crew' crew'' (joined_lists so_far.rounds) made.round so_far.goes_on made.goes_on);
+    with_work = all-append (IsOwnRound kind crew true) so_far.rounds (made.round ∷ []) so_far.with_work
+        (by-grant kind crew crew' true made.round so_far.goes_on.grant (round-of kind now behind crew' crew'' true made), tt);
   }
 
-  pub rounds-over : HasMadeRound now behind crew' crew'' false → HasRunRounds before behind crew crew''
+  pub rounds-over : HasMadeRound kind now behind crew' crew'' false → HasRunRounds kind before behind crew crew''
   rounds-over made = record {
     rounds = so_far.rounds;
     last = made.round;
-    goes_on = gone-both before now behind crew crew' crew'' (joined_lists so_far.rounds) made.round so_far.goes_on made.goes_on;
+    goes_on = gone-both kind before now behind crew crew' crew'' (joined_lists so_far.rounds) made.round so_far.goes_on made.goes_on;
     with_work = so_far.with_work;
-    without_work = by-grant crew crew' false made.round so_far.goes_on.grant (round-of now behind crew' crew'' false made);
+    without_work = by-grant kind crew crew' false made.round so_far.goes_on.grant (round-of kind now behind crew' crew'' false made);
   }
 
 -- ---- a cube that rests
 
 -- the crew's cube is quiet, or its dispatches are used up
-abbrev pub IsCrewResting : MachineFacts → SerialCrew → Type 0
+abbrev pub IsCrewResting : MachineFacts → CrewFacts → Type 0
 IsCrewResting m crew = IsAtRest m.parts m.history crew.grant.number (cube_grant crew.grant)
 
 -- ---- a look for a message that finds none leaves it so
@@ -152,8 +153,8 @@ module _ (o : Standing) (t : List Entry) (user : ℕ) where
       list_all-same p q from (suc count) same =
           ap₂ (λ a b. a && b) (same from (omega arith)) (list_all-same p q (from + 1) count (λ r below. same r (omega (arith, below))))
 
-module _ (before behind : MachineFacts) (crew crew' : SerialCrew) (sound : IsLawfulMachine before) (step : IsCrewInStep before.parts before.history crew)
-    (none : HasTakenNone before behind crew crew') where
+module _ (kind : RoundKind) (before behind : MachineFacts) (crew crew' : CrewFacts) (sound : IsLawfulMachine before)
+    (step : IsCrewInStep before.parts before.history crew) (none : HasTakenNone kind before behind crew crew') where
   abbrev grant : CubeGrant
   grant = cube_grant crew.grant
 

@@ -1,5 +1,5 @@
 -- A cube that a user asks for.
-use Rattle.std.proofs.Common.{◌≡◌, ℕ, ◌≤◌, List, [], ◌∷◌, ◌++◌, Option, Some, None, refl, ap, sym, ◌∙◌, subst}
+use Rattle.std.proofs.Common.{◌≡◌, ℕ, ◌≤◌, List, [], ◌∷◌, ◌++◌, Option, Some, None, refl, ap, sym, ◌∙◌, subst, inl}
 use Rattle.std.specs.Global.{Vec}
 use Rattle.ce_model.specs.declared.topology.TheConstants.{HOST}
 use Rattle.ce_model.specs.declared.topology.Subcube.{Subcube}
@@ -25,17 +25,15 @@ use Rattle.ce_machine.specs.declared.call.Reply.TheVariants as replies
 use Rattle.ce_machine.specs.Requests.{IsFittingCall}
 use Rattle.ce_machine.specs.Replies.{IsReplyTo, IsGrantReply, IsGranted}
 use Rattle.ce_daemon.specs.Holding.{next_grant}
-use Rattle.ce_cube.specs.declared.crew.SerialCrew.{SerialCrew}
 use Rattle.ce_cube.specs.Boxes.{IsHeldAs, IsBegun}
-use Rattle.ce_cube.specs.Crews.{IsCrewInStep, IsHostAtHome}
+use Rattle.ce_cube.specs.Crews.{IsCrewInStep, IsHostAtHome, CrewFacts}
 use Rattle.ce_daemon.specs.Peeks.{cube_grant}
 use Rattle.ce_cube.proofs.Begun.{grants-begin}
-use Rattle.ce_script.specs.Rounds.{serial}
+use Rattle.ce_cube.proofs.Fronts.{mix-own}
+use Rattle.ce_script.specs.Rounds.{RoundKind}
 use Rattle.ce_script.specs.Commands.{getcube_reply}
 use Rattle.ce_record.proofs.Asked.{asked}
-use Rattle.ce_run.specs.declared.user_state.UserState.{UserState}
-use Rattle.ce_run.specs.declared.user_state.UserState.TheVariants.{Free, Holding}
-use Rattle.ce_run.specs.UserStates.{HasUser, HasDone, IsUserStateAt}
+use Rattle.ce_run.specs.UserStates.{HasUser, HasDone, IsUserAt, free_host, own_crew, UserFacts}
 use Rattle.ce_run.specs.Asking.{home_of, HasAsked}
 use Rattle.ce_run.proofs.Peeking.{same-what}
 
@@ -70,32 +68,35 @@ module _ (before : MachineFacts) (user dim : ℕ) (has : HasUser before user) (f
       answer-is : what_of_request before.parts state user HOST (getcube dim) ≡ Some (whats.Getcube dim sub)
       answer-is = asks.answer ∙ ap Some (sym what)
 
-      done-so : (answer : Answer) (user_state : UserState) → getcube_reply sub ≡ answer → IsUserStateAt before.parts behind.history user user_state
-          → HasDone before behind user (Getcube dim) answer user_state
-      done-so answer user_state is state_is = record {
+      done-so : (kind : RoundKind) (answer : Answer) (facts : UserFacts) → getcube_reply sub ≡ answer → IsUserAt before.parts behind.history user facts
+          → HasDone kind before behind user (Getcube dim) answer facts
+      done-so kind answer facts is state_is = record {
+        all_entries = made ∷ [];
         new_entries = made ∷ [];
         parts = asks.parts;
         history = history-is;
+        mix = mix-own kind user (made ∷ []) (refl, tt);
+        whole = inl refl;
         lawful = asks.lawful;
-        next = asked serial before.parts before.history user (Getcube dim) (record { home = 0; index = 0 }) (getcube dim) (whats.Getcube dim sub) answer
+        next = asked kind before.parts before.history user (Getcube dim) (record { home = 0; index = 0 }) (getcube dim) (whats.Getcube dim sub) answer
             has.book.within has.book.lawful refl (record { fits = fits; answer = answer-is }) (ap Some is);
         state_is = state_is;
       }
 
     -- ---- none is free
 
-    none-by : (sub : Option Subcube) → whats.Getcube dim sub ≡ asks.what → IsGrantReply home_of IsClean state user dim sub reply → reply ≡ replies.NoneFree
-        → (host : Host) → IsHostAtHome user host → HasDone before behind user (Getcube dim) answers.None (Free host)
-    none-by None what is none host home =
-        done-so None what answers.None (Free host) refl (
+    none-by : (kind : RoundKind) (sub : Option Subcube) → whats.Getcube dim sub ≡ asks.what → IsGrantReply home_of IsClean state user dim sub reply → reply ≡ replies.NoneFree
+        → (host : Host) → IsHostAtHome user host → HasDone kind before behind user (Getcube dim) answers.None (free_host host)
+    none-by kind None what is none host home =
+        done-so None what kind answers.None (free_host host) refl (
           ap (λ h. cube_held_by (after h) user) (history-is None what)
               ∙ ap (λ (state : MachineState). cube_held_by state user) (after-more before.history (of_host user (whats.Getcube dim None))) ∙ free,
           home,
         )
-    none-by (Some sub) what is none host home = absurd (subst (IsGranted home_of IsClean (next_grant state.grant_count user dim sub)) none is)
+    none-by kind (Some sub) what is none host home = absurd (subst (IsGranted home_of IsClean (next_grant state.grant_count user dim sub)) none is)
 
-    pub none-done : reply ≡ replies.NoneFree → (host : Host) → IsHostAtHome user host → HasDone before behind user (Getcube dim) answers.None (Free host)
-    none-done = none-by found_now what-now reply-now
+    pub none-done : (kind : RoundKind) → reply ≡ replies.NoneFree → (host : Host) → IsHostAtHome user host → HasDone kind before behind user (Getcube dim) answers.None (free_host host)
+    none-done kind = none-by kind found_now what-now reply-now
 
     granted-ends : (grant : Grant) (reply : Reply Box) → IsGranted home_of IsClean grant reply
         → ((given : Grant) (boxes : Vec Box) → reply ≡ replies.Granted given boxes → ⊥) → ⊥
@@ -148,15 +149,15 @@ module _ (before : MachineFacts) (user dim : ℕ) (has : HasUser before user) (f
           (answer-is (Some so.sub) so.what)
 
       -- a crew that is in step wherever its cube has just begun is in step behind the entry
-      pub granted-done : (crew : SerialCrew) → crew.grant ≡ grant
+      pub granted-done : (kind : RoundKind) (crew : CrewFacts) → crew.grant ≡ grant
           → (IsHeldAs behind.history grant.number (cube_grant grant) → view behind.history grant.number ≡ [] → IsCrewInStep before.parts behind.history crew)
-          → HasDone before behind user (Getcube dim) (answers.Granted grant.sub) (Holding crew)
-      granted-done crew same in_step =
+          → HasDone kind before behind user (Getcube dim) (answers.Granted grant.sub) (own_crew crew)
+      granted-done kind crew same in_step =
           let back = sym (history-is (Some so.sub) so.what) in
           let held : IsHeldAs behind.history grant.number (cube_grant grant) =
           subst (λ (g : Grant). IsHeldAs behind.history g.number (cube_grant g)) (sym so.grant_is)
           (subst (λ h. IsHeldAs h state.grant_count (record { user = user; dim = dim; sub = so.sub })) back begun.held) in
           let trace : view behind.history grant.number ≡ [] =
           ap (λ (g : Grant). view behind.history g.number) so.grant_is ∙ ap (λ h. view h state.grant_count) (sym back) ∙ begun.trace in
-          done-so (Some so.sub) so.what (answers.Granted grant.sub) (Holding crew) (ap (λ (g : Grant). answers.Granted g.sub) (sym so.grant_is))
+          done-so (Some so.sub) so.what kind (answers.Granted grant.sub) (own_crew crew) (ap (λ (g : Grant). answers.Granted g.sub) (sym so.grant_is))
           (ap (λ (g : Grant). g.user) same ∙ user-is, in_step held trace)

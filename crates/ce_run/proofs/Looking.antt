@@ -31,11 +31,11 @@ use Rattle.ce_machine.specs.declared.call.Call.TheVariants as calls
 use Rattle.ce_machine.specs.declared.call.Reply.{Reply}
 use Rattle.ce_machine.specs.declared.call.Reply.TheVariants as replies
 use Rattle.ce_machine.specs.Replies.{IsReplyTo, IsMail, found_reply}
-use Rattle.ce_cube.specs.declared.crew.SerialCrew.{SerialCrew}
 use Rattle.ce_cube.specs.Boxes.{IsHeldAs, IsAccepted, trace_store}
-use Rattle.ce_cube.specs.Crews.{IsLawfulMachine, IsHostInStep, IsCrewInStep, HasGoneOn}
+use Rattle.ce_cube.specs.Crews.{IsLawfulMachine, IsHostInStep, IsCrewInStep, HasGoneOn, CrewFacts}
 use Rattle.ce_daemon.specs.Peeks.{cube_grant}
 use Rattle.ce_cube.proofs.Hosts.{hosts-take}
+use Rattle.ce_script.specs.Rounds.{RoundKind}
 use Rattle.ce_script.specs.Commands.{host_take}
 use Rattle.ce_run.specs.Asking.{home_of, IsHostCall, HasCalled}
 use Rattle.ce_run.specs.Rounds.{HasAllowed, HasLooked, HasTaken, HasTakenNone}
@@ -44,22 +44,24 @@ use Rattle.ce_run.proofs.StatesBehind.{IsKeepingStore, answer-is, gone-on, gone-
 -- ---- with another host
 
 -- a crew has another host, which is in step
-pub gone-on-with : (before behind : MachineFacts) (crew crew' : SerialCrew) (call : Call Box) (reply : Reply Box) (machine : IsLawfulMachine before)
+pub gone-on-with : (kind : RoundKind) (before behind : MachineFacts) (crew crew' : CrewFacts) (call : Call Box) (reply : Reply Box) (machine : IsLawfulMachine before)
     (held : IsHeldAs before.history crew.grant.number (cube_grant crew.grant)) (host : IsHostCall before.parts before.history crew.grant.user call)
     (called : HasCalled before behind crew crew' call reply) (other : Host) → IsHostInStep before.parts behind.history crew.grant other
-    → HasGoneOn before behind crew (record crew' { host = other }) (of_host crew.grant.user called.exchange.what ∷ [])
-gone-on-with before behind crew crew' call reply machine held host called other stands =
+    → HasGoneOn kind before behind crew (record crew' { host = other }) (of_host crew.grant.user called.exchange.what ∷ [])
+gone-on-with kind before behind crew crew' call reply machine held host called other stands =
     let goes = gone-on before behind (record crew { host = other }) (record crew' { host = other }) call reply machine held host
     (record {
       exchange = called.exchange;
-      crew_is = ap (λ (c : SerialCrew). record c { host = other }) called.crew_is;
+      crew_is = ap (λ (c : CrewFacts). record c { host = other }) called.crew_is;
       nodes = record { held = called.nodes.held; boxes = called.nodes.boxes; entries = called.nodes.entries };
       trace = called.trace;
     })
-    stands in
+    kind stands in
     record {
+      all_entries = goes.all_entries;
       parts = goes.parts;
       history = goes.history;
+      mix = goes.mix;
       lawful = goes.lawful;
       calls = goes.calls;
       grant = goes.grant;
@@ -102,15 +104,15 @@ mail-ends number items other is mail = absurd is
 
 -- ---- it allows
 
-module _ (before behind : MachineFacts) (crew crew' : SerialCrew) (machine : IsLawfulMachine before) (step : IsCrewInStep before.parts before.history crew) (reply : Reply Box) where
-  pub allowed : (count : ℕ) (within : count ≤ greatest_count) → HasCalled before behind crew crew' (calls.Arm count) reply
-      → HasAllowed before behind crew crew' count
+module _ (before behind : MachineFacts) (crew crew' : CrewFacts) (machine : IsLawfulMachine before) (step : IsCrewInStep before.parts before.history crew) (reply : Reply Box) where
+  pub allowed : (kind : RoundKind) (count : ℕ) (within : count ≤ greatest_count) → HasCalled before behind crew crew' (calls.Arm count) reply
+      → HasAllowed kind before behind crew crew' count
   unfolding answer
-  allowed count within called =
+  allowed kind count within called =
       let host = may-allow before.parts before.history crew machine.within machine.lawful step.held count within in
       let is : Arm count ≡ called.exchange.what = answer-is before.parts (after before.history) crew.grant.user (arm_call count) called.exchange.what step.held.cube step.held.held called.exchange.answer in
-      subst (λ what. HasGoneOn before behind crew crew' (of_host crew.grant.user what ∷ [])) (sym is)
-      (gone-on-kept before behind crew crew' (calls.Arm count) reply machine step.held host called step.host (subst IsKeepingStore is tt))
+      subst (λ what. HasGoneOn kind before behind crew crew' (of_host crew.grant.user what ∷ [])) (sym is)
+      (gone-on-kept before behind crew crew' (calls.Arm count) reply machine step.held host called kind step.host (subst IsKeepingStore is tt))
 
   -- ---- it looks
 
@@ -128,17 +130,17 @@ module _ (before behind : MachineFacts) (crew crew' : SerialCrew) (machine : IsL
     look-reply =
         subst (λ what. IsReplyTo home_of IsClean before.parts (after before.history) crew.grant.user HOST what reply) (sym look-is) called.exchange.reply_is
 
-    looked-now : HasLooked before behind crew crew' found_now
-    looked-now =
+    looked-now : (kind : RoundKind) → HasLooked kind before behind crew crew' found_now
+    looked-now kind =
         let host = may-look before.parts before.history crew machine.within machine.lawful step.held in
         record {
-          goes_on = subst (λ what. HasGoneOn before behind crew crew' (of_host crew.grant.user what ∷ [])) (sym look-is)
-              (gone-on-kept before behind crew crew' calls.Look reply machine step.held host called step.host (subst IsKeepingStore look-is tt));
+          goes_on = subst (λ what. HasGoneOn kind before behind crew crew' (of_host crew.grant.user what ∷ [])) (sym look-is)
+              (gone-on-kept before behind crew crew' calls.Look reply machine step.held host called kind step.host (subst IsKeepingStore look-is tt));
           made = record { user = refl; actor_is = refl; what = called.exchange.answer ∙ ap Some (sym look-is) };
         }
 
-    pub looked : (found : LookResult) → reply ≡ found_reply found → HasLooked before behind crew crew' found
-    looked found is = subst (HasLooked before behind crew crew') (same-found found_now found (sym look-reply ∙ is)) looked-now
+    pub looked : (kind : RoundKind) (found : LookResult) → reply ≡ found_reply found → HasLooked kind before behind crew crew' found
+    looked kind found is = subst (HasLooked kind before behind crew crew') (same-found found_now found (sym look-reply ∙ is)) (looked-now kind)
 
     pub look-ends : (reply ≡ replies.Quiet → ⊥) → (reply ≡ replies.Spent → ⊥) → (reply ≡ replies.Busy → ⊥) → ⊥
     look-ends = one-found found_now reply look-reply
@@ -168,15 +170,15 @@ module _ (before behind : MachineFacts) (crew crew' : SerialCrew) (machine : IsL
     take-reply-is None is = is
     take-reply-is (Some number) is = subst (λ held. IsSomeAnd held (λ cube. IsMail number cube.mail reply)) step.held.held is
 
-    taken-none : (number : Option ℕ) → HostTake number ≡ called.exchange.what → IsTakeReply number → reply ≡ replies.NoMail
-        → HasTakenNone before behind crew crew'
-    taken-none None what is none =
-        subst (λ what. HasGoneOn before behind crew crew' (of_host crew.grant.user what ∷ [])) (sym what)
-        (gone-on-kept before behind crew crew' calls.HostTake reply machine step.held take_host called step.host (subst IsKeepingStore what tt))
-    taken-none (Some number) what is none = absurd (subst (IsMail number items) none is)
+    taken-none : (kind : RoundKind) (number : Option ℕ) → HostTake number ≡ called.exchange.what → IsTakeReply number → reply ≡ replies.NoMail
+        → HasTakenNone kind before behind crew crew'
+    taken-none kind None what is none =
+        subst (λ what. HasGoneOn kind before behind crew crew' (of_host crew.grant.user what ∷ [])) (sym what)
+        (gone-on-kept before behind crew crew' calls.HostTake reply machine step.held take_host called kind step.host (subst IsKeepingStore what tt))
+    taken-none kind (Some number) what is none = absurd (subst (IsMail number items) none is)
 
-    pub no-message : reply ≡ replies.NoMail → HasTakenNone before behind crew crew'
-    no-message none = taken-none (first_number items) take-is (take-reply-is (first_number items) take-reply) none
+    pub no-message : (kind : RoundKind) → reply ≡ replies.NoMail → HasTakenNone kind before behind crew crew'
+    no-message kind none = taken-none kind (first_number items) take-is (take-reply-is (first_number items) take-reply) none
 
     reply-ends : (number : Option ℕ) → IsTakeReply number → (reply ≡ replies.NoMail → ⊥) → ((parcel : Parcel) → reply ≡ replies.Mail parcel → ⊥) → ⊥
     reply-ends None is none mail = none is
@@ -216,7 +218,7 @@ module _ (before behind : MachineFacts) (crew crew' : SerialCrew) (machine : IsL
       outward = block_outward (cube_grant crew.grant)
 
       host-same : crew'.host ≡ crew.host
-      host-same = ap (λ (c : SerialCrew). c.host) called.crew_is
+      host-same = ap (λ (c : CrewFacts). c.host) called.crew_is
 
       names : ids_of crew'.host.store.blocks ≡ map outward (trace_store before.parts before.history crew.grant.number (cube_grant crew.grant))
       names = ap (λ (host : Host). ids_of host.store.blocks) host-same ∙ step.host.blocks
@@ -273,12 +275,13 @@ module _ (before behind : MachineFacts) (crew crew' : SerialCrew) (machine : IsL
                 ≡ record crew.host { store = record { blocks = with_block parcel.block crew'.host.store.blocks; spare = crew'.host.store.spare - 1 } }
             host-spare = ap (λ (host : Host). record host { store = record { blocks = with_block parcel.block crew'.host.store.blocks; spare = crew'.host.store.spare - 1 } }) host-same
 
-        pub message-taken : (bytes : List ℕ) → bytes ≡ parcel.block.bytes → HasTaken before behind crew (record crew' { host = other }) parcel.from bytes
-        message-taken bytes is = record {
+        pub message-taken : (kind : RoundKind) (bytes : List ℕ) → bytes ≡ parcel.block.bytes
+            → HasTaken kind before behind crew (record crew' { host = other }) parcel.from bytes
+        message-taken kind bytes is = record {
           number = number;
           parcel = parcel_of parcel;
-          goes_on = subst (λ what. HasGoneOn before behind crew (record crew' { host = other }) (of_host crew.grant.user what ∷ [])) (sym has.what)
-              (gone-on-with before behind crew crew' calls.HostTake reply machine step.held take_host called other stands);
+          goes_on = subst (λ what. HasGoneOn kind before behind crew (record crew' { host = other }) (of_host crew.grant.user what ∷ [])) (sym has.what)
+              (gone-on-with kind before behind crew crew' calls.HostTake reply machine step.held take_host called other stands);
           waited = waited;
           from_is = refl;
           bytes_are = sym is;

@@ -1,5 +1,5 @@
 -- A peek.
-use Rattle.std.proofs.Common.{◌≡◌, ℕ, [], ◌∷◌, ◌++◌, Some, refl, ap, sym, ◌∙◌, subst}
+use Rattle.std.proofs.Common.{◌≡◌, ℕ, [], ◌∷◌, ◌++◌, Some, refl, ap, sym, ◌∙◌, subst, inl}
 use Rattle.ce_model.specs.declared.topology.TheConstants.{HOST}
 use Rattle.ce_model.specs.declared.entry.What.{What}
 use Rattle.ce_model.specs.declared.entry.What.TheVariants as whats
@@ -16,10 +16,10 @@ use Rattle.ce_machine.specs.Requests.{IsFittingCall}
 use Rattle.ce_machine.specs.Replies.{IsReplyTo}
 use Rattle.ce_host.specs.declared.command.Command.TheVariants.{Peek}
 use Rattle.ce_host.specs.declared.answer.Answer.TheVariants as answers
-use Rattle.ce_script.specs.Rounds.{serial}
+use Rattle.ce_cube.proofs.Fronts.{mix-own}
+use Rattle.ce_script.specs.Rounds.{RoundKind}
 use Rattle.ce_record.proofs.Asked.{asked}
-use Rattle.ce_run.specs.declared.user_state.UserState.{UserState}
-use Rattle.ce_run.specs.UserStates.{HasUser, HasDone, IsUserStateAt}
+use Rattle.ce_run.specs.UserStates.{HasUser, HasDone, IsUserAt, UserFacts}
 use Rattle.ce_run.specs.Asking.{home_of, HasAsked}
 use Rattle.ce_run.proofs.StatesBehind.{state-beside-peek}
 
@@ -42,17 +42,20 @@ module _ (before behind : MachineFacts) (user : ℕ) (has : HasUser before user)
   pub peek-reply : reply ≡ replies.Peeked (peek_result before.parts (after before.history))
   peek-reply = subst (λ what. IsReplyTo home_of IsClean before.parts (after before.history) user HOST what reply) (sym what-is) asks.reply_is
 
-  pub peek-done : (found : PeekResult) → reply ≡ replies.Peeked found → (user_state : UserState) → IsUserStateAt before.parts before.history user user_state
-      → HasDone before behind user Peek (answers.Peeked found) user_state
-  peek-done found is user_state state_is =
+  pub peek-done : (kind : RoundKind) (found : PeekResult) → reply ≡ replies.Peeked found → (facts : UserFacts) → IsUserAt before.parts before.history user facts
+      → HasDone kind before behind user Peek (answers.Peeked found) facts
+  peek-done kind found is facts state_is =
       let history = asks.history ∙ ap (λ what. before.history ++ of_host user what ∷ []) (sym what-is) in
       let same : peek_result before.parts (after before.history) ≡ found = ap (found-or found) (sym peek-reply ∙ is) in
       record {
+        all_entries = of_host user whats.Peek ∷ [];
         new_entries = of_host user whats.Peek ∷ [];
         parts = asks.parts;
         history = history;
+        mix = mix-own kind user (of_host user whats.Peek ∷ []) (refl, tt);
+        whole = inl refl;
         lawful = asks.lawful;
-        next = asked serial before.parts before.history user Peek (record { home = 0; index = 0 }) peek whats.Peek (answers.Peeked found) has.book.within has.book.lawful refl
+        next = asked kind before.parts before.history user Peek (record { home = 0; index = 0 }) peek whats.Peek (answers.Peeked found) has.book.within has.book.lawful refl
             (record { fits = (has.within, refl); answer = refl }) (ap (λ found. Some (answers.Peeked found)) same);
-        state_is = subst (λ h. IsUserStateAt before.parts h user user_state) (sym history) (state-beside-peek before behind user has.book has.within user_state state_is);
+        state_is = subst (λ h. IsUserAt before.parts h user facts) (sym history) (state-beside-peek before behind user has.book has.within facts state_is);
       }

@@ -1,5 +1,5 @@
 -- A cube that its user gives back.
-use Rattle.std.proofs.Common.{◌≡◌, ℕ, ◌^◌, ◌<◌, true, false, List, [], ◌∷◌, ◌++◌, map, flat_map, IsSomeAnd, Option, Some, None, refl, ap, sym, ◌∙◌, subst, append_assoc}
+use Rattle.std.proofs.Common.{◌≡◌, ℕ, ◌^◌, ◌<◌, true, false, List, [], ◌∷◌, ◌++◌, map, flat_map, IsSomeAnd, Option, Some, None, refl, ap, sym, ◌∙◌, subst, append_assoc, inl}
 use Rattle.std.specs.Global.{Vec}
 use Rattle.ce_model.specs.declared.topology.TheConstants.{HOST}
 use Rattle.ce_model.specs.declared.topology.BlockId.{BlockId}
@@ -29,20 +29,19 @@ use Rattle.ce_machine.specs.declared.call.Reply.{Reply}
 use Rattle.ce_machine.specs.declared.call.Reply.TheVariants as replies
 use Rattle.ce_machine.specs.Requests.{IsFittingCall}
 use Rattle.ce_machine.specs.Replies.{IsReplyTo, OfHeldCube, IsDrained}
-use Rattle.ce_cube.specs.declared.crew.SerialCrew.{SerialCrew}
 use Rattle.ce_cube.specs.Boxes.{trace_node, trace_store}
-use Rattle.ce_cube.specs.Crews.{IsLawfulMachine, IsCrewInStep, HasAllBlocks, AreAllHome, box_at}
+use Rattle.ce_cube.specs.Crews.{IsLawfulMachine, IsCrewInStep, HasAllBlocks, AreAllHome, box_at, CrewFacts}
 use Rattle.ce_cube.specs.Rehoming.{AreAllBlocks, names_in}
 use Rattle.ce_cube.proofs.Held.{by_seen, placed-of}
+use Rattle.ce_cube.proofs.Fronts.{mix-own}
 use Rattle.ce_cube.proofs.Seats.{node-said}
 use Rattle.ce_cube.proofs.Hosts.{drains-fit-held}
 use Rattle.ce_cube.proofs.Returns.{placed-sub}
 use Rattle.ce_cube.proofs.Whole.{blocks-are-whole}
-use Rattle.ce_script.specs.Rounds.{serial}
+use Rattle.ce_script.specs.Rounds.{RoundKind}
 use Rattle.ce_record.specs.Laws.{freecube_entries}
 use Rattle.ce_record.proofs.AtOnce as at_once
-use Rattle.ce_run.specs.declared.user_state.UserState.TheVariants.{Free}
-use Rattle.ce_run.specs.UserStates.{HasUser, HasDone}
+use Rattle.ce_run.specs.UserStates.{HasUser, HasDone, free_host}
 use Rattle.ce_run.specs.Asking.{home_of, HasAsked, HasCube, HasDrained}
 use Rattle.ce_run.proofs.Peeking.{same-what}
 
@@ -85,7 +84,7 @@ map-twice : {X Y Z : Type 0} (f : X → Y) (g : Y → Z) (xs : List X) → map g
 map-twice f g [] = refl
 map-twice f g (x ∷ xs) = ap (λ rest. g (f x) ∷ rest) (map-twice f g xs)
 
-module _ (before : MachineFacts) (crew : SerialCrew) (has : HasUser before crew.grant.user) (step : IsCrewInStep before.parts before.history crew) where
+module _ (before : MachineFacts) (crew : CrewFacts) (has : HasUser before crew.grant.user) (step : IsCrewInStep before.parts before.history crew) where
   abbrev grant : CubeGrant
   grant = cube_grant crew.grant
 
@@ -109,26 +108,26 @@ module _ (before : MachineFacts) (crew : SerialCrew) (has : HasUser before crew.
     drained-is : drained ≡ map (λ parcel. parcel.block) waiting
     drained-is = subst (λ held. IsSomeAnd held (λ cube. drained ≡ map (λ parcel. parcel.block) (all_parcels (after before.history) cube))) step.held.held is.blocks_are
 
-    whole : AreAllBlocks grant (names_in grant (λ r. (box_at crew.nodes.items r).node) waiting
+    whole : AreAllBlocks grant (names_in grant (λ r. (box_at crew.boxes r).node) waiting
         (map (block_outward grant) (trace_store before.parts before.history crew.grant.number grant)))
     whole =
         subst
-        (λ held. IsSomeAnd held (λ cube. AreAllBlocks grant (names_in grant (λ r. (box_at crew.nodes.items r).node) (all_parcels (after before.history) cube)
+        (λ held. IsSomeAnd held (λ cube. AreAllBlocks grant (names_in grant (λ r. (box_at crew.boxes r).node) (all_parcels (after before.history) cube)
         (map (block_outward grant) (trace_store before.parts before.history crew.grant.number grant))))) step.held.held
         (blocks-are-whole before.parts before.history crew.grant.number grant has.book.within has.book.lawful step.held
-        (λ r. (box_at crew.nodes.items r).node) step.boxes.in_step)
+        (λ r. (box_at crew.boxes r).node) step.boxes.in_step)
 
     drained-names : map (λ parcel. parcel.block.id) waiting ≡ map (λ block. block.id) drained
     drained-names = sym (ap (map (λ (block : Block). block.id)) drained-is ∙ map-twice (λ (parcel : Parcel). parcel.block) (λ (block : Block). block.id) waiting)
 
-    pub all-there : HasAllBlocks grant crew.nodes.items crew.host drained
+    pub all-there : HasAllBlocks grant crew.boxes crew.host drained
     all-there = record {
       sub = sub-of;
       all = step.boxes.all;
       ready = step.boxes.ready;
       homes = λ r below. ap (λ (node : Node). node.home) (step.boxes.in_step r below).at_rest ∙ ap (node_of grant.sub) (said-home r below);
       blocks =
-          let at : List BlockId = flat_map (λ r. blocks_of (box_at crew.nodes.items r).node) (node_numbers grant.dim) in
+          let at : List BlockId = flat_map (λ r. blocks_of (box_at crew.boxes r).node) (node_numbers grant.dim) in
           subst (λ drained. AreAllBlocks grant (at ++ (drained ++ ids_of crew.host.store.blocks))) drained-names
           (subst (λ store. AreAllBlocks grant (at ++ (map (λ parcel. parcel.block.id) waiting ++ store))) (sym step.host.blocks) whole);
       room = step.host.room;
@@ -191,12 +190,15 @@ module _ (before : MachineFacts) (crew : SerialCrew) (has : HasUser before crew.
             ∙ ap (λ (state : MachineState). cube_held_by state crew.grant.user) (after-more behind.history (of_host crew.grant.user whats.Freecube))
             ∙ left-own crew.grant.user (after behind.history)
 
-        pub freed-done : HasDone before end crew.grant.user Freecube Freed (Free host)
-        freed-done = record {
+        pub freed-done : (kind : RoundKind) → HasDone kind before end crew.grant.user Freecube Freed (free_host host)
+        freed-done kind = record {
+          all_entries = freecube_entries crew.grant.user;
           new_entries = freecube_entries crew.grant.user;
           parts = asks.parts ∙ is.parts;
           history = both-are;
+          mix = mix-own kind crew.grant.user (freecube_entries crew.grant.user) (refl, (refl, tt));
+          whole = inl refl;
           lawful = lawful-end;
-          next = at_once.freecube_next serial before.parts before.history crew.grant.user step.held.cube step.held.held;
+          next = at_once.freecube_next kind before.parts before.history crew.grant.user step.held.cube step.held.held;
           state_is = (none-left, home.1);
         }

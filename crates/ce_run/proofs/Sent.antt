@@ -1,5 +1,5 @@
 -- A message that a user sends.
-use Rattle.std.proofs.Common.{◌≡◌, ℕ, ◌+◌, ◌≤◌, true, List, [], ◌∷◌, ◌++◌, length, map, drop, slice_get, IsSomeAnd, Option, Some, None, refl, ap, sym, ◌∙◌, subst, arith}
+use Rattle.std.proofs.Common.{◌≡◌, ℕ, ◌+◌, ◌≤◌, true, List, [], ◌∷◌, ◌++◌, length, map, drop, slice_get, IsSomeAnd, Option, Some, None, refl, ap, sym, ◌∙◌, subst, arith, inr}
 use Rattle.std.specs.Prelude.{◌↔◌, IsNone, IfNone}
 use Rattle.ce_model.specs.declared.topology.TheConstants.{HOST}
 use Rattle.ce_model.specs.declared.topology.BlockId.{BlockId}
@@ -31,19 +31,17 @@ use Rattle.ce_machine.specs.declared.call.Call.TheVariants as calls
 use Rattle.ce_machine.specs.declared.call.Reply.{Reply}
 use Rattle.ce_machine.specs.declared.call.Reply.TheVariants as replies
 use Rattle.ce_machine.specs.Replies.{IsReplyTo, IsHeard, actor_items}
-use Rattle.ce_cube.specs.declared.crew.SerialCrew.{SerialCrew}
 use Rattle.ce_cube.specs.Boxes.{trace_store}
-use Rattle.ce_cube.specs.Crews.{IsLawfulMachine, IsHostInStep, IsCrewInStep}
+use Rattle.ce_cube.specs.Crews.{IsLawfulMachine, IsHostInStep, IsCrewInStep, CrewFacts}
 use Rattle.ce_daemon.specs.Peeks.{cube_grant}
 use Rattle.ce_cube.proofs.Hosts.{hosts-fit, hosts-send}
-use Rattle.ce_script.specs.Rounds.{serial}
+use Rattle.ce_script.specs.Rounds.{RoundKind}
 use Rattle.ce_record.specs.Asked.{entry_reply}
 use Rattle.ce_record.specs.Run.{IsNextCommand}
 use Rattle.ce_record.proofs.Moments.{map-none}
 use Rattle.ce_record.proofs.Asked.{asked}
 use Rattle.ce_record.proofs.AtOnce.{no_store}
-use Rattle.ce_run.specs.declared.user_state.UserState.TheVariants.{Holding}
-use Rattle.ce_run.specs.UserStates.{HasDone}
+use Rattle.ce_run.specs.UserStates.{HasDone, own_crew}
 use Rattle.ce_run.specs.Asking.{home_of, IsHostCall, HasCalled}
 use Rattle.ce_run.proofs.StatesBehind.{answer-is, done-at-once, done-by, heard-or}
 use Rattle.ce_run.proofs.Looking.{gone-on-with}
@@ -87,7 +85,7 @@ none-left (Some batch) blocks host host' not_some empty same = absurd (not_some 
 
 -- ---- a send
 
-module _ (before : MachineFacts) (crew : SerialCrew) (machine : IsLawfulMachine before) (step : IsCrewInStep before.parts before.history crew)
+module _ (before : MachineFacts) (crew : CrewFacts) (machine : IsLawfulMachine before) (step : IsCrewInStep before.parts before.history crew)
     (to : Place) (bytes : List ℕ) (place : is_place crew.grant.dim to ≡ true) where
   abbrev grant : CubeGrant
   grant = cube_grant crew.grant
@@ -102,18 +100,18 @@ module _ (before : MachineFacts) (crew : SerialCrew) (machine : IsLawfulMachine 
   own-place = ap (λ (g : CubeGrant). is_place g.dim to) step.held.grant_is ∙ place
 
   -- nothing is sent where the host has no block
-  nothing-next : crew.host.store.blocks ≡ [] → IsNextCommand serial before.parts before.history crew.grant.user (Send to bytes) answers.NoStore []
-  nothing-next empty =
+  nothing-next : (kind : RoundKind) → crew.host.store.blocks ≡ [] → IsNextCommand kind before.parts before.history crew.grant.user (Send to bytes) answers.NoStore []
+  nothing-next kind empty =
       let none : store ≡ [] = map-none outward store (sym step.host.blocks ∙ ap ids_of empty) in
       let own : trace_store before.parts before.history step.held.cube.number step.held.cube.grant ≡ store =
       λ i. trace_store before.parts before.history (step.held.number_is i) (step.held.grant_is i) in
-      no_store serial before.parts before.history crew.grant.user step.held.cube step.held.held to bytes own-place (own ∙ none)
+      no_store kind before.parts before.history crew.grant.user step.held.cube step.held.held to bytes own-place (own ∙ none)
 
-  pub nothing-done : (host : Host) → host ≡ crew.host → crew.host.store.blocks ≡ []
-      → HasDone before before crew.grant.user (Send to bytes) answers.NoStore (Holding (record crew { host = host }))
-  nothing-done host same empty =
-      subst (λ host. HasDone before before crew.grant.user (Send to bytes) answers.NoStore (Holding (record crew { host = host }))) (sym same)
-      (done-at-once before crew.grant.user (Send to bytes) answers.NoStore (Holding crew) machine (nothing-next empty) (refl, step))
+  pub nothing-done : (kind : RoundKind) (host : Host) → host ≡ crew.host → crew.host.store.blocks ≡ []
+      → HasDone kind before before crew.grant.user (Send to bytes) answers.NoStore (own_crew (record crew { host = host }))
+  nothing-done kind host same empty =
+      subst (λ host. HasDone kind before before crew.grant.user (Send to bytes) answers.NoStore (own_crew (record crew { host = host }))) (sym same)
+      (done-at-once kind before crew.grant.user (Send to bytes) answers.NoStore (own_crew crew) machine (nothing-next kind empty) (refl, step))
 
   module _ (short : length bytes ≤ block_room) (batch : List (Place × Block)) (is : Some batch ≡ message_to to bytes crew.host.store.blocks) where
     abbrev goes : IsMessage to bytes crew.host.store.blocks batch
@@ -147,7 +145,7 @@ module _ (before : MachineFacts) (crew : SerialCrew) (machine : IsLawfulMachine 
       fits = subst (λ call. IsFitting before.parts before.history crew.grant.user HOST (in_cube call)) (sym call-is) fits;
     }
 
-    module _ (behind : MachineFacts) (host : Host) (crew' : SerialCrew) (reply : Reply Box)
+    module _ (behind : MachineFacts) (host : Host) (crew' : CrewFacts) (reply : Reply Box)
         (called : HasCalled before behind (record crew { host = host }) crew' (calls.Say (say.Send 0 batch)) reply) where
       answered-so : what_of_request before.parts (after before.history) crew.grant.user HOST (in_cube call) ≡ Some called.exchange.what
       answered-so = ap (λ call. what_of_request before.parts (after before.history) crew.grant.user HOST (in_cube call)) (sym call-is) ∙ called.exchange.answer
@@ -198,7 +196,7 @@ module _ (before : MachineFacts) (crew : SerialCrew) (machine : IsLawfulMachine 
             ∙ ap (drop 1) first.store_is
 
         host-is : other ≡ record host { spare = Some [] }
-        host-is = regained ∙ ap (λ (c : SerialCrew). record c.host { spare = Some [] }) called.crew_is
+        host-is = regained ∙ ap (λ (c : CrewFacts). record c.host { spare = Some [] }) called.crew_is
 
         left : other.store.blocks ≡ goes.others
         left = ap (λ (h : Host). h.store.blocks) host-is ∙ rest ∙ ap (drop 1) goes.blocks_are
@@ -218,10 +216,11 @@ module _ (before : MachineFacts) (crew : SerialCrew) (machine : IsLawfulMachine 
           spare = ap (λ (h : Host). h.spare) host-is;
         }
 
-        pub sent-done : HasDone before behind crew.grant.user (Send to bytes) answers.Ok (Holding (record crew' { host = other }))
-        sent-done =
-            done-by before behind (record crew { host = host }) (record crew' { host = other }) (of_host crew.grant.user called.exchange.what ∷ []) (Send to bytes) answers.Ok
-            (gone-on-with before behind (record crew { host = host }) crew' (calls.Say (say.Send 0 batch)) reply machine step.held may-send called other stands)
-            (asked serial before.parts before.history crew.grant.user (Send to bytes) goes.block.id (in_cube call) called.exchange.what answers.Ok machine.within machine.lawful refl
+        pub sent-done : (kind : RoundKind) → HasDone kind before behind crew.grant.user (Send to bytes) answers.Ok (own_crew (record crew' { host = other }))
+        sent-done kind =
+            done-by kind before behind (record crew { host = host }) (record crew' { host = other }) (of_host crew.grant.user called.exchange.what ∷ []) (Send to bytes) answers.Ok
+            (gone-on-with kind before behind (record crew { host = host }) crew' (calls.Say (say.Send 0 batch)) reply machine step.held may-send called other stands)
+            (inr refl)
+            (asked kind before.parts before.history crew.grant.user (Send to bytes) goes.block.id (in_cube call) called.exchange.what answers.Ok machine.within machine.lawful refl
             (record { fits = fits; answer = answered-so })
             (subst (λ what. entry_reply before.parts (after before.history) what ≡ Some answers.Ok) sent-is refl))

@@ -1,5 +1,5 @@
 -- What a user has behind a command.
-use Rattle.std.proofs.Common.{◌≡◌, ℕ, ◌<◌, ◌≤◌, nat_lt, Bool, true, false, ◌==◌, if◌then◌else◌, List, [], ◌∷◌, ◌++◌, length, map, is_some, IsSomeAnd, Some, None, option_map, IsTrue, refl, ap, sym, ◌∙◌, subst, append-nil, inr}
+use Rattle.std.proofs.Common.{◌≡◌, ℕ, ◌<◌, ◌≤◌, nat_lt, Bool, true, false, ◌==◌, if◌then◌else◌, List, [], ◌∷◌, ◌++◌, length, map, is_some, IsSomeAnd, Some, None, option_map, IsTrue, refl, ap, sym, ◌∙◌, subst, append-nil, inr, ◌⊎◌, inl}
 use Rattle.ce_model.specs.declared.topology.TheConstants.{HOST}
 use Rattle.ce_model.specs.declared.topology.Place.{Place}
 use Rattle.ce_model.specs.declared.topology.BlockId.{BlockId}
@@ -31,13 +31,14 @@ use Rattle.rk_mail.specs.Talk.{IsHeardIn, kill_hearing}
 use Rattle.ce_model.specs.declared.entry.KillFound.{KillFound}
 use Rattle.ce_model.specs.declared.entry.KillFound.TheVariants as kill_found
 use Rattle.ce_host.specs.declared.command.Command.{Command}
+use Rattle.ce_host.specs.declared.command.Command.TheVariants.{Getcube, Peek}
 use Rattle.ce_host.specs.declared.answer.Answer.{Answer}
-use Rattle.ce_cube.specs.declared.crew.SerialCrew.{SerialCrew}
 use Rattle.ce_cube.specs.Boxes.{IsHeldAs, IsInStep, trace_store}
-use Rattle.ce_cube.specs.Crews.{IsLawfulMachine, IsHostInStep, IsCrewInStep, HasGoneOn, box_at}
+use Rattle.ce_cube.specs.Crews.{IsLawfulMachine, IsHostInStep, IsCrewInStep, HasGoneOn, box_at, CrewFacts, AreCallsOf}
 use Rattle.ce_daemon.specs.Peeks.{cube_grant}
 use Rattle.ce_cube.proofs.Adds.{others-keep}
-use Rattle.ce_script.specs.Rounds.{serial}
+use Rattle.ce_cube.proofs.Fronts.{mix-calls}
+use Rattle.ce_script.specs.Rounds.{RoundKind}
 use Rattle.ce_host.specs.declared.answer.Answer.TheVariants as answers
 use Rattle.std.specs.Prelude.{Result, Ok, Err, IfOk}
 use Rattle.std.proofs.lemmas.Bool.{lt-ltb}
@@ -48,21 +49,19 @@ use Rattle.ce_model.specs.Literals.{of_host}
 use Rattle.ce_machine.specs.declared.call.Call.TheVariants as calls
 use Rattle.rk_mail.specs.declared.talk.Say.TheVariants as say
 use Rattle.ce_cube.proofs.Hosts.{hosts-fit}
-use Rattle.ce_record.specs.Asked.{command_place}
+use Rattle.ce_record.specs.Asked.{wants_cube, command_place}
 use Rattle.ce_record.proofs.AtOnce.{no_place}
 use Rattle.ce_script.specs.Commands.{kill_reply}
 use Rattle.ce_record.specs.Asked.{command_request, entry_reply, heard_reply}
 use Rattle.ce_record.specs.Run.{IsNextCommand}
 use Rattle.ce_record.proofs.Asked.{asked}
-use Rattle.ce_run.specs.declared.user_state.UserState.{UserState}
-use Rattle.ce_run.specs.declared.user_state.UserState.TheVariants.{Free, Holding}
-use Rattle.ce_run.specs.UserStates.{HasDone, IsUserStateAt}
+use Rattle.ce_run.specs.UserStates.{HasDone, IsUserAt, free_host, own_crew, UserFacts}
 use Rattle.ce_run.specs.Asking.{home_of, IsHostCall, IsStartOrEnd, AreNodesInStep, HasCalled}
 
 -- ---- what stays
 
 -- a crew stays in step where its user holds the same, with the same trace
-pub crew-keeps : (parts : MachineParts) (h h' : List Entry) (crew : SerialCrew) → cube_held_by (after h') crew.grant.user ≡ cube_held_by (after h) crew.grant.user
+pub crew-keeps : (parts : MachineParts) (h h' : List Entry) (crew : CrewFacts) → cube_held_by (after h') crew.grant.user ≡ cube_held_by (after h) crew.grant.user
     → view h' crew.grant.number ≡ view h crew.grant.number → IsCrewInStep parts h crew → IsCrewInStep parts h' crew
 crew-keeps parts h h' crew same trace step =
     let grant = cube_grant crew.grant in
@@ -72,7 +71,7 @@ crew-keeps parts h h' crew same trace step =
       boxes = record {
         all = step.boxes.all;
         ready = step.boxes.ready;
-        in_step = λ r below. subst (λ t. IsInStep grant (state (cube_of parts.images grant) (opening (cube_of parts.images grant)) r t) (box_at crew.nodes.items r).node)
+        in_step = λ r below. subst (λ t. IsInStep grant (state (cube_of parts.images grant) (opening (cube_of parts.images grant)) r t) (box_at crew.boxes r).node)
             back (step.boxes.in_step r below);
       };
       host = record {
@@ -83,18 +82,21 @@ crew-keeps parts h h' crew same trace step =
       entries = step.entries ∙ ap length back;
     }
 
-pub nodes-of : (parts : MachineParts) (h : List Entry) (crew : SerialCrew) → IsCrewInStep parts h crew → AreNodesInStep parts h crew
+pub nodes-of : (parts : MachineParts) (h : List Entry) (crew : CrewFacts) → IsCrewInStep parts h crew → AreNodesInStep parts h crew
 nodes-of parts h crew step = record { held = step.held; boxes = step.boxes; entries = step.entries }
 
 -- ---- commands that make no entry
 
-pub done-at-once : (before : MachineFacts) (user : ℕ) (command : Command) (answer : Answer) (user_state : UserState) → IsLawfulMachine before
-    → IsNextCommand serial before.parts before.history user command answer [] → IsUserStateAt before.parts before.history user user_state
-    → HasDone before before user command answer user_state
-done-at-once before user command answer user_state machine next state_is = record {
+pub done-at-once : (kind : RoundKind) (before : MachineFacts) (user : ℕ) (command : Command) (answer : Answer) (facts : UserFacts) → IsLawfulMachine before
+    → IsNextCommand kind before.parts before.history user command answer [] → IsUserAt before.parts before.history user facts
+    → HasDone kind before before user command answer facts
+done-at-once kind before user command answer facts machine next state_is = record {
+  all_entries = [];
   new_entries = [];
   parts = refl;
   history = sym (append-nil before.history);
+  mix = record { own = refl; each = tt };
+  whole = inl refl;
   lawful = machine.lawful;
   next = next;
   state_is = state_is;
@@ -109,10 +111,10 @@ module _ (before behind : MachineFacts) (user : ℕ) (machine : IsLawfulMachine 
   peek-lawful : IsLawfulEntry before.parts before.history (of_host user whats.Peek)
   peek-lawful = record { request = peek; fits = (within, refl); answer = refl }
 
-  pub state-beside-peek : (user_state : UserState) → IsUserStateAt before.parts before.history user user_state → IsUserStateAt before.parts (before.history ++ of_host user whats.Peek ∷ []) user user_state
-  state-beside-peek (Free host) state_is =
+  pub state-beside-peek : (facts : UserFacts) → IsUserAt before.parts before.history user facts → IsUserAt before.parts (before.history ++ of_host user whats.Peek ∷ []) user facts
+  state-beside-peek (free_host host) state_is =
       (ap (λ state. cube_held_by state user) (after-more before.history (of_host user whats.Peek)) ∙ state_is.0, state_is.1)
-  state-beside-peek (Holding crew) state_is =
+  state-beside-peek (own_crew crew) state_is =
       let aside = others-keep before.parts before.history crew.grant.number (cube_grant crew.grant) machine.within machine.lawful state_is.1.held (of_host user whats.Peek)
       peek-lawful (inr refl) in (
         state_is.0,
@@ -154,7 +156,7 @@ either-store : (b : Bool) (store store' : List BlockId) → store' ≡ store →
 either-store true store store' same = same
 either-store false store store' same = refl
 
-module _ (before behind : MachineFacts) (crew crew' : SerialCrew) (call : Call Box) (reply : Reply Box) (machine : IsLawfulMachine before)
+module _ (before behind : MachineFacts) (crew crew' : CrewFacts) (call : Call Box) (reply : Reply Box) (machine : IsLawfulMachine before)
     (held : IsHeldAs before.history crew.grant.number (cube_grant crew.grant))
     (host : IsHostCall before.parts before.history crew.grant.user call) (called : HasCalled before behind crew crew' call reply) where
   abbrev grant : CubeGrant
@@ -176,15 +178,20 @@ module _ (before behind : MachineFacts) (crew crew' : SerialCrew) (call : Call B
       ∙ either-store (made.actor == HOST) (hoststore o t) (store_after (waiting_items o.standing HOST t) (hoststore o t) made.what)
       (kept-store _ _ (waiting_items o.standing HOST t) (hoststore o t) called.exchange.what keeps)
 
-  pub gone-on : IsHostInStep before.parts behind.history crew.grant crew'.host → HasGoneOn before behind crew crew' (of_host crew.grant.user called.exchange.what ∷ [])
-  gone-on stands =
+  pub gone-on : (kind : RoundKind) → IsHostInStep before.parts behind.history crew.grant crew'.host
+      → HasGoneOn kind before behind crew crew' (of_host crew.grant.user called.exchange.what ∷ [])
+  gone-on kind stands =
       let to_parts = sym called.exchange.parts in
-      let grant_is = ap (λ (c : SerialCrew). c.grant) called.crew_is in
+      let grant_is = ap (λ (c : CrewFacts). c.grant) called.crew_is in
+      let of_cube : AreCallsOf crew.grant.user (of_host crew.grant.user called.exchange.what ∷ []) =
+      ((refl, ap (λ what. is_some (recorded_call what)) (sym what-is) ∙ answers-call _ _ HOST (with_places_outward held.cube.grant host.inner)), tt) in
       record {
+        all_entries = of_host crew.grant.user called.exchange.what ∷ [];
         parts = called.exchange.parts;
         history = called.exchange.history;
+        mix = mix-calls kind crew.grant.user (of_host crew.grant.user called.exchange.what ∷ []) of_cube;
         lawful = subst (λ parts. IsLawful parts behind.history) to_parts called.exchange.lawful;
-        calls = ((refl, ap (λ what. is_some (recorded_call what)) (sym what-is) ∙ answers-call _ _ HOST (with_places_outward held.cube.grant host.inner)), tt);
+        calls = of_cube;
         grant = grant_is;
         trace = called.trace;
         in_step = subst (λ parts. IsCrewInStep parts behind.history crew') to_parts (record {
@@ -196,26 +203,37 @@ module _ (before behind : MachineFacts) (crew crew' : SerialCrew) (call : Call B
       }
 
   -- the host stands as it did where its store stays
-  pub gone-on-kept : IsHostInStep before.parts before.history crew.grant crew.host → IsKeepingStore called.exchange.what
-      → HasGoneOn before behind crew crew' (of_host crew.grant.user called.exchange.what ∷ [])
-  gone-on-kept stands keeps =
-      gone-on (subst (λ host. IsHostInStep before.parts behind.history crew.grant host) (sym (ap (λ (c : SerialCrew). c.host) called.crew_is)) (record {
+  pub gone-on-kept : (kind : RoundKind) → IsHostInStep before.parts before.history crew.grant crew.host → IsKeepingStore called.exchange.what
+      → HasGoneOn kind before behind crew crew' (of_host crew.grant.user called.exchange.what ∷ [])
+  gone-on-kept kind stands keeps =
+      gone-on kind (subst (λ host. IsHostInStep before.parts behind.history crew.grant host) (sym (ap (λ (c : CrewFacts). c.host) called.crew_is)) (record {
         blocks = stands.blocks ∙ ap (map (block_outward grant)) (sym (store-kept keeps));
         room = stands.room;
         spare = stands.spare;
       }))
 
 -- a command was carried out by calls of the crew
-pub done-by : (before behind : MachineFacts) (crew crew' : SerialCrew) (made : List Entry) (command : Command) (answer : Answer) → HasGoneOn before behind crew crew' made
-    → IsNextCommand serial before.parts before.history crew.grant.user command answer made → HasDone before behind crew.grant.user command answer (Holding crew')
-done-by before behind crew crew' made command answer goes next = record {
+pub done-by : (kind : RoundKind) (before behind : MachineFacts) (crew crew' : CrewFacts) (made : List Entry) (command : Command) (answer : Answer)
+    (goes : HasGoneOn kind before behind crew crew' made) → (goes.all_entries ≡ made) ⊎ IsTrue (wants_cube command)
+    → IsNextCommand kind before.parts before.history crew.grant.user command answer made
+    → HasDone kind before behind crew.grant.user command answer (own_crew crew')
+done-by kind before behind crew crew' made command answer goes whole next = record {
+  all_entries = goes.all_entries;
   new_entries = made;
   parts = goes.parts;
   history = goes.history;
+  mix = goes.mix;
+  whole = whole;
   lawful = subst (λ parts. IsLawful parts behind.history) goes.parts goes.lawful;
   next = next;
   state_is = (ap (λ g. g.user) goes.grant, subst (λ parts. IsCrewInStep parts behind.history crew') goes.parts goes.in_step);
 }
+
+-- what asks for a call of a cube wants one
+wants-called : (command : Command) (id : BlockId) (call : model.Call) → command_request id command ≡ Some (in_cube call) → IsTrue (wants_cube command)
+wants-called (Getcube dim) id call is = absurd (cc)
+wants-called Peek id call is = absurd (cc)
+wants-called other id call is = refl
 
 -- ---- what a host is told that starts or ends a process
 
@@ -279,7 +297,7 @@ told-replies parts state items (whats.Spawn pid image to fresh) heard of is = sp
 told-replies parts state items (whats.Kill pid to found) heard of is = killed-reply found heard is
 told-replies parts state items other heard of is = absurd of
 
-module _ (before behind : MachineFacts) (crew crew' : SerialCrew) (call : Call Box) (reply : Reply Box) (machine : IsLawfulMachine before)
+module _ (before behind : MachineFacts) (crew crew' : CrewFacts) (call : Call Box) (reply : Reply Box) (machine : IsLawfulMachine before)
     (step : IsCrewInStep before.parts before.history crew)
     (host : IsHostCall before.parts before.history crew.grant.user call) (called : HasCalled before behind crew crew' call reply) where
   pub what-told : IsStartOrEnd host.inner → IsToldOf called.exchange.what
@@ -296,12 +314,14 @@ module _ (before behind : MachineFacts) (crew crew' : SerialCrew) (call : Call B
       (subst (λ held. IsSomeAnd held (λ cube. IsHeard (actor_items (after before.history) cube HOST) called.exchange.what reply)) step.held.held
       (told-reply before.parts (after before.history) crew.grant.user HOST called.exchange.what reply (what-told of) called.exchange.reply_is))
 
-  pub told-done : (heard : Hearing) (answer : Answer) → IsStartOrEnd host.inner → IsHeardIn items called.exchange.what heard → heard_reply heard ≡ Some answer
-      → (command : Command) (id : BlockId) → command_request id command ≡ Some (in_cube host.inner) → HasDone before behind crew.grant.user command answer (Holding crew')
-  told-done heard answer of is told command id request =
-      done-by before behind crew crew' (of_host crew.grant.user called.exchange.what ∷ []) command answer
-      (gone-on-kept before behind crew crew' call reply machine step.held host called step.host (told-keeps called.exchange.what (what-told of)))
-      (asked serial before.parts before.history crew.grant.user command id (in_cube host.inner) called.exchange.what answer machine.within machine.lawful request
+  pub told-done : (kind : RoundKind) (heard : Hearing) (answer : Answer) → IsStartOrEnd host.inner → IsHeardIn items called.exchange.what heard → heard_reply heard ≡ Some answer
+      → (command : Command) (id : BlockId) → command_request id command ≡ Some (in_cube host.inner)
+      → HasDone kind before behind crew.grant.user command answer (own_crew crew')
+  told-done kind heard answer of is told command id request =
+      done-by kind before behind crew crew' (of_host crew.grant.user called.exchange.what ∷ []) command answer
+      (gone-on-kept before behind crew crew' call reply machine step.held host called kind step.host (told-keeps called.exchange.what (what-told of)))
+      (inr (wants-called command id host.inner request))
+      (asked kind before.parts before.history crew.grant.user command id (in_cube host.inner) called.exchange.what answer machine.within machine.lawful request
       (record { fits = host.fits; answer = asked-inner before behind crew crew' call reply machine step.held host called })
       (told-replies before.parts (after before.history) items called.exchange.what heard (what-told of) is ∙ told))
 
@@ -313,7 +333,7 @@ heard-or none other = none
 pub inner-same : (a b : model.Call) → in_cube a ≡ in_cube b → a ≡ b
 inner-same a b e = cc
 
-module _ (before behind : MachineFacts) (crew crew' : SerialCrew) (call : Call Box) (reply : Reply Box) (machine : IsLawfulMachine before)
+module _ (before behind : MachineFacts) (crew crew' : CrewFacts) (call : Call Box) (reply : Reply Box) (machine : IsLawfulMachine before)
     (step : IsCrewInStep before.parts before.history crew)
     (host : IsHostCall before.parts before.history crew.grant.user call) (called : HasCalled before behind crew crew' call reply) where
   pub heard-as : (heard : Hearing) → reply ≡ replies.Heard heard → IsStartOrEnd host.inner
@@ -333,16 +353,16 @@ if-ok (Err e) P Q f p = tt
 
 -- ---- commands to a place
 
-pub no-place-done : (before : MachineFacts) (crew : SerialCrew) (machine : IsLawfulMachine before) (step : IsCrewInStep before.parts before.history crew)
+pub no-place-done : (kind : RoundKind) (before : MachineFacts) (crew : CrewFacts) (machine : IsLawfulMachine before) (step : IsCrewInStep before.parts before.history crew)
     (command : Command) (to : Place) → command_place command ≡ Some to → is_place crew.grant.dim to ≡ false
-    → HasDone before before crew.grant.user command answers.NoPlace (Holding crew)
-no-place-done before crew machine step command to names place =
-    done-at-once before crew.grant.user command answers.NoPlace (Holding crew) machine
-    (no_place serial before.parts before.history crew.grant.user step.held.cube step.held.held command to names
+    → HasDone kind before before crew.grant.user command answers.NoPlace (own_crew crew)
+no-place-done kind before crew machine step command to names place =
+    done-at-once kind before crew.grant.user command answers.NoPlace (own_crew crew) machine
+    (no_place kind before.parts before.history crew.grant.user step.held.cube step.held.held command to names
     (ap (λ (g : CubeGrant). is_place g.dim to) step.held.grant_is ∙ place))
     (refl, step)
 
-module _ (parts : MachineParts) (history : List Entry) (crew : SerialCrew) (machine : IsMachine parts) (lawful : IsLawful parts history)
+module _ (parts : MachineParts) (history : List Entry) (crew : CrewFacts) (machine : IsMachine parts) (lawful : IsLawful parts history)
     (held : IsHeldAs history crew.grant.number (cube_grant crew.grant)) where
   pub may-start : (image : ℕ) (to : Place) → is_place crew.grant.dim to ≡ true → image < length parts.images
       → IsHostCall parts history crew.grant.user (calls.Say (say.Spawn 0 image to))

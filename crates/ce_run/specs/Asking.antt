@@ -17,9 +17,8 @@ use Rattle.ce_machine.specs.declared.call.Call.{Call}
 use Rattle.ce_machine.specs.declared.call.Reply.{Reply}
 use Rattle.ce_machine.specs.Requests.{request_of}
 use Rattle.ce_machine.specs.Replies.{IsReplyTo}
-use Rattle.ce_cube.specs.declared.crew.SerialCrew.{SerialCrew}
 use Rattle.ce_cube.specs.Boxes.{IsHeldAs}
-use Rattle.ce_cube.specs.Crews.{AreBoxesInStep}
+use Rattle.ce_cube.specs.Crews.{AreBoxesInStep, CrewFacts}
 use Rattle.ce_daemon.specs.Peeks.{cube_grant}
 
 -- the home of a box
@@ -39,9 +38,9 @@ pub record HasAsked (before behind : MachineFacts) (user : ℕ) (call : Call Box
 -- ---- calls of a cube
 
 -- a crew but for its host is in step
-pub record AreNodesInStep (parts : MachineParts) (history : List Entry) (crew : SerialCrew) : Type 0 where
+pub record AreNodesInStep (parts : MachineParts) (history : List Entry) (crew : CrewFacts) : Type 0 where
   pub held : IsHeldAs history crew.grant.number (cube_grant crew.grant)
-  pub boxes : AreBoxesInStep parts history crew.grant crew.nodes.items
+  pub boxes : AreBoxesInStep parts history crew.grant crew.boxes
   pub entries : crew.entries ≡ length (view history crew.grant.number)
 
 -- the call is one of a cube, and its host may make it
@@ -51,7 +50,7 @@ pub record IsHostCall (parts : MachineParts) (history : List Entry) (user : ℕ)
   pub fits : IsFitting parts history user HOST (in_cube inner)
 
 -- The host of a crew made this call of its cube: the trace is longer by its entry, and all but the host is in step.
-pub record HasCalled (before behind : MachineFacts) (crew crew' : SerialCrew) (call : Call Box) (reply : Reply Box) : Type 0 where
+pub record HasCalled (before behind : MachineFacts) (crew crew' : CrewFacts) (call : Call Box) (reply : Reply Box) : Type 0 where
   pub exchange : HasAsked before behind crew.grant.user call reply
   pub crew_is : crew' ≡ record crew { entries = crew.entries + 1 }
   pub nodes : AreNodesInStep before.parts behind.history crew'

@@ -14,48 +14,46 @@ use Rattle.ce_model.specs.Literals.{of_host}
 use Rattle.ce_machine.specs.Meanings.{MachineFacts}
 use Rattle.ce_host.specs.declared.command.Command.{Command}
 use Rattle.ce_host.specs.declared.answer.Answer.{Answer}
-use Rattle.ce_cube.specs.declared.crew.SerialCrew.{SerialCrew}
 use Rattle.ce_cube.specs.Boxes.{IsMadeBy}
-use Rattle.ce_cube.specs.Crews.{HasGoneOn}
+use Rattle.ce_cube.specs.Crews.{HasGoneOn, CrewFacts}
 use Rattle.ce_daemon.specs.Peeks.{cube_grant}
-use Rattle.ce_script.specs.Rounds.{serial, joined_lists}
+use Rattle.ce_script.specs.Rounds.{RoundKind, joined_lists}
 use Rattle.ce_script.specs.Commands.{host_take}
 use Rattle.ce_record.specs.CubeRounds.{IsRoundOf}
-use Rattle.ce_run.specs.declared.user_state.UserState.TheVariants.{Holding}
-use Rattle.ce_run.specs.UserStates.{HasCrew, HasDone}
+use Rattle.ce_run.specs.UserStates.{HasCrew, HasDone, own_crew}
 
 -- a crew's host allowed so many dispatches
-abbrev pub HasAllowed : MachineFacts → MachineFacts → SerialCrew → SerialCrew → ℕ → Type 0
-HasAllowed before behind crew crew' count = HasGoneOn before behind crew crew' (of_host crew.grant.user (Arm count) ∷ [])
+abbrev pub HasAllowed : RoundKind → MachineFacts → MachineFacts → CrewFacts → CrewFacts → ℕ → Type 0
+HasAllowed kind before behind crew crew' count = HasGoneOn kind before behind crew crew' (of_host crew.grant.user (Arm count) ∷ [])
 
 -- a crew's host looked, and found this
-pub record HasLooked (before behind : MachineFacts) (crew crew' : SerialCrew) (found : LookResult) : Type 0 where
-  pub goes_on : HasGoneOn before behind crew crew' (of_host crew.grant.user (Look found) ∷ [])
+pub record HasLooked (kind : RoundKind) (before behind : MachineFacts) (crew crew' : CrewFacts) (found : LookResult) : Type 0 where
+  pub goes_on : HasGoneOn kind before behind crew crew' (of_host crew.grant.user (Look found) ∷ [])
   pub made : IsMadeBy before.parts before.history (cube_grant crew.grant) HOST look_call (of_host crew.grant.user (Look found))
 
 -- a crew's host took no message, since none waited
-abbrev pub HasTakenNone : MachineFacts → MachineFacts → SerialCrew → SerialCrew → Type 0
-HasTakenNone before behind crew crew' = HasGoneOn before behind crew crew' (host_take crew.grant.user None ∷ [])
+abbrev pub HasTakenNone : RoundKind → MachineFacts → MachineFacts → CrewFacts → CrewFacts → Type 0
+HasTakenNone kind before behind crew crew' = HasGoneOn kind before behind crew crew' (host_take crew.grant.user None ∷ [])
 
 -- a crew's host took the first message that waited
-pub record HasTaken (before behind : MachineFacts) (crew crew' : SerialCrew) (from : Place) (bytes : List ℕ) : Type 0 where
+pub record HasTaken (kind : RoundKind) (before behind : MachineFacts) (crew crew' : CrewFacts) (from : Place) (bytes : List ℕ) : Type 0 where
   pub number : ℕ
   pub parcel : Parcel
-  pub goes_on : HasGoneOn before behind crew crew' (host_take crew.grant.user (Some number) ∷ [])
+  pub goes_on : HasGoneOn kind before behind crew crew' (host_take crew.grant.user (Some number) ∷ [])
   pub waited : HasHeldCube before.history crew.grant.user (λ cube. parcel_numbered number cube.mail ≡ Some parcel)
   pub from_is : parcel.from ≡ from
   pub bytes_are : parcel.block.bytes ≡ bytes
 
 -- a crew made rounds with work, and then one without
-pub record HasRunRounds (before behind : MachineFacts) (crew crew' : SerialCrew) : Type 0 where
+pub record HasRunRounds (kind : RoundKind) (before behind : MachineFacts) (crew crew' : CrewFacts) : Type 0 where
   pub rounds : List (List Entry)
   pub last : List Entry
-  pub goes_on : HasGoneOn before behind crew crew' (joined_lists rounds ++ last)
-  pub with_work : AllByRecursion (IsRoundOf serial crew.grant.user (cube_grant crew.grant) true) rounds
-  pub without_work : IsRoundOf serial crew.grant.user (cube_grant crew.grant) false last
+  pub goes_on : HasGoneOn kind before behind crew crew' (joined_lists rounds ++ last)
+  pub with_work : AllByRecursion (IsRoundOf kind crew.grant.user (cube_grant crew.grant) true) rounds
+  pub without_work : IsRoundOf kind crew.grant.user (cube_grant crew.grant) false last
 
 -- Behind each allowance of dispatches the command is carried out that asks for so many, with this answer.
-abbrev pub HasEndedCommand : (ℕ → Command) → MachineFacts → MachineFacts → SerialCrew → SerialCrew → Answer → Type 0
-HasEndedCommand command armed behind crew crew' answer =
-    (before : MachineFacts) (first : SerialCrew) (count : ℕ) → HasCrew before first → HasAllowed before armed first crew count
-    → HasDone before behind first.grant.user (command count) answer (Holding crew')
+abbrev pub HasEndedCommand : RoundKind → (ℕ → Command) → MachineFacts → MachineFacts → CrewFacts → CrewFacts → Answer → Type 0
+HasEndedCommand kind command armed behind crew crew' answer =
+    (before : MachineFacts) (first : CrewFacts) (count : ℕ) → HasCrew before first → HasAllowed kind before armed first crew count
+    → HasDone kind before behind first.grant.user (command count) answer (own_crew crew')

@@ -3,7 +3,7 @@ ghost use Rattle.std.specs.Prelude.{◌≡◌, IfOk};
 ghost use Rattle.ce_model.specs.declared.topology.TheConstants.{HOST};
 ghost use Rattle.ce_machine.specs.Requests.{IsFittingCall};
 ghost use Rattle.rk_node.specs.Boxes.{IsClean};
-ghost use Rattle.ce_cube.specs.Crews.{IsLawfulMachine};
+ghost use Rattle.ce_cube.specs.Crews.{IsLawfulMachine, serial_facts};
 ghost use Rattle.ce_run.specs.Asking.{home_of, HasAsked, HasCalled, AreNodesInStep, IsHostCall};
 
 use ce_cube::SerialCrew;
@@ -44,9 +44,10 @@ pub(crate) fn ask_in_cube(
     call: Call<NodeBox>,
 ) -> Result<Reply<NodeBox>, NoMemory>
     requires machine { IsLawfulMachine machine.old }
-    requires nodes { AreNodesInStep machine.old.parts machine.old.history crew.old }
+    requires nodes { AreNodesInStep machine.old.parts machine.old.history (serial_facts crew.old) }
     requires call { IsHostCall machine.old.parts machine.old.history crew.old.grant.user call }
-    ensures { IfOk result (HasCalled machine.old machine.new crew.old crew.new call) }
+    ensures { IfOk result (HasCalled machine.old machine.new
+        (serial_facts crew.old) (serial_facts crew.new) call) }
 {
     let reply = ask(alloc, machine, crew.grant.user, call)?;
     crew.entries += 1;

@@ -4,8 +4,9 @@ ghost use Rattle.ce_model.specs.declared.topology.TheConstants.{HOST};
 ghost use Rattle.ce_host.specs.declared.command.Command.{Command};
 ghost use Rattle.ce_host.specs.declared.command.Command.TheVariants.{Freecube};
 ghost use Rattle.ce_script.specs.Bounds.{IsCommandWithin};
-ghost use Rattle.ce_run.specs.UserStates.{HasDone, HasReadyCrew, HasReadyUser, HasUser, IsUserStateAt};
-ghost use Rattle.ce_run.specs.declared.user_state.UserState.TheVariants.{Free, Holding};
+ghost use Rattle.ce_script.specs.Rounds.{serial};
+ghost use Rattle.ce_cube.specs.Crews.{serial_facts};
+ghost use Rattle.ce_run.specs.UserStates.{HasDone, HasReadyCrew, HasReadyUser, HasUser, IsUserStateAt, own_crew, user_facts};
 
 mod cubes;
 mod running;
@@ -39,7 +40,7 @@ pub(crate) fn carry_out(
     requires user_state { IsUserStateAt machine.old.parts machine.old.history user user_state }
     requires command { IsCommandWithin (length machine.old.parts.images) command.now }
     ensures { IfOk result (λ done.
-        HasDone machine.old machine.new user command.now done.1 done.0) }
+        HasDone serial machine.old machine.new user command.now done.1 (user_facts done.0)) }
 {
     match user_state {
         UserState::Free(host) => for_free(alloc, machine, images, user, host, command),
@@ -59,7 +60,7 @@ fn for_free(
     requires ready { HasReadyUser machine.old images.now user host }
     requires command { IsCommandWithin (length machine.old.parts.images) command.now }
     ensures { IfOk result (λ done.
-        HasDone machine.old machine.new user command.now done.1 done.0) }
+        HasDone serial machine.old machine.new user command.now done.1 (user_facts done.0)) }
 {
     match command {
         Command::Getcube(dim) => get_cube(alloc, machine, images, user, host, *dim),
@@ -79,10 +80,11 @@ fn for_holder(
     mut crew: SerialCrew,
     command: &Command,
 ) -> Result<(UserState, Answer), NoMemory>
-    requires ready { HasReadyCrew machine.old images.now crew }
+    requires ready { HasReadyCrew machine.old images.now (serial_facts crew) }
     requires command { IsCommandWithin (length machine.old.parts.images) command.now }
     ensures { IfOk result (λ done.
-        HasDone machine.old machine.new crew.grant.user command.now done.1 done.0) }
+        HasDone serial machine.old machine.new crew.grant.user command.now done.1
+        (user_facts done.0)) }
 {
     if let Command::Freecube = command {
         return free_cube(alloc, machine, crew);
@@ -99,11 +101,12 @@ fn in_cube(
     crew: &mut SerialCrew,
     command: &Command,
 ) -> Result<Answer, NoMemory>
-    requires ready { HasReadyCrew machine.old images.now crew.old }
+    requires ready { HasReadyCrew machine.old images.now (serial_facts crew.old) }
     requires within { IsCommandWithin (length machine.old.parts.images) command.now }
     requires stays { ¬ (command.now ≡ Freecube) }
     ensures { IfOk result (λ answer.
-        HasDone machine.old machine.new crew.old.grant.user command.now answer (Holding crew.new)) }
+        HasDone serial machine.old machine.new crew.old.grant.user command.now answer
+        (own_crew (serial_facts crew.new))) }
 {
     match command {
         Command::Getcube(_) => Ok(Answer::Held),

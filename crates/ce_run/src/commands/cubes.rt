@@ -2,11 +2,11 @@
 ghost use Rattle.std.specs.Prelude.{◌≡◌, ◌≤◌, None, IfOk, map};
 ghost use Rattle.ce_model.specs.Limits.{greatest_dim};
 ghost use Rattle.ce_host.specs.declared.command.Command.TheVariants.{Freecube, Getcube, Peek};
-ghost use Rattle.ce_cube.specs.Crews.{AreAllHome, HasAllBlocks, IsHostAtHome};
+ghost use Rattle.ce_cube.specs.Crews.{AreAllHome, HasAllBlocks, IsHostAtHome, serial_facts};
 ghost use Rattle.ce_daemon.specs.Peeks.{cube_grant};
+ghost use Rattle.ce_script.specs.Rounds.{serial};
 ghost use Rattle.ce_run.specs.Asking.{HasCube, HasDrained};
-ghost use Rattle.ce_run.specs.UserStates.{HasCrew, HasDone, HasReadyUser, HasUser, IsUserStateAt};
-ghost use Rattle.ce_run.specs.declared.user_state.UserState.{UserState};
+ghost use Rattle.ce_run.specs.UserStates.{HasCrew, HasDone, HasReadyUser, HasUser, IsUserAt, UserFacts, user_facts};
 
 use crate::asking::ask;
 use crate::user_state::UserState;
@@ -31,7 +31,7 @@ pub(crate) fn get_cube(
     requires ready { HasReadyUser machine.old images.now user host }
     requires dim { dim ≤ greatest_dim }
     ensures { IfOk result (λ done.
-        HasDone machine.old machine.new user (Getcube dim) done.1 done.0) }
+        HasDone serial machine.old machine.new user (Getcube dim) done.1 (user_facts done.0)) }
 {
     match ask(alloc, machine, user, Call::Getcube { dim })? {
         Reply::Granted { grant, boxes } => {
@@ -50,9 +50,9 @@ pub(crate) fn peek(
     user: u32,
 ) -> Result<Answer, NoMemory>
     requires user { HasUser machine.old user }
-    ensures { IfOk result (λ answer. (user_state : UserState)
-        → IsUserStateAt machine.old.parts machine.old.history user user_state
-        → HasDone machine.old machine.new user Peek answer user_state) }
+    ensures { IfOk result (λ answer. (facts : UserFacts)
+        → IsUserAt machine.old.parts machine.old.history user facts
+        → HasDone serial machine.old machine.new user Peek answer facts) }
 {
     match ask(alloc, machine, user, Call::Peek)? {
         Reply::Peeked(found) => Ok(Answer::Peeked(found)),
@@ -66,9 +66,10 @@ pub(crate) fn free_cube(
     machine: &mut Machine<NodeBox>,
     crew: SerialCrew,
 ) -> Result<(UserState, Answer), NoMemory>
-    requires { HasCrew machine.old crew }
+    requires { HasCrew machine.old (serial_facts crew) }
     ensures { IfOk result (λ done.
-        HasDone machine.old machine.new crew.grant.user Freecube done.1 done.0) }
+        HasDone serial machine.old machine.new crew.grant.user Freecube done.1
+        (user_facts done.0)) }
 {
     let user = crew.grant.user;
     let drained = drain(alloc, machine, user)?;

@@ -2,6 +2,8 @@
 ghost use Rattle.std.specs.Prelude.{◌≤◌, IfOk, MatchOption};
 ghost use Rattle.ce_model.specs.Limits.{greatest_count};
 ghost use Rattle.ce_host.specs.declared.command.Command.TheVariants.{Recv, Run};
+ghost use Rattle.ce_cube.specs.Crews.{serial_facts};
+ghost use Rattle.ce_script.specs.Rounds.{serial};
 ghost use Rattle.ce_run.specs.Rounds.{HasAllowed, HasEndedCommand, HasLooked, HasRunRounds, HasTaken, HasTakenNone};
 ghost use Rattle.ce_run.specs.UserStates.{HasCrew, HasReadyCrew};
 
@@ -21,9 +23,10 @@ pub(crate) fn allow(
     crew: &mut SerialCrew,
     count: u32,
 ) -> Result<(), NoMemory>
-    requires crew { HasCrew machine.old crew.old }
+    requires crew { HasCrew machine.old (serial_facts crew.old) }
     requires count { count ≤ greatest_count }
-    ensures { IfOk result (λ _. HasAllowed machine.old machine.new crew.old crew.new count) }
+    ensures { IfOk result (λ _. HasAllowed serial machine.old machine.new
+        (serial_facts crew.old) (serial_facts crew.new) count) }
 {
     ask_in_cube(alloc, machine, crew, Call::Arm { count })?;
     Ok(())
@@ -36,8 +39,9 @@ pub(crate) fn run(
     images: &[Image],
     crew: &mut SerialCrew,
 ) -> Result<Answer, NoMemory>
-    requires { HasReadyCrew machine.old images.now crew.old }
-    ensures { IfOk result (HasEndedCommand Run machine.old machine.new crew.old crew.new) }
+    requires { HasReadyCrew machine.old images.now (serial_facts crew.old) }
+    ensures { IfOk result (HasEndedCommand serial Run machine.old machine.new
+        (serial_facts crew.old) (serial_facts crew.new)) }
 {
     run_rounds(alloc, machine, images, crew)?;
     match look(alloc, machine, crew)? {
@@ -55,8 +59,9 @@ pub(crate) fn receive(
     images: &[Image],
     crew: &mut SerialCrew,
 ) -> Result<Answer, NoMemory>
-    requires { HasReadyCrew machine.old images.now crew.old }
-    ensures { IfOk result (HasEndedCommand Recv machine.old machine.new crew.old crew.new) }
+    requires { HasReadyCrew machine.old images.now (serial_facts crew.old) }
+    ensures { IfOk result (HasEndedCommand serial Recv machine.old machine.new
+        (serial_facts crew.old) (serial_facts crew.new)) }
 {
     let mut working = true;
     'waiting: loop {
@@ -82,8 +87,9 @@ fn run_rounds(
     images: &[Image],
     crew: &mut SerialCrew,
 ) -> Result<(), NoMemory>
-    requires { HasReadyCrew machine.old images.now crew.old }
-    ensures { IfOk result (λ _. HasRunRounds machine.old machine.new crew.old crew.new) }
+    requires { HasReadyCrew machine.old images.now (serial_facts crew.old) }
+    ensures { IfOk result (λ _. HasRunRounds serial machine.old machine.new
+        (serial_facts crew.old) (serial_facts crew.new)) }
 {
     'rounds: while round_serial(alloc, machine, crew, images)? {}
     Ok(())
@@ -95,8 +101,9 @@ fn look(
     machine: &mut Machine<NodeBox>,
     crew: &mut SerialCrew,
 ) -> Result<LookResult, NoMemory>
-    requires { HasCrew machine.old crew.old }
-    ensures { IfOk result (HasLooked machine.old machine.new crew.old crew.new) }
+    requires { HasCrew machine.old (serial_facts crew.old) }
+    ensures { IfOk result (HasLooked serial machine.old machine.new
+        (serial_facts crew.old) (serial_facts crew.new)) }
 {
     match ask_in_cube(alloc, machine, crew, Call::Look)? {
         Reply::Quiet => Ok(LookResult::Quiet),
@@ -112,10 +119,12 @@ fn take_message(
     machine: &mut Machine<NodeBox>,
     crew: &mut SerialCrew,
 ) -> Result<Option<(Place, Bytes)>, NoMemory>
-    requires { HasCrew machine.old crew.old }
+    requires { HasCrew machine.old (serial_facts crew.old) }
     ensures { IfOk result (λ taken. MatchOption taken
-        (HasTakenNone machine.old machine.new crew.old crew.new)
-        (λ message. HasTaken machine.old machine.new crew.old crew.new message.0 message.1)) }
+        (HasTakenNone serial machine.old machine.new
+        (serial_facts crew.old) (serial_facts crew.new))
+        (λ message. HasTaken serial machine.old machine.new
+        (serial_facts crew.old) (serial_facts crew.new) message.0 message.1)) }
 {
     match ask_in_cube(alloc, machine, crew, Call::HostTake)? {
         Reply::NoMail => Ok(None),

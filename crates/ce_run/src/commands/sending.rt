@@ -2,13 +2,14 @@
 ghost use Rattle.std.specs.Prelude.{◌≡◌, ◌<◌, ◌^◌, [], IfOk, IsSome, Some, length};
 ghost use Rattle.ce_model.specs.Node.{is_place};
 ghost use Rattle.ce_host.specs.declared.command.Command.TheVariants.{Kill, Send, Spawn};
+ghost use Rattle.ce_cube.specs.Crews.{serial_facts};
 ghost use Rattle.rk_mail.specs.Talk.{call_said};
 ghost use Rattle.rk_mail.specs.declared.talk.Hearing.TheVariants.{Posted};
 ghost use Rattle.ce_record.specs.Asked.{heard_reply};
 ghost use Rattle.ce_machine.specs.declared.call.Call.TheVariants as calls;
+ghost use Rattle.ce_script.specs.Rounds.{serial};
 ghost use Rattle.ce_run.specs.Asking.{IsHostCall, IsStartOrEnd};
-ghost use Rattle.ce_run.specs.UserStates.{HasCrew, HasDone, HasTold};
-ghost use Rattle.ce_run.specs.declared.user_state.UserState.TheVariants.{Holding};
+ghost use Rattle.ce_run.specs.UserStates.{HasCrew, HasDone, HasTold, own_crew};
 
 use crate::asking::ask_in_cube;
 use ce_cube::SerialCrew;
@@ -27,10 +28,10 @@ pub(crate) fn start(
     image: u32,
     to: Place,
 ) -> Result<Answer, NoMemory>
-    requires crew { HasCrew machine.old crew.old }
+    requires crew { HasCrew machine.old (serial_facts crew.old) }
     requires image { image < length machine.old.parts.images }
-    ensures { IfOk result (λ answer. HasDone machine.old machine.new crew.old.grant.user
-        (Spawn image to) answer (Holding crew.new)) }
+    ensures { IfOk result (λ answer. HasDone serial machine.old machine.new crew.old.grant.user
+        (Spawn image to) answer (own_crew (serial_facts crew.new))) }
 {
     if !has_place(crew, to) {
         return Ok(Answer::NoPlace);
@@ -45,9 +46,9 @@ pub(crate) fn end(
     crew: &mut SerialCrew,
     to: Place,
 ) -> Result<Answer, NoMemory>
-    requires { HasCrew machine.old crew.old }
-    ensures { IfOk result (λ answer. HasDone machine.old machine.new crew.old.grant.user
-        (Kill to) answer (Holding crew.new)) }
+    requires { HasCrew machine.old (serial_facts crew.old) }
+    ensures { IfOk result (λ answer. HasDone serial machine.old machine.new crew.old.grant.user
+        (Kill to) answer (own_crew (serial_facts crew.new))) }
 {
     if !has_place(crew, to) {
         return Ok(Answer::NoPlace);
@@ -63,9 +64,9 @@ pub(crate) fn send(
     to: Place,
     bytes: &Bytes,
 ) -> Result<Answer, NoMemory>
-    requires { HasCrew machine.old crew.old }
-    ensures { IfOk result (λ answer. HasDone machine.old machine.new crew.old.grant.user
-        (Send to bytes.now) answer (Holding crew.new)) }
+    requires { HasCrew machine.old (serial_facts crew.old) }
+    ensures { IfOk result (λ answer. HasDone serial machine.old machine.new crew.old.grant.user
+        (Send to bytes.now) answer (own_crew (serial_facts crew.new))) }
 {
     if !has_place(crew, to) {
         return Ok(Answer::NoPlace);
@@ -110,12 +111,12 @@ fn tell(
     crew: &mut SerialCrew,
     said: Say,
 ) -> Result<Answer, NoMemory>
-    requires crew { HasCrew machine.old crew.old }
+    requires crew { HasCrew machine.old (serial_facts crew.old) }
     requires said { IsStartOrEnd (call_said said) }
     requires call { IsHostCall machine.old.parts machine.old.history crew.old.grant.user
         (calls.Say said) }
-    ensures { IfOk result (λ answer. HasTold machine.old machine.new crew.old.grant.user
-        (call_said said) answer crew.new) }
+    ensures { IfOk result (λ answer. HasTold serial machine.old machine.new crew.old.grant.user
+        (call_said said) answer (serial_facts crew.new)) }
 {
     match ask_in_cube(alloc, machine, crew, Call::Say(said))? {
         Reply::Heard(heard) => Ok(answer_of_heard(heard)),

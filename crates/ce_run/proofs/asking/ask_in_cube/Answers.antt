@@ -1,4 +1,5 @@
 use Rattle.std.proofs.Common.{arith}
+use Rattle.ce_cube.specs.Crews.{serial_facts}
 use Rattle.ce_run.proofs.Calling.{host-fits, has-called, entries-fit}
 use Rattle.ce_run.proofs.asking.ask_in_cube.Goals as goal
 
@@ -8,8 +9,10 @@ ask-requires-clause-fits c =
 
 pub overflow_add-crew : goal.overflow_add-crew
 overflow_add-crew c =
-    let less = entries-fit c.args.machine.now c.ask.new.machine c.args.crew.now c.args.call c.in_ok-reply.reply c.requires.machine c.requires.nodes c.requires.call c.in_ok-reply.ensures in omega (arith, less)
+    let less = entries-fit c.args.machine.now c.ask.new.machine (serial_facts c.args.crew.now) c.args.call c.in_ok-reply.reply c.requires.machine c.requires.nodes
+    c.requires.call c.in_ok-reply.ensures in omega (arith, less)
 
 pub returns : goal.returns
 returns c =
-    has-called c.args.machine.now c.ask.new.machine c.args.crew.now c.args.call c.in_ok-reply.reply c.requires.machine c.requires.nodes c.requires.call c.in_ok-reply.ensures
+    has-called c.args.machine.now c.ask.new.machine (serial_facts c.args.crew.now) c.args.call c.in_ok-reply.reply c.requires.machine c.requires.nodes c.requires.call
+    c.in_ok-reply.ensures

@@ -1,5 +1,7 @@
 use Rattle.std.proofs.Common.{sym, ap, length, arith}
 use Rattle.ce_model.specs.Limits.{greatest_images_lem}
+use Rattle.ce_cube.specs.Crews.{serial_facts}
+use Rattle.ce_script.specs.Rounds.{serial}
 use Rattle.ce_run.proofs.Granted.{getcube-fits, none-done, getcube-ends, boxes-are, host-home, dim-within, granted-done}
 use Rattle.ce_run.proofs.commands.cubes.get_cube.Goals as goal
 
@@ -35,10 +37,10 @@ new-crew-requires-clause-images c = omega (arith, ap length c.requires.ready.ima
 pub returns-in-NoneFree : goal.returns-in-NoneFree
 returns-in-NoneFree c =
     none-done c.args.machine.now c.args.user c.args.dim c.requires.ready.user_is c.requires.ready.free c.requires.dim c.ask.new.machine c.in_ok-grant.field-0 c.in_ok-grant.ensures
-    c.in-NoneFree.is c.args.host c.requires.ready.host_is
+    serial c.in-NoneFree.is c.args.host c.requires.ready.host_is
 
 pub returns-in-Granted : goal.returns-in-Granted
 returns-in-Granted c =
     granted-done c.args.machine.now c.args.user c.args.dim c.requires.ready.user_is c.requires.ready.free c.requires.dim c.ask.new.machine c.in_ok-grant.field-0 c.in_ok-grant.ensures
-    c.in-Granted.grant c.in-Granted.boxes c.in-Granted.is c.new-crew.result c.new-crew.ensures.grant
+    c.in-Granted.grant c.in-Granted.boxes c.in-Granted.is serial (serial_facts c.new-crew.result) c.new-crew.ensures.grant
     (c.new-crew.ensures.in_step c.args.machine.now.parts c.ask.new.machine.history c.requires.ready.user_is.book.within (sym (ap length c.requires.ready.images_are)))

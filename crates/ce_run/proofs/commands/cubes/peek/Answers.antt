@@ -1,3 +1,4 @@
+use Rattle.ce_script.specs.Rounds.{serial}
 use Rattle.ce_run.proofs.Peeking.{peek-fits, peek-reply, peek-done}
 use Rattle.ce_run.proofs.commands.cubes.peek.Goals as goal
 
@@ -9,4 +10,4 @@ unreachable-requires c =
     c.in_default.not-Peeked _ (peek-reply c.args.machine.now c.ask.new.machine c.args.user c.requires.user c.in_ok-found.field-0 c.in_ok-found.ensures)
 
 pub returns : goal.returns
-returns c = peek-done c.args.machine.now c.ask.new.machine c.args.user c.requires.user c.in_ok-found.field-0 c.in_ok-found.ensures c.in-Peeked.found c.in-Peeked.is
+returns c = peek-done c.args.machine.now c.ask.new.machine c.args.user c.requires.user c.in_ok-found.field-0 c.in_ok-found.ensures serial c.in-Peeked.found c.in-Peeked.is

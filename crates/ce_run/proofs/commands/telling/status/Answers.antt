@@ -1,7 +1,10 @@
 use Rattle.std.proofs.Common.{sym, ◌∙◌}
+use Rattle.ce_cube.specs.Crews.{serial_facts}
+use Rattle.ce_script.specs.Rounds.{serial}
 use Rattle.ce_run.proofs.AtOnce.{dumped}
 use Rattle.ce_run.proofs.commands.telling.status.Goals as goal
 
 pub returns : goal.returns
 returns c parts history step =
-    dumped parts history c.args.crew.now step c.args.at c.status.result c.index.result.now (sym c.has_place.ensures ∙ c.if-not-has_place.false) c.index.ensures c.status.ensures
+    dumped parts history (serial_facts c.args.crew.now) step serial c.args.at c.status.result c.index.result.now (sym c.has_place.ensures ∙ c.if-not-has_place.false)
+    c.index.ensures c.status.ensures
